@@ -1,0 +1,12 @@
+pub mod Unique
+pub mod Fraction
+pub mod Branches
+pub mod Whole
+pub mod Casts
+pub mod Fold
+pub mod WholeRoots
+pub mod Nearness
+pub mod Patterns
+pub mod Normal
+pub mod Finite
+pub mod RootNearest

@@ -1,0 +1,4 @@
+pub mod Def
+pub mod Arith
+pub mod Nearest
+pub mod Steps

@@ -1,0 +1,291 @@
+// What Rust's library gives on an `f64`, and IEEE 754's square root. Each contract is one equation with a definition of specs/Def.antt.
+ghost use mathlib.Core.Path.{_≡_};
+ghost use Prim.Native.Nat.{_+_, _*_, _^_, _≤_, _<_};
+ghost use lib.Dec.{T};
+ghost use lib.Ieee.Positive.{positive};
+ghost use mathlib.Core.Bool.{true, false};
+ghost use lib.IntN.{pos};
+ghost use lib.Ieee.{fin, inf, lt, binary64, toUnsigned, toSigned, ofBits, toBits};
+ghost use Rattle.float.specs.Def.{absOf, negative, maxOf, minOf, clampOf, remEuclidOf, truncOf, floorOf, roundOf, wholeRoot, rootScaled, rootOf};
+ghost use Rattle.float.specs.Steps.{signOf, halfUp, Digits};
+
+pub fn abs(x: f64) -> f64
+    ensures { λ r. ⌜ r ≡ absOf x ⌝ }
+{
+    if x <= 0.0 { 0.0 - x } else { x }
+}
+
+pub fn max(x: f64, y: f64) -> f64
+    ensures { λ r. ⌜ r ≡ maxOf x y ⌝ }
+{
+    if x < y {
+        return y;
+    }
+    if y < x {
+        return x;
+    }
+    if x == y {
+        if x == 0.0 {
+            return x + y;
+        }
+        return x;
+    }
+    if x != x { y } else { x }
+}
+
+pub fn min(x: f64, y: f64) -> f64
+    ensures { λ r. ⌜ r ≡ minOf x y ⌝ }
+{
+    if x < y {
+        return x;
+    }
+    if y < x {
+        return y;
+    }
+    if x == y {
+        if x == 0.0 {
+            return -(-x + -y);
+        }
+        return x;
+    }
+    if x != x { y } else { x }
+}
+
+pub fn clamp(x: f64, lo: f64, hi: f64) -> f64
+    ensures { λ r. ⌜ r ≡ clampOf x lo hi ⌝ }
+{
+    if x < lo {
+        if lo > hi { hi } else { lo }
+    } else {
+        if x > hi { hi } else { x }
+    }
+}
+
+pub fn rem_euclid(x: f64, y: f64) -> f64
+    ensures { λ r. ⌜ r ≡ remEuclidOf x y ⌝ }
+{
+    let r = x % y;
+    if r < 0.0 { r + abs(y) } else { r }
+}
+
+// The whole part of a number from 0 up and below 2^52. Between 2^52 and 2^53 the values are the
+// whole numbers, so the sum is rounded to one of the two next to it.
+fn whole_part(a: f64) -> f64
+    requires { ⌜ (negative a ≡ false) × (lt a (fin false 1 (pos 52)) ≡ true) ⌝ }
+    ensures { λ r. ⌜ r ≡ truncOf a ⌝ }
+{
+    let t = (a + 4503599627370496.0) - 4503599627370496.0;
+    if a < t { t - 1.0 } else { t }
+}
+
+// r with x's sign, and x itself where x is a zero.
+fn with_sign(x: f64, r: f64) -> f64
+    ensures { λ y. ⌜ y ≡ signOf x r ⌝ }
+{
+    if x < 0.0 {
+        -r
+    } else if x == 0.0 {
+        x
+    } else {
+        r
+    }
+}
+
+// t, and t + 1 where d is a half or more.
+fn half_up(t: f64, d: f64) -> f64
+    ensures { λ r. ⌜ r ≡ halfUp t d ⌝ }
+{
+    if d < 0.5 { t } else { t + 1.0 }
+}
+
+pub fn trunc(x: f64) -> f64
+    ensures { λ r. ⌜ r ≡ truncOf x ⌝ }
+{
+    let a = abs(x);
+    if a < 4503599627370496.0 {
+        with_sign(x, whole_part(a))
+    } else {
+        x
+    }
+}
+
+pub fn floor(x: f64) -> f64
+    ensures { λ r. ⌜ r ≡ floorOf x ⌝ }
+{
+    let a = abs(x);
+    if a < 4503599627370496.0 {
+        let t = whole_part(a);
+        if x < 0.0 {
+            if t < a { -(t + 1.0) } else { -t }
+        } else {
+            with_sign(x, t)
+        }
+    } else {
+        x
+    }
+}
+
+pub fn round(x: f64) -> f64
+    ensures { λ r. ⌜ r ≡ roundOf x ⌝ }
+{
+    let a = abs(x);
+    if a < 4503599627370496.0 {
+        let t = whole_part(a);
+        with_sign(x, half_up(t, a - t))
+    } else {
+        x
+    }
+}
+
+// `x as u64`: toward zero, a nan to 0, and to the type's end what is out of range.
+pub fn to_u64(x: f64) -> u64
+    ensures { λ r. ⌜ r ≡ toUnsigned 64 x ⌝ }
+{
+    if x > -1.0 {
+        if x < 18446744073709551616.0 {
+            std::num::truncating_f64_to_u64(x)
+        } else {
+            18446744073709551615
+        }
+    } else {
+        0
+    }
+}
+
+// `x as usize`.
+pub fn to_usize(x: f64) -> usize
+    ensures { λ r. ⌜ r ≡ toUnsigned 64 x ⌝ }
+{
+    to_u64(x) as usize
+}
+
+// `x as i64`.
+pub fn to_i64(x: f64) -> i64
+    ensures { λ r. ⌜ r ≡ toSigned 63 x ⌝ }
+{
+    if x >= -9223372036854775808.0 {
+        if x < 9223372036854775808.0 {
+            std::num::truncating_f64_to_i64(x)
+        } else {
+            9223372036854775807
+        }
+    } else if x != x {
+        0
+    } else {
+        -9223372036854775808
+    }
+}
+
+// The rest of the digits of the whole root of v * 2^54, one binary digit a turn and two digits of v
+// a turn: (r * r + rem) * 2^54 + rest is v * 4^i.
+fn more_digits(v: u64, r0: u64, rem0: u64, rest0: u64, i0: u64) -> u64
+    requires { ⌜ Digits v r0 rem0 rest0 i0 ⌝ }
+    ensures { λ r. ⌜ r ≡ wholeRoot 54 (v * 2 ^ 54) ⌝ }
+{
+    let mut r: u64 = r0;
+    let mut rem: u64 = rem0;
+    let mut rest: u64 = rest0;
+    let mut i: u64 = i0;
+    while i < 54 {
+        rem = rem * 4 + rest / 4503599627370496;
+        rest = rest % 4503599627370496 * 4;
+        let trial = r * 4 + 1;
+        r = r * 2;
+        if trial <= rem {
+            rem = rem - trial;
+            r = r + 1;
+        }
+        i += 1;
+    }
+    r
+}
+
+// The whole root of v * 2^54.
+fn root_digits(v: u64) -> u64
+    requires { ⌜ v < 2 ^ 54 ⌝ }
+    ensures { λ r. ⌜ r ≡ wholeRoot 54 (v * 2 ^ 54) ⌝ }
+{
+    more_digits(v, 0, 0, v, 0)
+}
+
+// The root of v * 4^(h + 36) / 4^600. A root's 54th digit says which way to round, for no root is a
+// middle between two values.
+fn root_even(v: u64, h: u64) -> f64
+    requires { ⌜ (2 ^ 52 ≤ v) × (v < 2 ^ 54) × (h ≤ 1049) ⌝ }
+    ensures { λ r. ⌜ r ≡ rootScaled (v * 4 ^ (h + 36)) ⌝ }
+{
+    let r = root_digits(v);
+    f64::from_bits((h + 484) * 4503599627370496 + (r + 1) / 2)
+}
+
+// The root of m * 2^(q + 126) / 4^600: m's leading digit is brought to place 52 or 53, so that the
+// exponent is even.
+fn root_scaled(m: u64, q: u64) -> f64
+    requires { ⌜ (0 < m) × (m < 2 ^ 53) × (q < 2046) ⌝ }
+    ensures { λ r. ⌜ r ≡ rootScaled (m * 2 ^ (q + 126)) ⌝ }
+{
+    let z = (u64::leading_zeros(m) - 11) as u64;
+    let p = q + 54 - z;
+    if p % 2 == 0 {
+        root_even(m << z, p / 2)
+    } else {
+        root_even(m << (z + 1), p / 2)
+    }
+}
+
+// The root of a finite number above zero, by its bits: digits * 2^(field - 1075), and without the
+// leading digit where the field is 0.
+fn root_finite(x: f64) -> f64
+    requires { ⌜ T (positive x) ⌝ }
+    ensures { λ r. ⌜ r ≡ rootOf x ⌝ }
+{
+    let bits = f64::to_bits(x);
+    let field = bits / 4503599627370496 % 2048;
+    let digits = bits % 4503599627370496;
+    if field == 0 {
+        root_scaled(digits, 0)
+    } else {
+        root_scaled(digits + 4503599627370496, field - 1)
+    }
+}
+
+// IEEE 754's squareRoot.
+pub fn root(x: f64) -> f64
+    ensures { λ r. ⌜ r ≡ rootOf x ⌝ }
+{
+    if x > 0.0 {
+        if x < 1.0 / 0.0 { root_finite(x) } else { x }
+    } else if x == 0.0 {
+        x
+    } else {
+        0.0 / 0.0
+    }
+}
+
+pub fn infinity() -> f64
+    ensures { λ r. ⌜ r ≡ inf false ⌝ }
+{
+    1.0 / 0.0
+}
+
+// The float of a bit pattern. Every pattern of a not-a-number gives the one.
+pub fn of_bits(w: u64) -> f64
+    ensures { λ r. ⌜ r ≡ ofBits binary64 w ⌝ }
+{
+    if w % 9223372036854775808 > 9218868437227405312 {
+        0.0 / 0.0
+    } else {
+        f64::from_bits(w)
+    }
+}
+
+// The bit pattern of a float, 7ff8000000000000 for the one not-a-number.
+pub fn to_bits(x: f64) -> u64
+    ensures { λ r. ⌜ r ≡ toBits binary64 x ⌝ }
+{
+    if x != x {
+        9221120237041090560
+    } else {
+        f64::to_bits(x)
+    }
+}
