@@ -1,5 +1,5 @@
 pub mod Cases
 pub mod Exactness
 pub mod Walks
-pub mod LoopLaws
+pub mod Loops
 pub mod Rows

@@ -9,13 +9,13 @@ use lib.ListN.{length, getD, set}
 use Rattle.lists.specs.Loops.{foldUpTo, mapFrom, mapAt, partFrom, partAt}
 
 module _ {A : Type 0} (f : ℕ → A → A) where
-  pub fold-none : (a : A) → foldUpTo f 0 a ≡ a
+  pub foldUpTo-none : (a : A) → foldUpTo f 0 a ≡ a
   unfolding foldUpTo
-  fold-none a = refl
+  foldUpTo-none a = refl
 
-  pub fold-turn : (k : ℕ) (a : A) {s r : A} → s ≡ foldUpTo f k a → r ≡ f k s → r ≡ foldUpTo f (k + 1) a
+  pub foldUpTo-turn : (k : ℕ) (a : A) {s r : A} → s ≡ foldUpTo f k a → r ≡ f k s → r ≡ foldUpTo f (k + 1) a
   unfolding foldUpTo
-  fold-turn k a e h = rw (add-one k) (h ∙ ap (f k) e)
+  foldUpTo-turn k a e h = rw (add-one k) (h ∙ ap (f k) e)
 
 module _ {A : Type 0} (g : ℕ → A → A) (d : A) where
   pub partFrom-same : (n k : ℕ) (l : List A) → getD (partFrom g n k l) k d ≡ getD l k d
