@@ -1,0 +1,41 @@
+// Range tests of numbers and of slices of numbers.
+ghost use mathlib.Core.Path.{_≡_};
+ghost use Rattle.ranges.specs.Range.{within, between, every};
+
+pub fn is_within(limit: f64, x: f64) -> bool
+    ensures { λ r. ⌜ r ≡ within limit x ⌝ }
+{
+    float::abs(x) <= limit
+}
+
+pub fn is_between(low: f64, high: f64, x: f64) -> bool
+    ensures { λ r. ⌜ r ≡ between low high x ⌝ }
+{
+    (low <= x) & (x <= high)
+}
+
+pub fn all_within(limit: f64, xs: &[f64]) -> bool
+    ensures { λ r. ⌜ r ≡ every (within limit) (now (xs .entry)) ⌝ }
+{
+    let mut i = 0;
+    while i < xs.len() {
+        if !is_within(limit, xs[i]) {
+            return false;
+        }
+        i += 1;
+    }
+    true
+}
+
+pub fn all_between(low: f64, high: f64, xs: &[f64]) -> bool
+    ensures { λ r. ⌜ r ≡ every (between low high) (now (xs .entry)) ⌝ }
+{
+    let mut i = 0;
+    while i < xs.len() {
+        if !is_between(low, high, xs[i]) {
+            return false;
+        }
+        i += 1;
+    }
+    true
+}
