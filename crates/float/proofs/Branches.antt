@@ -329,9 +329,11 @@ pub max-nan-left : (x y : Float) → ne x x ≡ true → y ≡ maxOf x y
 unfolding maxOf
 max-nan-left x y h = sym (rw (is-nan x h))
 
-pub min-nan-left : (x y : Float) → ne x x ≡ true → y ≡ minOf x y
-unfolding minOf
-min-nan-left x y h = sym (rw (is-nan x h))
+min-nan-second : (x y : Float) → ne y y ≡ true → x ≡ minOf x y
+unfolding minOf isNan
+min-nan-second nan y h = nan-told y h
+min-nan-second (inf s) y h = sym (rw (is-nan y h))
+min-nan-second (fin s m e) y h = sym (rw (is-nan y h))
 
 other-nan : (x y : Float) → lt x y ≡ false → lt y x ≡ false → eq x y ≡ false → ne x x ≡ false → isNan y ≡ true
 other-nan x y h k l n = elim (unequal-nan x y h k l) [ inl a ↦ absurd (false≢true (sym (no-nan x n) ∙ a)) | inr b ↦ b .1 ]
@@ -339,10 +341,6 @@ other-nan x y h k l n = elim (unequal-nan x y h k l) [ inl a ↦ absurd (false�
 pub max-nan-right : (x y : Float) → lt x y ≡ false → lt y x ≡ false → eq x y ≡ false → ne x x ≡ false → x ≡ maxOf x y
 unfolding maxOf
 max-nan-right x y h k l n = sym (rw (no-nan x n, other-nan x y h k l n))
-
-pub min-nan-right : (x y : Float) → lt x y ≡ false → lt y x ≡ false → eq x y ≡ false → ne x x ≡ false → x ≡ minOf x y
-unfolding minOf
-min-nan-right x y h k l n = sym (rw (no-nan x n, other-nan x y h k l n))
 
 -- ---- t, or t + 1
 pub half-less : (t d : Float) → lt d (fin false 1 (negsuc 0)) ≡ true → t ≡ halfUp t d
@@ -378,15 +376,66 @@ picks b x y h = sym (rw h)
 pub leaves : (b : Bool) (x y : Float) → b ≡ false → y ≡ cond b x y
 leaves b x y h = sym (rw h)
 
--- ---- the sign put back
-pub sign-below : (x r : Float) → lt x zero+ ≡ true → neg r ≡ signOf x r
-unfolding signOf
-sign-below x r h = sym (rw h)
+-- ---- `max` and `min`, as the code picks them
+by-cases : {P : Type 0} (b : Bool) → (b ≡ true → P) → (b ≡ false → P) → P
+by-cases true f g = f refl
+by-cases false f g = g refl
 
-pub sign-zero : (x r : Float) → lt x zero+ ≡ false → eq x zero+ ≡ true → x ≡ signOf x r
-unfolding signOf
-sign-zero x r h k = sym (rw (h, k))
+both-true : (a b : Bool) → (a && b) ≡ true → (a ≡ true) × (b ≡ true)
+both-true true true h = (refl, refl)
+both-true true false h = absurd (false≢true h)
+both-true false b h = absurd (false≢true h)
 
-pub sign-else : (x r : Float) → lt x zero+ ≡ false → eq x zero+ ≡ false → r ≡ signOf x r
-unfolding signOf
-sign-else x r h k = sym (rw (h, k))
+zeros-equal : (s t : Bool) → eq (fin s 0 (pos 0)) (fin t 0 (pos 0)) ≡ true
+unfolding eq
+zeros-equal true true = refl
+zeros-equal true false = refl
+zeros-equal false true = refl
+zeros-equal false false = refl
+
+-- two zeros are equal, and what is equal to a zero is one
+equal-zeros : (x y : Float) → T (fits binary64 x) → T (fits binary64 y) → eq x zero+ ≡ true → eq y zero+ ≡ true → eq x y ≡ true
+equal-zeros x y p q h k =
+    let a = zero-left x false p (yes h) in
+    let b = zero-left y false q (yes k) in
+    rw (a .1, b .1) (zeros-equal (a .0) (b .0))
+
+zero-passed : (x y : Float) → T (fits binary64 x) → T (fits binary64 y) → eq x y ≡ true → eq x zero+ ≡ true → eq y zero+ ≡ true
+zero-passed x y p q h k =
+    let a = zero-left x false p (yes k) in
+    let b = zero-right (a .0) y q (subst (λ (z : Float). T (eq z y)) (a .1) (yes h)) in
+    rw (b .1) (zeros-equal (b .0) false)
+
+module _ (x y : Float) (p : T (fits binary64 x)) (q : T (fits binary64 y)) where
+  -- equal, and not both zero: not a zero
+  no-zero : (eq x zero+ && eq y zero+) ≡ false → eq x y ≡ true → eq x zero+ ≡ false
+  no-zero h e = by-cases (eq x zero+) (λ k. absurd (true≢false (sym (rw (k, zero-passed x y p q e k)) ∙ h))) (λ k. k)
+
+  pub max-picked : cond (eq x zero+ && eq y zero+) (add binary64 x y) (cond (ne x x) y (cond (lt x y) y x)) ≡ maxOf x y
+  max-picked =
+      by-cases (eq x zero+ && eq y zero+)
+      (λ h. let z = both-true _ _ h in rw h (max-zero x y p q (equal-zeros x y p q (z .0) (z .1)) (z .0)))
+      (λ h.
+      by-cases (ne x x) (λ n. rw (h, n) (max-nan-left x y n))
+      (λ n.
+      by-cases (lt x y) (λ l. rw (h, n, l) (max-below x y l))
+      (λ l.
+      rw (h, n, l)
+      (by-cases (lt y x) (λ g. max-above x y l g)
+      (λ g. by-cases (eq x y) (λ e. max-same x y p q l g e (no-zero h e)) (λ e. max-nan-right x y l g e n))))))
+
+  y-smaller : (eq x zero+ && eq y zero+) ≡ false → ne y y ≡ false → lt x y ≡ false → y ≡ minOf x y
+  unfolding minOf
+  y-smaller h n l =
+      by-cases (lt y x) (λ g. min-above x y l g)
+      (λ g.
+      by-cases (eq x y) (λ e. sym (same x y p q (yes e) (no (no-zero h e))) ∙ min-same x y p q l g e (no-zero h e))
+      (λ e. elim (unequal-nan x y l g e) [ inl a ↦ sym (rw a) | inr b ↦ absurd (false≢true (sym (no-nan y n) ∙ b .1)) ]))
+
+  pub min-picked : cond (eq x zero+ && eq y zero+) (neg (add binary64 (neg x) (neg y))) (cond (ne y y) x (cond (lt x y) x y)) ≡ minOf x y
+  min-picked =
+      by-cases (eq x zero+ && eq y zero+)
+      (λ h. let z = both-true _ _ h in rw h (min-zero x y p q (equal-zeros x y p q (z .0) (z .1)) (z .0)))
+      (λ h.
+      by-cases (ne y y) (λ n. rw (h, n) (min-nan-second x y n))
+      (λ n. by-cases (lt x y) (λ l. rw (h, n, l) (min-below x y l)) (λ l. rw (h, n, l) (y-smaller h n l))))

@@ -4,7 +4,7 @@ use mathlib.Core.Logic.{_⊎_, inl, inr}
 use Prim.Native.Nat.{ℕ, zero, suc, _+_, _-_, _*_, _/_, _%_, _^_, _≤_, _<_, zero-le, compare}
 use native.Mathlib.Nat.{le-trans, le-of-eq, le-suc, lt-of-lt-of-le, lt-of-le-of-lt, lt-of-not-le, not-le-of-lt, mul-one, one-mul, zero-mul, mul-pos, zero-lt-suc, mul-comm, mul-assoc, mul-left-comm, mul-right-comm, mul-le-mul-right, mul-lt-mul-of-pos-right, div-lt-iff-lt-mul, le-div-iff-mul-le, div-add-mod', add-mul-div-right, mod-lt, div-one, mul-div-cancel, zero-div, pow-succ', le-antisymm, div-mul-le-self, mod-one, mod-le, suc-mul, zero-mod}
 use native.Mathlib.Omega.{arith}
-use mathlib.Core.Bool.{Bool, true, false, not, _&&_, _||_, cond, false≢true, true≢false}
+use mathlib.Core.Bool.{Bool, true, false, not, _&&_, _||_, cond, false≢true, true≢false, Bool·beq}
 use lib.IntN.{ℤ, pos, negsuc}
 use lib.Dec.{T, ltb, leb, eqb, eqb→eq, ltb→lt, lt→ltb, nltb→le, leb→le, not-T, eqb-refl, lit<, lit≤}
 use lib.Arith.{digits-div}
@@ -225,9 +225,6 @@ unfolding signOf lt eq
 sign-zero true r = refl
 sign-zero false r = refl
 
-tri : (a b : Bool) (x y z : Float) → a ≡ false → b ≡ false → cond a x (cond b y z) ≡ z
-tri a b x y z h k = rw (h, k)
-
 above-zero : (m : ℕ) (e : ℤ) → 0 < suc m * up e * 1
 above-zero m e = mul-pos (mul-pos (zero-lt-suc m) (up-pos e)) (zero-lt-suc 0)
 
@@ -246,11 +243,11 @@ pos-not-below m e = is-false (ltb (m * up e * 1) (0 * 1 * down e)) (λ t. none (
     none : (a b : ℕ) → a < b → b ≡ 0 → ⊥
     none a b h k = omega arith
 
-pos-not-zero : (m : ℕ) (e : ℤ) → eq (fin false (suc m) e) zero+ ≡ false
+not-zero : (s : Bool) (m : ℕ) (e : ℤ) → eq (fin s (suc m) e) zero+ ≡ false
 unfolding eq
-pos-not-zero m e =
-    is-false (eqb (suc m * up e * 1) (0 * 1 * down e) && (true || eqb (suc m * up e * 1) 0))
-    (λ t. none (suc m * up e * 1) (0 * 1 * down e) (above-zero m e) (eqb→eq (suc m * up e * 1) (0 * 1 * down e) (and-l (eqb (suc m * up e * 1) (0 * 1 * down e)) (true || eqb (suc m * up e * 1) 0) t)) (zero-mul (down e)))
+not-zero s m e =
+    is-false (eqb (suc m * up e * 1) (0 * 1 * down e) && (Bool·beq s false || eqb (suc m * up e * 1) 0))
+    (λ t. none (suc m * up e * 1) (0 * 1 * down e) (above-zero m e) (eqb→eq (suc m * up e * 1) (0 * 1 * down e) (and-l (eqb (suc m * up e * 1) (0 * 1 * down e)) (Bool·beq s false || eqb (suc m * up e * 1) 0) t)) (zero-mul (down e)))
   where
     none : (a b : ℕ) → 0 < a → a ≡ b → b ≡ 0 → ⊥
     none a b h k l = omega arith
@@ -264,11 +261,11 @@ neg-below m e = is-true (ltb 0 (suc m * up e * 1 + 0 * 1 * down e)) (lt→ltb 0 
 
 sign-pos : (m : ℕ) (e : ℤ) (r : Float) → signOf (fin false (suc m) e) r ≡ r
 unfolding signOf
-sign-pos m e r = tri (lt (fin false (suc m) e) zero+) (eq (fin false (suc m) e) zero+) (neg r) (fin false (suc m) e) r (pos-not-below (suc m) e) (pos-not-zero m e)
+sign-pos m e r = rw (not-zero false m e, pos-not-below (suc m) e)
 
 sign-neg : (m : ℕ) (e : ℤ) (r : Float) → signOf (fin true (suc m) e) r ≡ neg r
 unfolding signOf
-sign-neg m e r = rw (neg-below m e)
+sign-neg m e r = rw (not-zero true m e, neg-below m e)
 
 pub signed : (s : Bool) (m : ℕ) (e : ℤ) (n : ℕ) → T (fits binary64 (fin s m e)) → (m ≡ 0 → n ≡ 0) → signOf (fin s m e) (wholeOf false n) ≡ wholeOf s n
 signed s zero e n p z =

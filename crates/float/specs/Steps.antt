@@ -17,7 +17,7 @@ pub record Digits (v r rem rest i : ℕ) : Type 0 where
 
 -- r with x's sign, for an r that is not negative, and x itself where x is a zero
 unfoldable pub signOf : Float → Float → Float
-signOf x r = cond (lt x (fin false 0 (pos 0))) (neg r) (cond (eq x (fin false 0 (pos 0))) x r)
+signOf x r = cond (eq x (fin false 0 (pos 0))) x (cond (lt x (fin false 0 (pos 0))) (neg r) r)
 
 -- t, and t + 1 where d is a half or more
 unfoldable pub halfUp : Float → Float → Float

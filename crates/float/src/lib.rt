@@ -3,7 +3,7 @@ ghost use mathlib.Core.Path.{_≡_};
 ghost use Prim.Native.Nat.{_+_, _*_, _^_, _≤_, _<_};
 ghost use lib.Dec.{T};
 ghost use lib.Ieee.Positive.{positive};
-ghost use mathlib.Core.Bool.{true, false};
+ghost use mathlib.Core.Bool.{true, false, cond};
 ghost use lib.IntN.{pos};
 ghost use lib.Ieee.{fin, inf, lt, binary64, toUnsigned, toSigned, ofBits, toBits};
 ghost use Rattle.float.specs.Def.{absOf, negative, maxOf, minOf, clampOf, remEuclidOf, truncOf, floorOf, roundOf, wholeRoot, rootScaled, rootOf};
@@ -15,40 +15,27 @@ pub fn abs(x: f64) -> f64
     if x <= 0.0 { 0.0 - x } else { x }
 }
 
+// One of two values, without a branch: where a loop calls it, the compiler makes a select of it.
+fn pick(test: bool, a: f64, b: f64) -> f64
+    ensures { λ r. ⌜ r ≡ cond test a b ⌝ }
+{
+    if test { a } else { b }
+}
+
 pub fn max(x: f64, y: f64) -> f64
     ensures { λ r. ⌜ r ≡ maxOf x y ⌝ }
 {
-    if x < y {
-        return y;
-    }
-    if y < x {
-        return x;
-    }
-    if x == y {
-        if x == 0.0 {
-            return x + y;
-        }
-        return x;
-    }
-    if x != x { y } else { x }
+    let larger = pick(x < y, y, x);
+    let number = pick(x != x, y, larger);
+    pick((x == 0.0) & (y == 0.0), x + y, number)
 }
 
 pub fn min(x: f64, y: f64) -> f64
     ensures { λ r. ⌜ r ≡ minOf x y ⌝ }
 {
-    if x < y {
-        return x;
-    }
-    if y < x {
-        return y;
-    }
-    if x == y {
-        if x == 0.0 {
-            return -(-x + -y);
-        }
-        return x;
-    }
-    if x != x { y } else { x }
+    let smaller = pick(x < y, x, y);
+    let number = pick(y != y, x, smaller);
+    pick((x == 0.0) & (y == 0.0), -(-x + -y), number)
 }
 
 pub fn clamp(x: f64, lo: f64, hi: f64) -> f64
@@ -82,13 +69,8 @@ fn whole_part(a: f64) -> f64
 fn with_sign(x: f64, r: f64) -> f64
     ensures { λ y. ⌜ y ≡ signOf x r ⌝ }
 {
-    if x < 0.0 {
-        -r
-    } else if x == 0.0 {
-        x
-    } else {
-        r
-    }
+    let signed = pick(x < 0.0, -r, r);
+    pick(x == 0.0, x, signed)
 }
 
 // t, and t + 1 where d is a half or more.

@@ -1,34 +1,28 @@
--- `float::min` meets its contract: each branch is a fact of `proofs/Easy.antt`. Assumes nothing.
+use Rattle.float.proofs.Branches.{yes, min-picked}
+use borrow.Author.Needs.{needs}
 use lib.Ieee.{ofBits}
-use Rattle.float.proofs.Branches.{yes, min-below, min-above, min-zero, min-same, min-nan-left, min-nan-right}
 use Rattle.float.proofs.min.Statement.{statement}
 use Rattle.float.proofs.min.Tie as tie
 use Rattle.float.proofs.min.Reads as reads
 use Rattle.float.proofs.min.Lts as lts
+use Rattle.float.proofs.pick.Reads as pick-reads
 
+-- src/lib.rt:36:9
+pick-requires : tie.Need-pick-requires
+pick-requires c κs = search needs
+
+-- src/lib.rt:37:9
+pick-requires-2 : tie.Need-pick-requires-2
+pick-requires-2 c κs = search needs
+
+-- src/lib.rt:38:5
+pick-requires-3 : tie.Need-pick-requires-3
+pick-requires-3 c κs = search needs
+
+-- src/lib.rt:33:1
 returns : tie.Need-returns
-returns c = min-below _ _ (c .if1 .taken)
-
-returns-2 : tie.Need-returns-2
-returns-2 c = min-above _ _ (c .before .if1 .left) (c .if2 .taken)
-
-returns-3 : tie.Need-returns-3
 unfolding ofBits
-returns-3 c =
-    let good = c .before .before .before .before .good in
-    min-zero _ _ (yes (good .0 .1)) (yes (good .1 .0 .1)) (c .before .if3 .taken) (c .if4 .taken)
-
-returns-4 : tie.Need-returns-4
-unfolding ofBits
-returns-4 c =
-    let good = c .before .before .before .before .good in
-    min-same _ _ (yes (good .0 .1)) (yes (good .1 .0 .1)) (c .before .before .before .if1 .left) (c .before .before .if2 .left) (c .before .if3 .taken) (c .if4 .left)
-
-returns-5 : tie.Need-returns-5
-returns-5 c = min-nan-left _ _ (c .if5 .taken)
-
-returns-6 : tie.Need-returns-6
-returns-6 c = min-nan-right _ _ (c .before .before .before .if1 .left) (c .before .before .if2 .left) (c .before .if3 .left) (c .if5 .left)
+returns c = rw (c .pick3 .ensures, c .before .pick2 .ensures, c .before .before .pick .ensures) (min-picked _ _ (yes (c .before .before .before .good .0 .1)) (yes (c .before .before .before .good .1 .0 .1)))
 
 pub min-spec : {M : Type 1} → statement M
-min-spec = tie.close (tie.spec returns returns-2 returns-3 returns-4 returns-5 returns-6)
+min-spec = tie.close (tie.spec pick-requires pick-requires-2 pick-requires-3 returns)

@@ -1,20 +1,24 @@
--- `float::with_sign` meets its contract: each branch returns what the definition's `cond`s pick. Assumes nothing.
+use Rattle.float.specs.Steps.{signOf}
+use borrow.Author.Needs.{needs}
 use lib.Ieee.{ofBits}
-use Rattle.float.proofs.Branches.{sign-below, sign-zero, sign-else}
 use Rattle.float.proofs.with_sign.Statement.{statement}
 use Rattle.float.proofs.with_sign.Tie as tie
+use Rattle.float.proofs.with_sign.Reads as reads
+use Rattle.float.proofs.with_sign.Lts as lts
+use Rattle.float.proofs.pick.Reads as pick-reads
 
+-- src/lib.rt:72:9
+pick-requires : tie.Need-pick-requires
+pick-requires c κs = search needs
+
+-- src/lib.rt:73:5
+pick-requires-2 : tie.Need-pick-requires-2
+pick-requires-2 c κs = search needs
+
+-- src/lib.rt:69:1
 returns : tie.Need-returns
-unfolding ofBits
-returns c = sign-below _ _ (c .if1 .taken)
-
-returns-2 : tie.Need-returns-2
-unfolding ofBits
-returns-2 c = sign-zero _ _ (c .before .if1 .left) (c .if2 .taken)
-
-returns-3 : tie.Need-returns-3
-unfolding ofBits
-returns-3 c = sign-else _ _ (c .before .if1 .left) (c .if2 .left)
+unfolding signOf ofBits
+returns c = rw (c .pick2 .ensures, c .before .pick .ensures)
 
 pub with-sign-spec : {M : Type 1} → statement M
-with-sign-spec = tie.close (tie.spec returns returns-2 returns-3)
+with-sign-spec = tie.close (tie.spec pick-requires pick-requires-2 returns)
