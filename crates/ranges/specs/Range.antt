@@ -1,7 +1,6 @@
 -- The range tests that decide refusal 3, as Bool definitions.
 use lib.Ieee.{Float, le}
-use mathlib.Core.List.{List, [], _∷_}
-use mathlib.Core.Bool.{Bool, true, _&&_}
+use mathlib.Core.Bool.{Bool, _&&_}
 use Rattle.float.specs.Def.{absOf}
 
 -- finite and of magnitude at most the limit: a not-a-number compares as false, an infinity is above each finite limit
@@ -10,8 +9,3 @@ within limit x = le (absOf x) limit
 
 unfoldable pub between : Float → Float → Float → Bool
 between low high x = le low x && le x high
-
--- each element passes the test
-unfoldable pub every : (Float → Bool) → List Float → Bool
-every p [] = true
-every p (x ∷ xs) = p x && every p xs

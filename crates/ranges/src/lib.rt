@@ -1,6 +1,7 @@
 // Range tests of numbers and of slices of numbers.
 ghost use mathlib.Core.Path.{_≡_};
-ghost use Rattle.ranges.specs.Range.{within, between, every};
+ghost use Rattle.lists.specs.Lists.{every};
+ghost use Rattle.ranges.specs.Range.{within, between};
 
 pub fn is_within(limit: f64, x: f64) -> bool
     ensures { λ r. ⌜ r ≡ within limit x ⌝ }
