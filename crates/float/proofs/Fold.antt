@@ -12,15 +12,12 @@ use lib.Ieee.Bits.{is-true, is-false}
 use lib.Ieee.Fits.{down-pos, up-pos}
 use lib.Ieee.Exact.{HasValue}
 use lib.Ieee.Order.{round-mono}
+use Rattle.float.specs.Theorems.{InUnit}
 use Rattle.float.specs.Def.{absOf, remEuclidOf}
 use Rattle.float.proofs.Unique.{round-own}
 use Rattle.float.proofs.Branches.{zero+}
 use Rattle.float.proofs.Fraction.{lt-at, round-neg}
 use Rattle.float.proofs.Whole.{one+, frac-val, sign-fits, neg-below}
-
--- from 0 to 1
-abbrev pub InUnit : Float → Type 0
-InUnit r = T (le zero+ r) × T (le r one+)
 
 round-ends : (round binary64 false 0 1 ≡ zero+) × (round binary64 false 1 1 ≡ one+)
 unfolding round

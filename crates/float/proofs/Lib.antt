@@ -10,3 +10,4 @@ pub mod Patterns
 pub mod Normal
 pub mod Finite
 pub mod RootNearest
+pub mod Theorems

@@ -13,7 +13,7 @@ use lib.Ieee.{Float, nan, inf, fin, binary64, up, down, lt, fits, toBits}
 use lib.Ieee.Exact.{HasValue}
 use lib.Ieee.Positive.{num, den, den-pos, positive, own-value, value→cross, positive-of-value}
 use Rattle.float.specs.Def.{wholeRoot, rootScaled, rootOf}
-use Rattle.float.specs.Nearest.{sumNum, sumDen, MiddleAtMost, MiddleAbove, NearestRoot}
+use Rattle.float.specs.Theorems.{sumNum, sumDen, MiddleAtMost, MiddleAbove, NearestRoot}
 use Rattle.float.proofs.Unique.{Holds, holds, place, unique}
 use Rattle.float.proofs.Fraction.{lt-at, rescale}
 use Rattle.float.proofs.Branches.{yes, no}

@@ -1,4 +1,4 @@
 pub mod Def
 pub mod Arith
-pub mod Nearest
+pub mod Theorems
 pub mod Steps
