@@ -1,0 +1,14 @@
+// Which call a case asks for.
+use crate::floats;
+ghost use Rattle.words.specs.Put.{Put};
+ghost use Rattle.replay.specs.Calls.{answerOf};
+
+// The answer's words, and how many there are: 0 where the call is unknown or the words are not its arguments.
+pub fn answer(call: u64, ws: &[u64], out: &mut [u64]) -> usize
+    ensures { λ r. ⌜ Put (now (out .entry)) 0 (answerOf call (now (ws .entry))) (now (out .exit)) r ⌝ }
+{
+    if call < 12 {
+        return floats::answer(call, ws, out);
+    }
+    0
+}

@@ -1,0 +1,120 @@
+// Reads cases from standard input, a line each, and writes their answers to standard output.
+use libc::STDIN_FILENO;
+use libc::STDOUT_FILENO;
+ghost use Prim.Native.Nat.{_≤_};
+ghost use lib.ListN.{length};
+
+mod calls;
+mod floats;
+mod lines;
+
+// The bytes of the line so far, and the bytes of answers that are not written yet.
+struct Pending {
+    heard: usize,
+    filled: usize,
+}
+
+// A place with room for one more answer: what is pending is written where there is none.
+fn with_room(out: &[u8], filled: usize) -> usize
+    requires { ⌜ filled ≤ length (now out) ⌝ }
+    ensures { λ r. ⌜ r ≤ length (now (out .entry)) ⌝ }
+{
+    if out.len() - filled < 139539 {
+        io::write_all(STDOUT_FILENO, &out[..filled]);
+        return 0;
+    }
+    filled
+}
+
+// One byte more: at a newline the line is answered, and the next begins.
+fn hear(
+    b: u8,
+    line: &mut [u8],
+    words: &mut [u64],
+    answer: &mut [u64],
+    out: &mut [u8],
+    p: Pending,
+) -> Pending
+    requires { ⌜ (p .heard ≤ length (now line)) × (p .filled ≤ length (now out)) ⌝ }
+    ensures { λ r. ⌜ (r .heard ≤ length (now (line .exit))) × (r .filled ≤ length (now (out .exit))) ⌝ }
+{
+    let heard = p.heard;
+    if b == 10 {
+        let at = with_room(out, p.filled);
+        let filled = lines::answer_line(&line[..heard], words, answer, out, at);
+        return Pending { heard: 0, filled };
+    }
+    let more = words::put_byte(line, heard, b);
+    Pending {
+        heard: more,
+        filled: p.filled,
+    }
+}
+
+fn hear_all(
+    bytes: &[u8],
+    line: &mut [u8],
+    words: &mut [u64],
+    answer: &mut [u64],
+    out: &mut [u8],
+    start: Pending,
+) -> Pending
+    requires { ⌜ (start .heard ≤ length (now line)) × (start .filled ≤ length (now out)) ⌝ }
+    ensures { λ r. ⌜ (r .heard ≤ length (now (line .exit))) × (r .filled ≤ length (now (out .exit))) ⌝ }
+{
+    let mut p = start;
+    let mut i = 0;
+    while i < bytes.len() {
+        p = hear(bytes[i], line, words, answer, out, p);
+        i += 1;
+    }
+    p
+}
+
+// As many bytes as are there; 0 at the end of the input.
+fn read_some(chunk: &mut [u8]) -> usize
+    ensures { λ r. ⌜ r ≤ length (now (chunk .exit)) ⌝ }
+{
+    let got = libc::read(STDIN_FILENO, chunk);
+    io::count(got, chunk)
+}
+
+// What is pending at the end of the input. A line without its newline is no case.
+fn finish(out: &mut [u8], p: Pending)
+    requires { ⌜ p .filled ≤ length (now out) ⌝ }
+{
+    let at = with_room(out, p.filled);
+    if p.heard == 0 {
+        io::write_all(STDOUT_FILENO, &out[..at]);
+        return;
+    }
+    let end = words::print_no_case(out, at);
+    io::write_all(STDOUT_FILENO, &out[..end]);
+}
+
+// A proved loop has to end, and nothing says that the input does: the turns count down, from a number that no run uses up.
+fn serve(chunk: &mut [u8], line: &mut [u8], words: &mut [u64], answer: &mut [u64], out: &mut [u8]) {
+    let mut p = Pending {
+        heard: 0,
+        filled: 0,
+    };
+    let mut turns = u64::MAX;
+    let mut n = read_some(chunk);
+    while turns > 0 && n > 0 {
+        p = hear_all(&chunk[..n], line, words, answer, out, p);
+        n = read_some(chunk);
+        turns -= 1;
+    }
+    finish(out, p);
+}
+
+// The largest case has 8,192 words, 139,266 bytes; its line is kept with one byte more, so that a longer one is no case by its
+// length. The largest answer has 16 words more and a newline, 139,539 bytes: two fit into what is written at once.
+fn main() {
+    let mut chunk = [0u8; 65536];
+    let mut line = [0u8; 139267];
+    let mut words = [0u64; 8192];
+    let mut answer = [0u64; 8208];
+    let mut out = [0u8; 279078];
+    serve(&mut chunk, &mut line, &mut words, &mut answer, &mut out);
+}
