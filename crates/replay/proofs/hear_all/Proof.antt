@@ -5,9 +5,6 @@ use mathlib.Core.Path.{_≡_, _∙_, refl}
 use native.Mathlib.Omega.{arith}
 use Rattle.replay.proofs.hear_all.Statement.{statement}
 use Rattle.replay.proofs.hear_all.Tie as tie
-use Rattle.replay.proofs.hear_all.Reads as reads
-use Rattle.replay.proofs.hear_all.Lts as lts
-use Rattle.replay.proofs.hear.Reads as hear-reads
 
 abbrev Inv-loop : tie.InvT-loop
 Inv-loop bytes line₀ words₀ answer₀ out₀ p₀ i₀ line words answer out p i = (i ≤ length bytes) × (p .heard ≤ length line) × (p .filled ≤ length out) × (length line ≡ length line₀) × (length words ≡ length words₀) × (length answer ≡ length answer₀) × (length out ≡ length out₀)
@@ -15,47 +12,27 @@ Inv-loop bytes line₀ words₀ answer₀ out₀ p₀ i₀ line words answer out
 abbrev μ-loop : tie.MeasureT-loop
 μ-loop bytes line₀ words₀ answer₀ out₀ p₀ i₀ line words answer out p i = length bytes - i
 
--- src/main.rt:50:5
 loop-holds : tie.Need-loop-holds Inv-loop μ-loop
 loop-holds c = (omega arith, c .before .before .before .before .before .pre .0, c .before .before .before .before .before .pre .1, refl, refl, refl, refl)
 
--- src/main.rt:51:18
-shared-slice-read-hear : tie.Need-shared-slice-read-hear Inv-loop μ-loop
-shared-slice-read-hear c = search needs
-
--- src/main.rt:51:9
 hear-requires : tie.Need-hear-requires Inv-loop μ-loop
 hear-requires c κs = (c .before .before .before .before .before .before .loop .inv .1, c .before .before .before .before .before .before .loop .inv .2)
 
--- src/main.rt:52:9
-add-i : tie.Need-add-i Inv-loop μ-loop
-add-i c = search needs
-
--- src/main.rt:50:5
-loop-less : tie.Need-loop-less Inv-loop μ-loop
-loop-less c = search needs
-
--- src/main.rt:50:5
 loop-again : tie.Need-loop-again Inv-loop μ-loop
 loop-again c = (omega arith, c .before .before .before .before .before .before .before .before .hear .ensures .0, c .before .before .before .before .before .before .before .before .hear .ensures .1, c .before .before .before .before .before .before .before .before .hear .kept .1 .0 ∙ c .before .before .before .before .before .before .before .before .before .before .before .before .before .before .before .loop .inv .3, c .before .before .before .before .before .before .before .before .hear .kept .1 .1 .0 ∙ c .before .before .before .before .before .before .before .before .before .before .before .before .before .before .before .loop .inv .4, c .before .before .before .before .before .before .before .before .hear .kept .1 .1 .1 .0 ∙ c .before .before .before .before .before .before .before .before .before .before .before .before .before .before .before .loop .inv .5, c .before .before .before .before .before .before .before .before .hear .kept .1 .1 .1 .1 .0 ∙ c .before .before .before .before .before .before .before .before .before .before .before .before .before .before .before .loop .inv .6)
 
--- src/main.rt:44:1
 same-length : tie.Need-same-length Inv-loop μ-loop
 same-length c = c .before .loop .inv .3
 
--- src/main.rt:44:1
 same-length-2 : tie.Need-same-length-2 Inv-loop μ-loop
 same-length-2 c = c .before .loop .inv .4
 
--- src/main.rt:44:1
 same-length-3 : tie.Need-same-length-3 Inv-loop μ-loop
 same-length-3 c = c .before .loop .inv .5
 
--- src/main.rt:44:1
 same-length-4 : tie.Need-same-length-4 Inv-loop μ-loop
 same-length-4 c = c .before .loop .inv .6
 
--- src/main.rt:44:1
 returns : tie.Need-returns Inv-loop μ-loop
 returns c = (c .before .loop .inv .1, c .before .loop .inv .2)
 
@@ -66,10 +43,10 @@ hear-all-spec =
     Inv-loop
     μ-loop
     loop-holds
-    shared-slice-read-hear
+    (λ c. search needs)
     hear-requires
-    add-i
-    loop-less
+    (λ c. search needs)
+    (λ c. search needs)
     loop-again
     same-length
     same-length-2

@@ -5,42 +5,10 @@ use lib.Ieee.{binary64, toBits}
 use mathlib.Core.Path.{ap}
 use Rattle.replay.proofs.floats.rem_euclid_case.Statement.{statement}
 use Rattle.replay.proofs.floats.rem_euclid_case.Tie as tie
-use Rattle.replay.proofs.floats.rem_euclid_case.Reads as reads
-use Rattle.replay.proofs.floats.rem_euclid_case.Lts as lts
-use Rattle.float.proofs.rem_euclid.Reads as rem-euclid-reads
-use Rattle.replay.proofs.floats.answered.Reads as answered-reads
-use Rattle.words.proofs.put_float.Reads as put-float-reads
-use Rattle.words.proofs.take_float.Reads as take-float-reads
 
--- src/floats.rt:62:9
-take-float-requires : tie.Need-take-float-requires
-take-float-requires c κs = search needs
-
--- src/floats.rt:63:9
-take-float-requires-2 : tie.Need-take-float-requires-2
-take-float-requires-2 c κs = search needs
-
--- src/floats.rt:65:9
 returns : tie.Need-returns
 returns c = two-none (λ x y. toBits binary64 (remEuclidOf x y)) (asked-more (asked-one (c .before .before .before .take-float .ensures .1)) (c .before .before .take-float2 .ensures .1)) (c .if1 .taken)
 
--- src/floats.rt:67:9
-answered-requires : tie.Need-answered-requires
-answered-requires c κs = search needs
-
--- src/floats.rt:68:31
-rem-euclid-requires : tie.Need-rem-euclid-requires
-rem-euclid-requires c κs = search needs
-
--- src/floats.rt:68:5
-put-float-requires : tie.Need-put-float-requires
-put-float-requires c κs = search needs
-
--- src/floats.rt:59:1
-same-length : tie.Need-same-length
-same-length c = search needs
-
--- src/floats.rt:59:1
 returns-2 : tie.Need-returns-2
 returns-2 c = two-told (λ x y. toBits binary64 (remEuclidOf x y)) (asked-more (asked-one (c .before .before .before .before .before .before .before .before .before .before .before .before .take-float .ensures .1)) (c .before .before .before .before .before .before .before .before .before .before .before .take-float2 .ensures .1)) (c .before .before .before .before .before .before .before .before .before .if1 .left) (ap (toBits binary64) (c .before .before .before .rem-euclid .ensures)) (c .before .before .before .before .before .before .before .before .before .before .before .before .take-float .ensures .0) (asked-one (c .before .before .before .before .before .before .before .before .before .before .before .before .take-float .ensures .1)) (c .before .before .before .before .before .before .before .before .before .before .before .take-float2 .ensures .0) (c .before .before .before .before .before .before .before .answered .ensures) (c .before .before .put-float .ensures)
 
@@ -48,11 +16,11 @@ pub rem-euclid-case-spec : {M : Type 1} → statement M
 rem-euclid-case-spec =
     tie.close
     (tie.spec
-    take-float-requires
-    take-float-requires-2
+    (λ c κs. search needs)
+    (λ c κs. search needs)
     returns
-    answered-requires
-    rem-euclid-requires
-    put-float-requires
-    same-length
+    (λ c κs. search needs)
+    (λ c κs. search needs)
+    (λ c κs. search needs)
+    (λ c. search needs)
     returns-2)

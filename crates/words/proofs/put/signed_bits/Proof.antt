@@ -6,30 +6,22 @@ use mathlib.Core.Path.{_∙_, _≡_, sym}
 use native.Mathlib.Omega.{arith}
 use Rattle.words.proofs.put.signed_bits.Statement.{statement}
 use Rattle.words.proofs.put.signed_bits.Tie as tie
-use Rattle.words.proofs.put.signed_bits.Reads as reads
-use Rattle.words.proofs.put.signed_bits.Lts as lts
 
--- src/put.rt:31:33
 sub-result : tie.Need-sub-result
 sub-result c = rw (below (c .before .args .x) (c .before .fits .x) (c .if1 .taken)) (record { sfits = c .before .fits .x .sfits })
 
--- src/put.rt:31:32
 cast-result : tie.Need-cast-result
 cast-result c = rw (turned (c .before .args .x) (c .before .fits .x) (c .if1 .taken)) (tt, record { fits = omega (arith, c .before .fits .x .sfits) })
 
--- src/put.rt:31:9
 sub-result-2 : tie.Need-sub-result-2
 sub-result-2 c = rw (turned (c .before .args .x) (c .before .fits .x) (c .if1 .taken)) (omega (arith, c .before .fits .x .sfits))
 
--- src/put.rt:33:9
 cast-result-2 : tie.Need-cast-result-2
 cast-result-2 c = rw (at-least (c .before .args .x) (c .before .fits .x) (c .if1 .left)) (tt, record { fits = omega (arith, c .before .fits .x .sfits) })
 
--- src/put.rt:27:1
 returns : tie.Need-returns
 returns c = let h : ltZ (c .before .args .x) (pos 0) ≡ true = rw (back (c .before .args .x) (c .before .fits .x)) at (c .if1 .taken) in rw (turned (c .before .args .x) (c .before .fits .x) (c .if1 .taken)) (sym (signed-below (c .before .args .x) h))
 
--- src/put.rt:27:1
 returns-2 : tie.Need-returns-2
 returns-2 c = let h : ltZ (c .before .args .x) (pos 0) ≡ false = rw (back (c .before .args .x) (c .before .fits .x)) at (c .if1 .left) in rw (at-least (c .before .args .x) (c .before .fits .x) (c .if1 .left)) (signed-above (c .before .args .x) h)
 

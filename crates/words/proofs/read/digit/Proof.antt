@@ -1,44 +1,25 @@
 use Rattle.words.specs.Text.{digitOf, joined, hex2, hex4, hex8}
-use borrow.Author.Tests.{lt-ltb, le-ltb, eq-eqb, ne-eqb}
 use borrow.Author.Needs.{needs}
+use borrow.Author.Tests.{lt-ltb, le-ltb, eq-eqb, ne-eqb}
 use Rattle.words.proofs.read.digit.Statement.{statement}
 use Rattle.words.proofs.read.digit.Tie as tie
-use Rattle.words.proofs.read.digit.Reads as reads
-use Rattle.words.proofs.read.digit.Lts as lts
 
--- src/read.rt:20:9
-cast-result : tie.Need-cast-result
-cast-result c = search needs
-
--- src/read.rt:24:10
-sub-result : tie.Need-sub-result
-sub-result c = search needs
-
--- src/read.rt:24:9
-cast-result-2 : tie.Need-cast-result-2
-cast-result-2 c = search needs
-
--- src/read.rt:14:1
 returns : tie.Need-returns
 unfolding digitOf
 returns c = simp (lt-ltb _ _ (c .if1 .taken))
 
--- src/read.rt:14:1
 returns-2 : tie.Need-returns-2
 unfolding digitOf
 returns-2 c = simp (le-ltb _ _ (c .before .if1 .left), lt-ltb _ _ (c .if2 .taken))
 
--- src/read.rt:14:1
 returns-3 : tie.Need-returns-3
 unfolding digitOf
 returns-3 c = simp (le-ltb _ _ (c .before .before .if1 .left), le-ltb _ _ (c .before .if2 .left), lt-ltb _ _ (c .if3 .taken))
 
--- src/read.rt:14:1
 returns-4 : tie.Need-returns-4
 unfolding digitOf
 returns-4 c = simp (le-ltb _ _ (c .before .before .before .if1 .left), le-ltb _ _ (c .before .before .if2 .left), le-ltb _ _ (c .before .if3 .left), lt-ltb _ _ (c .if4 .taken))
 
--- src/read.rt:14:1
 returns-5 : tie.Need-returns-5
 unfolding digitOf
 returns-5 c = simp (le-ltb _ _ (c .before .before .before .if1 .left), le-ltb _ _ (c .before .before .if2 .left), le-ltb _ _ (c .before .if3 .left), le-ltb _ _ (c .if4 .left))
@@ -46,4 +27,12 @@ returns-5 c = simp (le-ltb _ _ (c .before .before .before .if1 .left), le-ltb _ 
 pub digit-spec : {M : Type 1} → statement M
 digit-spec =
     tie.close
-    (tie.spec cast-result sub-result cast-result-2 returns returns-2 returns-3 returns-4 returns-5)
+    (tie.spec
+    (λ c. search needs)
+    (λ c. search needs)
+    (λ c. search needs)
+    returns
+    returns-2
+    returns-3
+    returns-4
+    returns-5)

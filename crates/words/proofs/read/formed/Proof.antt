@@ -4,35 +4,26 @@ use borrow.Author.Tests.{lt-ltb, le-ltb, le-leb, lt-leb, eq-eqb, ne-eqb}
 use mathlib.Core.Path.{sym}
 use Rattle.words.proofs.read.formed.Statement.{statement}
 use Rattle.words.proofs.read.formed.Tie as tie
-use Rattle.words.proofs.read.formed.Reads as reads
-use Rattle.words.proofs.read.formed.Lts as lts
-use Rattle.words.proofs.read.all_words.Reads as all-words-reads
-use Rattle.words.proofs.read.hex2.Reads as hex2-reads
 
--- src/read.rt:138:9
 returns : tie.Need-returns
 returns c = unfold formedIn in simp (ne-eqb _ _ (c .if1 .taken))
 
--- src/read.rt:141:9
 returns-2 : tie.Need-returns-2
 returns-2 c = unfold formedIn in simp (eq-eqb _ _ (c .before .if1 .left), lt-leb _ _ (c .if2 .taken))
 
--- src/read.rt:143:8
-hex2-requires : tie.Need-hex2-requires
-hex2-requires c κs = search needs
-
--- src/read.rt:144:9
-all-words-requires : tie.Need-all-words-requires
-all-words-requires c κs = search needs
-
--- src/read.rt:133:1
 returns-3 : tie.Need-returns-3
 returns-3 c = unfold formedIn in simp (eq-eqb _ _ (c .before .before .before .before .if1 .left), le-leb _ _ (c .before .before .before .if2 .left), sym (c .before .before .hex2 .ensures), lt-ltb _ _ (c .before .if3 .taken), sym (c .all-words .ensures))
 
--- src/read.rt:133:1
 returns-4 : tie.Need-returns-4
 returns-4 c = unfold formedIn in simp (eq-eqb _ _ (c .before .before .before .if1 .left), le-leb _ _ (c .before .before .if2 .left), sym (c .before .hex2 .ensures), le-ltb _ _ (c .if3 .left))
 
 pub formed-spec : {M : Type 1} → statement M
 formed-spec =
-    tie.close (tie.spec returns returns-2 hex2-requires all-words-requires returns-3 returns-4)
+    tie.close
+    (tie.spec
+    returns
+    returns-2
+    (λ c κs. search needs)
+    (λ c κs. search needs)
+    returns-3
+    returns-4)

@@ -1,40 +1,31 @@
 use Prim.Native.Nat.{_≤_}
-use native.Mathlib.Omega.{arith}
-use native.Mathlib.Nat.{mul-le-mul}
 use Rattle.words.specs.Text.{digitOf, joined, hex2, hex4, hex8}
 use borrow.Author.Tests.{lt-ltb, le-ltb, eq-eqb, ne-eqb}
+use native.Mathlib.Nat.{mul-le-mul}
+use native.Mathlib.Omega.{arith}
 use Rattle.words.proofs.read.join.Statement.{statement}
 use Rattle.words.proofs.read.join.Tie as tie
-use Rattle.words.proofs.read.join.Reads as reads
-use Rattle.words.proofs.read.join.Lts as lts
 
--- src/read.rt:37:13
 mul-result : tie.Need-mul-result
 mul-result c = let h : c .before .before .args .hi ≤ 65536 = omega arith in omega (arith, mul-le-mul h (c .before .before .pre))
 
--- src/read.rt:37:13
 add-result : tie.Need-add-result
 add-result c = let h : c .before .before .args .hi ≤ 65536 = omega arith in omega (arith, mul-le-mul h (c .before .before .pre))
 
--- src/read.rt:39:13
 mul-result-2 : tie.Need-mul-result-2
 mul-result-2 c = omega (arith, mul-le-mul (c .before .before .pre) (c .before .before .pre))
 
--- src/read.rt:42:9
 mul-result-3 : tie.Need-mul-result-3
 mul-result-3 c = omega (arith, mul-le-mul (c .before .pre) (c .before .pre))
 
--- src/read.rt:31:1
 returns : tie.Need-returns
 unfolding joined
 returns c = simp (lt-ltb _ _ (c .before .if1 .taken), lt-ltb _ _ (c .if2 .taken))
 
--- src/read.rt:31:1
 returns-2 : tie.Need-returns-2
 unfolding joined
 returns-2 c = simp (lt-ltb _ _ (c .before .if1 .taken), le-ltb _ _ (c .if2 .left))
 
--- src/read.rt:31:1
 returns-3 : tie.Need-returns-3
 unfolding joined
 returns-3 c = simp (le-ltb _ _ (c .if1 .left))
