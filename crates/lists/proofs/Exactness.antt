@@ -177,6 +177,12 @@ high-of i j e = ap (λ (t : ℕ × ℕ). t .1) (sym e) ∙ ordered-high i j
 pub is-ordered : (i j : ℕ) (p : ℕ × ℕ) → p .0 ≡ min i j → p .1 ≡ max i j → p ≡ ordered i j
 is-ordered i j p e f = pair-is p (ordered i j) (e ∙ sym (ordered-low i j)) (f ∙ sym (ordered-high i j))
 
+pub ordered-rising : (i j : ℕ) → i ≤ j → ordered i j ≡ (i, j)
+ordered-rising i j h = sym (is-ordered i j (i, j) (omega arith) (omega arith))
+
+pub ordered-falling : (i j : ℕ) → j ≤ i → ordered i j ≡ (j, i)
+ordered-falling i j h = sym (is-ordered i j (j, i) (omega arith) (omega arith))
+
 -- ---- `inside`: of a rising list, the pairs of its elements, low before high
 abbrev pub Between : List ℕ → ℕ × ℕ → Type 0
 Between l p = (p .0 ∈ l) × (p .1 ∈ l) × (p .0 < p .1)

@@ -3,3 +3,5 @@ pub mod Exactness
 pub mod Walks
 pub mod Loops
 pub mod Rows
+pub mod Nested
+pub mod Halving

@@ -1,0 +1,13 @@
+pub mod AxisLaws
+pub mod StencilLaws
+pub mod Signs
+pub mod Wide
+pub mod SortLaws
+pub mod Parts
+pub mod Runs
+pub mod Laid
+pub mod Found
+pub mod EdgeLaws
+pub mod FlatLaws
+pub mod TraversalLaws
+pub mod Only

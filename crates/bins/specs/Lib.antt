@@ -1,0 +1,6 @@
+pub mod Axis
+pub mod Stencil
+pub mod Traversal
+pub mod Sort
+pub mod Listing
+pub mod Edge

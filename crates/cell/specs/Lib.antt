@@ -1,0 +1,7 @@
+pub mod Vec
+pub mod Matrix
+pub mod Cell
+pub mod Range
+pub mod Seen
+pub mod Calls
+pub mod Ways

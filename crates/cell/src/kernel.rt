@@ -1,0 +1,194 @@
+// The cell's own functions without a test of their arguments, for the crates above: total on every float. Fractional and Cartesian
+// coordinates, wrap, widths and the minimum image.
+ghost use mathlib.Core.Path.{_≡_};
+ghost use Rattle.cell.specs.Cell.{orthorhombicOf, cubicOf, offDiagonalOf, isOrthorhombicOf, toFractionalOf, toCartesianOf, wrapAxisOf, wrapFractionOf, wrapOf, widthOf, perpWidthsOf, roundAxisOf, roundFractionOf, generalImageOf, boxImageOf, skewedOf, latticeImageOf, imageOf};
+use crate::Cell;
+use crate::Image;
+use crate::Lattice;
+use crate::Vec3;
+use crate::matrices;
+use crate::vectors;
+
+pub fn orthorhombic(lx: f64, ly: f64, lz: f64) -> Lattice
+    ensures { λ r. ⌜ r ≡ orthorhombicOf lx ly lz ⌝ }
+{
+    Lattice {
+        a: Vec3 {
+            x: lx,
+            y: 0.0,
+            z: 0.0,
+        },
+        b: Vec3 {
+            x: 0.0,
+            y: ly,
+            z: 0.0,
+        },
+        c: Vec3 {
+            x: 0.0,
+            y: 0.0,
+            z: lz,
+        },
+        px: true,
+        py: true,
+        pz: true,
+    }
+}
+
+pub fn cubic(l: f64) -> Lattice
+    ensures { λ r. ⌜ r ≡ cubicOf l ⌝ }
+{
+    orthorhombic(l, l, l)
+}
+
+fn off_diagonal(l: Lattice) -> f64
+    ensures { λ r. ⌜ r ≡ offDiagonalOf l ⌝ }
+{
+    float::abs(l.a.y)
+        + float::abs(l.a.z)
+        + float::abs(l.b.x)
+        + float::abs(l.b.z)
+        + float::abs(l.c.x)
+        + float::abs(l.c.y)
+}
+
+pub fn is_orthorhombic(l: Lattice) -> bool
+    ensures { λ r. ⌜ r ≡ isOrthorhombicOf l ⌝ }
+{
+    off_diagonal(l) < 1e-9
+}
+
+pub fn to_fractional(l: Lattice, r: Vec3) -> Vec3
+    ensures { λ s. ⌜ s ≡ toFractionalOf l r ⌝ }
+{
+    if matrices::singular(l) {
+        return r;
+    }
+    matrices::times(matrices::inverse(l), r)
+}
+
+pub fn to_cartesian(l: Lattice, s: Vec3) -> Vec3
+    ensures { λ r. ⌜ r ≡ toCartesianOf l s ⌝ }
+{
+    matrices::times(matrices::matrix(l), s)
+}
+
+// The fold of a tiny negative number is 1 itself, which is turned into 0.
+fn wrap_axis(periodic: bool, s: f64) -> f64
+    ensures { λ r. ⌜ r ≡ wrapAxisOf periodic s ⌝ }
+{
+    if periodic {
+        let t = float::rem_euclid(s, 1.0);
+        if t >= 1.0 {
+            return 0.0;
+        }
+        return t;
+    }
+    s
+}
+
+fn wrap_fraction(l: Lattice, s: Vec3) -> Vec3
+    ensures { λ r. ⌜ r ≡ wrapFractionOf l s ⌝ }
+{
+    Vec3 {
+        x: wrap_axis(l.px, s.x),
+        y: wrap_axis(l.py, s.y),
+        z: wrap_axis(l.pz, s.z),
+    }
+}
+
+pub fn wrap(l: Lattice, r: Vec3) -> Vec3
+    ensures { λ w. ⌜ w ≡ wrapOf l r ⌝ }
+{
+    if matrices::singular(l) {
+        return r;
+    }
+    to_cartesian(l, wrap_fraction(l, to_fractional(l, r)))
+}
+
+fn width(volume: f64, a: Vec3, b: Vec3) -> f64
+    ensures { λ r. ⌜ r ≡ widthOf volume a b ⌝ }
+{
+    let area = vectors::norm(vectors::cross(a, b));
+    if area > 1e-12 {
+        return volume / area;
+    }
+    float::infinity()
+}
+
+pub fn perp_widths(l: Lattice) -> Vec3
+    ensures { λ r. ⌜ r ≡ perpWidthsOf l ⌝ }
+{
+    let v = float::abs(matrices::volume(l));
+    Vec3 {
+        x: width(v, l.b, l.c),
+        y: width(v, l.c, l.a),
+        z: width(v, l.a, l.b),
+    }
+}
+
+fn round_axis(periodic: bool, s: f64) -> f64
+    ensures { λ r. ⌜ r ≡ roundAxisOf periodic s ⌝ }
+{
+    if periodic {
+        return image::fraction(s);
+    }
+    s
+}
+
+pub fn round_fraction(l: Lattice, s: Vec3) -> Vec3
+    ensures { λ r. ⌜ r ≡ roundFractionOf l s ⌝ }
+{
+    Vec3 {
+        x: round_axis(l.px, s.x),
+        y: round_axis(l.py, s.y),
+        z: round_axis(l.pz, s.z),
+    }
+}
+
+fn general_image(l: Lattice, d: Vec3) -> Vec3
+    ensures { λ r. ⌜ r ≡ generalImageOf l d ⌝ }
+{
+    if matrices::singular(l) {
+        return d;
+    }
+    let s = matrices::times(matrices::inverse(l), d);
+    matrices::times(matrices::matrix(l), round_fraction(l, s))
+}
+
+pub fn box_image(l: Lattice, d: Vec3) -> Vec3
+    ensures { λ r. ⌜ r ≡ boxImageOf l d ⌝ }
+{
+    Vec3 {
+        x: image::axis(l.px, l.a.x, d.x),
+        y: image::axis(l.py, l.b.y, d.y),
+        z: image::axis(l.pz, l.c.z, d.z),
+    }
+}
+
+// Whether the minimum image goes the general way.
+pub fn skewed(l: Lattice) -> bool
+    ensures { λ r. ⌜ r ≡ skewedOf l ⌝ }
+{
+    (off_diagonal(l) > 1e-9) | (l.a.x <= 0.0) | (l.b.y <= 0.0) | (l.c.z <= 0.0)
+}
+
+fn lattice_image(l: Lattice, d: Vec3) -> Vec3
+    ensures { λ r. ⌜ r ≡ latticeImageOf l d ⌝ }
+{
+    if skewed(l) {
+        return general_image(l, d);
+    }
+    box_image(l, d)
+}
+
+// The minimum image of a difference in a cell, or the difference itself without one.
+pub fn min_image(d: Vec3, cell: Cell) -> Image
+    ensures { λ r. ⌜ r ≡ imageOf d cell ⌝ }
+{
+    match cell {
+        Cell::Absent => Image { diff: d },
+        Cell::Present(l) => Image {
+            diff: lattice_image(l, d),
+        },
+    }
+}

@@ -1,0 +1,7 @@
+pub mod RowOrder
+pub mod Search
+pub mod Insertion
+pub mod Storing
+pub mod CallLaws
+pub mod Only
+pub mod Gathered

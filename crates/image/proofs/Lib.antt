@@ -1,0 +1,5 @@
+pub mod Quotient
+pub mod Double
+pub mod Law
+pub mod Unit
+pub mod Bound

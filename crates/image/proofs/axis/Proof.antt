@@ -1,0 +1,17 @@
+-- `image::axis` meets its contract. Assumes nothing.
+use mathlib.Core.Path.{sym, _∙_}
+use borrow.Author.Needs.{needs}
+use Rattle.image.specs.Image.{axisOf}
+use Rattle.image.proofs.axis.Statement.{statement}
+use Rattle.image.proofs.axis.Tie as tie
+
+returns : tie.Need-returns
+unfolding axisOf
+returns c = cc
+
+returns-2 : tie.Need-returns-2
+unfolding axisOf
+returns-2 c = cc
+
+pub axis-spec : {M : Type 1} → statement M
+axis-spec = tie.close (tie.spec (λ c κs. search needs) returns returns-2)

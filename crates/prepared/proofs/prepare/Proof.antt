@@ -1,0 +1,27 @@
+use Rattle.prepared.specs.Facts.{prepareOf}
+use borrow.Author.Needs.{needs}
+use Rattle.prepared.proofs.prepare.Statement.{statement}
+use Rattle.prepared.proofs.prepare.Tie as tie
+
+returns : tie.Need-returns
+unfolding prepareOf
+returns c = simp (c .before .before .before .before .no-vec .ensures, c .before .before .no-vec2 .ensures, c .before .no-vec3 .ensures, c .no-vec4 .ensures, c .before .before .before .orthorhombic .ensures, c .before .before .before .before .before .enum-told .given .1)
+
+returns-2 : tie.Need-returns-2
+unfolding prepareOf
+returns-2 c = simp (c .prepare-lattice .ensures, c .before .before .cell .given .1)
+
+pub prepare-spec : {M : Type 1} → statement M
+prepare-spec =
+    tie.close
+    (tie.spec
+    (λ c. search needs)
+    (λ c κs. search needs)
+    (λ c κs. search needs)
+    (λ c κs. search needs)
+    (λ c κs. search needs)
+    (λ c κs. search needs)
+    (λ c. search needs)
+    (λ c κs. search needs)
+    returns
+    returns-2)

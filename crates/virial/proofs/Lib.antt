@@ -1,0 +1,3 @@
+pub mod Forces
+pub mod Only
+pub mod Sums

@@ -1,0 +1,42 @@
+-- The invariant: the first k forces are +0, the others as they came. Assumes nothing.
+use Prim.Native.Nat.{_≤_, _-_}
+use Rattle.lists.proofs.Loops.{part-none, part-turn, part-done}
+use Rattle.lists.specs.Loops.{partAt}
+use Rattle.virial.proofs.Forces.{zeroAt, zeros-all}
+use borrow.Author.Needs.{needs}
+use lib.Ieee.{nan}
+use lib.ListN.{length, length-set}
+use mathlib.Core.Path.{_≡_, refl, _∙_}
+use native.Mathlib.Omega.{arith}
+use Rattle.virial.proofs.kernel.clear.Statement.{statement}
+use Rattle.virial.proofs.kernel.clear.Tie as tie
+
+abbrev Inv-loop : tie.InvT-loop
+Inv-loop forces₀ k₀ forces k = (k ≤ length forces₀) × (length forces ≡ length forces₀) × (forces ≡ partAt zeroAt k forces₀)
+
+abbrev μ-loop : tie.MeasureT-loop
+μ-loop forces₀ k₀ forces k = length forces₀ - k
+
+loop-holds : tie.Need-loop-holds Inv-loop μ-loop
+loop-holds c = (search needs, refl, part-none _ nan _)
+
+loop-again : tie.Need-loop-again Inv-loop μ-loop
+loop-again c = (search needs, simp length-set (c .before .loop .inv .1), part-turn zeroAt nan (c .before .loop .k) (c .before .before .args .forces .now) (search needs) (c .before .loop .inv .2) refl)
+
+returns : tie.Need-returns Inv-loop μ-loop
+returns c = part-done zeroAt nan (c .before .loop .k) _ (omega arith) (c .before .loop .inv .2) ∙ zeros-all 0 _
+
+pub clear-spec : {M : Type 1} → statement M
+clear-spec =
+    tie.close
+    (tie.spec
+    Inv-loop
+    μ-loop
+    loop-holds
+    (λ c. search needs)
+    (λ c. search needs)
+    (λ c. search needs)
+    (λ c. search needs)
+    loop-again
+    (λ c. search needs)
+    returns)
