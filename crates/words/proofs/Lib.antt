@@ -1,3 +1,4 @@
 pub mod Reading
 pub mod Signs
+pub mod Taking
 pub mod Writing

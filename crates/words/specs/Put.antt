@@ -1,6 +1,7 @@
 -- Writing into a lent room one thing after the other.
 use Prim.Native.Nat.{ℕ, _+_, _-_, min}
 use mathlib.Core.Path.{_≡_}
+use mathlib.Core.Bool.{Bool, cond}
 use mathlib.Core.List.{List, [], _∷_, _++_}
 use lib.ListN.{length}
 use lib.Seq.{sets}
@@ -35,3 +36,7 @@ u32sWords xs = (length xs ∷ []) ++ each wordOf xs
 unfoldable pub signedBits : ℤ → ℕ
 signedBits (pos n) = n
 signedBits (negsuc n) = 18446744073709551615 - n
+
+-- a bool is 0 or 1
+abbrev pub flagWord : Bool → List ℕ
+flagWord b = cond b 1 0 ∷ []
