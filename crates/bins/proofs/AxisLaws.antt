@@ -1,19 +1,17 @@
 -- One axis: touching is being one step of -1, 0 or 1 apart, and the step is the only one. Assumes nothing.
 use mathlib.Core.Path.{_≡_, refl, sym, ap, _∙_, subst}
 use mathlib.Core.Logic.{_⊎_, inl, inr, ⊎-elim}
-use mathlib.Core.Bool.{Bool, true, false, cond, _&&_, _||_, false≢true}
-use Prim.Native.Nat.{ℕ, zero, suc, _+_, _-_, _*_, _%_, _≤_, _<_}
+use mathlib.Core.Bool.{Bool, true, false, cond, _&&_, false≢true}
+use Prim.Native.Nat.{ℕ, _+_, _-_, _%_, _≤_, _<_}
 use native.Mathlib.Omega.{arith}
 use native.Mathlib.Nat.{mod-eq-of-lt, mod-self, zero-mod, add-zero}
-use native.Mathlib.Decide.{ℕ-discrete}
-use borrow.Author.Tests.{ltb-true, ltb-false, eqb-true, eqb-false, lt-ltb, le-ltb, eq-eqb, ne-eqb}
+use borrow.Author.Tests.{eqb-true, lt-ltb, le-ltb, eq-eqb}
 use lib.Dec.{eqb, ltb}
-use lib.IntN.{ℤ, pos, negsuc, _+ℤ_}
+use lib.IntN.{ℤ, pos, negsuc}
 use Rattle.bins.specs.declared.Axis.{Axis}
-use Rattle.bins.specs.declared.Bin.{Bin}
 use Rattle.bins.specs.declared.Bin.the-variants.{Is, Off}
 use Rattle.bins.specs.Axis.{Good, after, touch, remEuclid, within, stepped}
-use Rattle.lists.proofs.Cases.{below-or, by-test, or-cases, or-left, or-right, and-both, both-and}
+use Rattle.lists.proofs.Cases.{below-or, or-cases, or-left, or-right, and-both, both-and}
 
 -- the three steps
 pub data Dir : Type 0 where

@@ -1,12 +1,11 @@
 -- One axis of whole numbers: what is near lies in bins that touch. Over the edge and the number of bins. Assumes nothing.
-use mathlib.Core.Path.{_≡_, refl, sym, ap, _∙_}
-use mathlib.Core.Logic.{_⊎_, inl, inr, ⊎-elim}
-use mathlib.Core.Bool.{Bool, true, false, cond}
-use Prim.Native.Nat.{ℕ, zero, suc, _+_, _-_, _*_, _/_, _≤_, _<_, min, max}
+use mathlib.Core.Path.{_≡_, refl, ap}
+use mathlib.Core.Logic.{inl, inr, ⊎-elim}
+use mathlib.Core.Bool.{Bool, true, false}
+use Prim.Native.Nat.{ℕ, _+_, _-_, _*_, _/_, _≤_, _<_}
 use native.Mathlib.Omega.{arith}
 use native.Mathlib.Nat.{eq-zero-or-pos, add-mul, mul-comm, mul-le-mul-right, div-mul-le-self, lt-div-mul-add, div-lt-iff-lt-mul, le-div-iff-mul-le, div-eq-of-lt}
 use Rattle.lists.proofs.Cases.{below-or}
-use Rattle.bins.specs.declared.Axis.{Axis}
 use Rattle.bins.specs.Axis.{Good, touch}
 use Rattle.bins.specs.Edge.{binsOn, binOn, gap, distance, axisOn}
 use Rattle.bins.proofs.AxisLaws.{back, stay, on, Leads-touch}

@@ -1,7 +1,7 @@
 -- A cell's place in the tables: below the number of cells, no two cells have the same, and each has a cell. Assumes nothing.
-use mathlib.Core.Path.{_≡_, refl, sym, ap, _∙_}
+use mathlib.Core.Path.{_≡_, sym, ap, _∙_}
 use mathlib.Core.Logic.{_⊎_, inl, inr, ⊎-elim}
-use Prim.Native.Nat.{ℕ, zero, suc, _+_, _*_, _/_, _%_, _≤_, _<_}
+use Prim.Native.Nat.{ℕ, _+_, _*_, _/_, _%_, _≤_, _<_}
 use native.Mathlib.Omega.{arith}
 use mathlib.Core.List.{List}
 use native.Mathlib.Nat.{add-mul, mul-le-mul-right, mul-zero, eq-zero-or-pos, div-lt-iff-lt-mul, mod-lt, div-add-mod'}
@@ -10,7 +10,6 @@ use Rattle.lists.specs.Lists.{upTo, each}
 use Rattle.lists.proofs.Exactness.{mem-upTo}
 use Rattle.lists.proofs.Nested.{loop-two, each-agree}
 use Rattle.bins.specs.Traversal.{cellPairs, pairsOf}
-use Rattle.bins.specs.declared.Axis.{Axis}
 use Rattle.bins.specs.declared.Grid.{Grid}
 use Rattle.bins.specs.declared.Cell.{Cell}
 use Rattle.bins.specs.Stencil.{InGrid, flatten, cells, homeOf}

@@ -1,18 +1,17 @@
 -- What a run over the traversal, or over all pairs, finds and checks, over any scene: the words of demand 3. Assumes nothing.
-use mathlib.Core.Path.{_≡_, refl, sym, ap, _∙_}
-use mathlib.Core.Bool.{Bool, true, false, not, _&&_}
+use mathlib.Core.Path.{_≡_, sym, ap, _∙_}
+use mathlib.Core.Bool.{Bool, true, not, _&&_}
 use mathlib.Core.List.{List}
-use Prim.Native.Nat.{ℕ, _*_, _≤_, _<_}
+use Prim.Native.Nat.{ℕ, _≤_}
 use native.Mathlib.Nat.{mul-le-mul}
 use native.Mathlib.Omega.{arith}
 use lib.ListN.{length}
 use borrow.Author.Tests.{not-true}
 use Rattle.lists.specs.Exact.{Exactly}
-use Rattle.lists.specs.Lists.{keep, howMany, allPairs, Two}
+use Rattle.lists.specs.Lists.{howMany, allPairs, Two}
 use Rattle.lists.proofs.Exactness.{exactly-keep, exactly-as, all-exactly, keep-keep, many-keep, length-all}
 use Rattle.bins.specs.declared.Grid.{Grid}
 use Rattle.bins.specs.declared.Cell.{Cell}
-use Rattle.bins.specs.declared.Tally.{Tally}
 use Rattle.bins.specs.Stencil.{GoodGrid, touching}
 use Rattle.bins.specs.Traversal.{bin, pairsOf, Near, Placed}
 use Rattle.bins.specs.Listing.{Scene, free, close, checkedOf, foundOf, Chosen, Ready}

@@ -1,9 +1,9 @@
 -- A run from nothing is what the lists say: the count, the checks and the memory; and the memory's rows are the pairs. Assumes nothing.
-use Prim.Native.Nat.{ℕ, zero, suc, _+_, _*_, _/_, _-_, _≤_, _<_}
+use Prim.Native.Nat.{ℕ, suc, _+_, _*_, _/_, _≤_, _<_}
 use native.Mathlib.Omega.{arith}
 use mathlib.Core.Path.{_≡_, refl, sym, ap, _∙_}
-use mathlib.Core.Bool.{Bool, true, false, cond, not}
-use mathlib.Core.Logic.{_⊎_, ⊎-elim}
+use mathlib.Core.Bool.{Bool, true, false}
+use mathlib.Core.Logic.{⊎-elim}
 use mathlib.Core.List.{List, [], _∷_, _++_, append-assoc, append-nil}
 use lib.ListN.{length, take, drop, set, getD, length-append, length-take, length-drop}
 use lib.Seq.{take-nil, take-all, take-append-le, drop-cons, take-at}
@@ -11,8 +11,7 @@ use borrow.Author.Tests.{lt-ltb, le-ltb}
 use Rattle.lists.specs.Lists.{keep, flat, rows}
 use Rattle.lists.proofs.Cases.{below-or}
 use Rattle.lists.proofs.Rows.{flat-append, length-flat, two-at, rows-flat}
-use Rattle.bins.specs.declared.Tally.{Tally}
-use Rattle.bins.specs.Listing.{Scene, Listing, pushed, considerOf, listOf, fresh, free, close, checkedOf, foundOf, laidOf}
+use Rattle.bins.specs.Listing.{Scene, Listing, pushed, considerOf, listOf, fresh, checkedOf, foundOf, laidOf}
 
 module _ (old : List ℕ) (done : List (ℕ × ℕ)) where
   pub laid-length : length (laidOf old done) ≡ length old

@@ -6,7 +6,7 @@ use mathlib.Core.Bool.{Bool, true, false, cond, _&&_}
 use Prim.Native.Nat.{ℕ, zero, suc, _+_, _-_, _*_, _≤_, _<_}
 use native.Mathlib.Omega.{arith}
 use native.Mathlib.Nat.{eq-zero-or-pos, mod-lt}
-use borrow.Author.Tests.{eqb-true, leb-true, ltb-true, eq-eqb}
+use borrow.Author.Tests.{eqb-true, leb-true, ltb-true}
 use lib.Dec.{eqb, leb, ltb}
 use lib.IntN.{ℤ, pos, negsuc, _+ℤ_}
 use Rattle.bins.specs.declared.Axis.{Axis}
@@ -14,12 +14,11 @@ use Rattle.bins.specs.declared.Grid.{Grid}
 use Rattle.bins.specs.declared.Cell.{Cell}
 use Rattle.bins.specs.declared.Bin.{Bin}
 use Rattle.bins.specs.declared.Bin.the-variants.{Is, Off}
-use Rattle.bins.specs.declared.Reached.{Reached}
 use Rattle.bins.specs.declared.Reached.the-variants.{To, Nowhere}
-use Rattle.bins.specs.Axis.{Good, touch, stepped, remEuclid, within}
-use Rattle.bins.specs.Stencil.{GoodGrid, InGrid, Row, MetOnce, touching, sameCell, halfStencil, offset, joined, reached}
+use Rattle.bins.specs.Axis.{stepped, remEuclid, within}
+use Rattle.bins.specs.Stencil.{GoodGrid, InGrid, Row, MetOnce, touching, halfStencil, offset, joined, reached}
 use Rattle.lists.specs.Lists.{every, upTo, numbers}
-use Rattle.lists.proofs.Cases.{below-or, by-test, and-both, both-and}
+use Rattle.lists.proofs.Cases.{below-or, and-both, both-and}
 use Rattle.lists.proofs.Walks.{every-at}
 use Rattle.lists.proofs.Exactness.{numbers-at, length-upTo}
 use Rattle.bins.proofs.AxisLaws.{off-is, Dir, back, stay, on, sign, turned, Leads, leads-turned, touch-Leads, Leads-touch, only-step, stepped-Leads, Leads-stepped}
@@ -258,7 +257,7 @@ module _ (g : Grid) where
   pub touching-turned : (a b : Cell) → touching g a b ≡ true → touching g b a ≡ true
   touching-turned a b h = let t = touching-way a b h in way-touching (round-about (t .0)) b a (back-again (t .0) a b (t .1))
 
--- THEOREM 1. On good axes, two cells of the grid touch exactly where they are one, or one row leads from one of them to the other.
+-- On good axes, two cells of the grid touch exactly where they are one, or one row leads from one of them to the other.
 pub met-once : (g : Grid) → GoodGrid g → (a b : Cell) → InGrid g a → InGrid g b → MetOnce g a b
 met-once g good a b ka kb =
     record {

@@ -1,20 +1,18 @@
 -- The traversal lists every two atoms whose cells touch, once. Assumes nothing.
 use mathlib.Core.Path.{_≡_, refl, sym, ap, _∙_, subst}
 use mathlib.Core.Logic.{_⊎_, inl, inr, ⊎-elim}
-use mathlib.Core.Bool.{Bool, true, false, cond, _&&_}
-use mathlib.Core.List.{List, [], _∷_, _++_, map, List·Memᴰ·not-nil, List·Memᴰ·head, List·Memᴰ·tail}
-use Prim.Native.Nat.{ℕ, zero, suc, _+_, _*_, _≤_, _<_}
+use mathlib.Core.Bool.{Bool, true}
+use mathlib.Core.List.{List, [], List·Memᴰ·not-nil}
+use Prim.Native.Nat.{ℕ, zero, suc, _*_, _≤_, _<_}
 use native.Mathlib.Omega.{arith}
-use native.Mathlib.Nat.{suc-mul, mul-suc}
 use borrow.Author.Tests.{eqb-true, eq-eqb}
-use lib.ListN.{length, getD, length-append, length-map}
-use Rattle.bins.specs.declared.Axis.{Axis}
+use lib.ListN.{length, getD}
 use Rattle.bins.specs.declared.Grid.{Grid}
 use Rattle.bins.specs.declared.Cell.{Cell}
 use Rattle.bins.specs.declared.Reached.{Reached}
 use Rattle.bins.specs.declared.Reached.the-variants.{To, Nowhere}
-use Rattle.lists.specs.Exact.{_∈_, Once, Exactly}
-use Rattle.lists.specs.Lists.{upTo, each, keep, inside, across, allPairs, Two}
+use Rattle.lists.specs.Exact.{_∈_, Exactly}
+use Rattle.lists.specs.Lists.{upTo, keep, inside, across, allPairs, Two}
 use Rattle.bins.specs.Stencil.{GoodGrid, InGrid, touching, sameCell, reached}
 use Rattle.bins.specs.Traversal.{bin, met, visit, cellPairs, pairsOf, Near, Placed}
 use Rattle.lists.proofs.Exactness.{Rising, rising-once, mem-upTo, upTo-mem, rising-upTo, mem-keep, keep-mem, rising-keep, Between, exactly-inside, Across, exactly-across, equally-long, exactly-keep, exactly-as, exactly-each, all-exactly, length-keep, length-all, getD-mem}
@@ -196,7 +194,7 @@ module _ (g : Grid) (good : GoodGrid g) (n : ℕ) (cellOf : ℕ → Cell) (place
       ⊎-elim (λ r. seen-at (p .0) (r .0) p (omega arith) (r .1) ((l, m), inl (refl, r .2)))
       (λ r. seen-at (p .1) (r .0) p m (r .1) ((l, m), inr (refl, r .2))) (touching-row g _ _ h)
 
-  -- THEOREM 2. The traversal lists every two atoms whose cells touch, low before high, nothing else, and nothing twice.
+  -- The traversal lists every two atoms whose cells touch, low before high, nothing else, and nothing twice.
   pub pairs-exactly : Exactly (Near g n cellOf) (pairsOf g (bin n cellOf))
   pairs-exactly = exactly-as (pairsOf g (bin n cellOf)) seen-exactly seen-near near-seen
 

@@ -1,5 +1,5 @@
 -- One axis of a grid of bins, for both frames: which bins touch, and where a step of -1, 0 or 1 leads. Definitions only.
-use mathlib.Core.Bool.{Bool, true, false, cond, _&&_, _||_}
+use mathlib.Core.Bool.{Bool, true, cond, _&&_, _||_}
 use mathlib.Core.Path.{_≡_}
 use Prim.Native.Nat.{ℕ, _+_, _-_, _%_, _≤_}
 use lib.Dec.{eqb, ltb}

@@ -1,6 +1,6 @@
 -- What listing does: a state (the tally and the lent pair memory), one step for a candidate pair, and the run over candidates in their order.
 -- The scene says which pairs are excluded and which are near, so both frames share all of it. Definitions only.
-use Prim.Native.Nat.{ℕ, _+_, _*_, _/_, _≤_, _<_, _^_}
+use Prim.Native.Nat.{ℕ, _+_, _*_, _/_, _≤_, _<_}
 use mathlib.Core.Path.{_≡_}
 use mathlib.Core.Bool.{Bool, true, false, cond, not}
 use mathlib.Core.List.{List, _++_, foldl}

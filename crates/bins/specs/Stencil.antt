@@ -1,5 +1,5 @@
 -- Three axes, cells, and the fourteen rows of the half stencil. Definitions only.
-use mathlib.Core.Bool.{Bool, true, false, cond, _&&_}
+use mathlib.Core.Bool.{Bool, true, cond, _&&_}
 use mathlib.Core.List.{List, [], _∷_}
 use Prim.Native.Nat.{ℕ, _+_, _*_, _/_, _%_, _<_, _≤_}
 use mathlib.Core.Path.{_≡_}
@@ -7,7 +7,6 @@ use mathlib.Core.Logic.{_⊎_}
 use lib.Dec.{eqb, ltb}
 use lib.IntN.{ℤ, pos, negsuc}
 use lib.ListN.{getD}
-use Rattle.bins.specs.declared.Axis.{Axis}
 use Rattle.bins.specs.declared.Grid.{Grid}
 use Rattle.bins.specs.declared.Cell.{Cell}
 use Rattle.bins.specs.declared.Bin.{Bin}

@@ -1,10 +1,9 @@
 -- The traversal: home cells by x, y, z; the fourteen rows; the atoms of the bins. Definitions only.
-use mathlib.Core.Bool.{Bool, true, false, cond}
-use mathlib.Core.List.{List, [], _∷_, _++_}
+use mathlib.Core.Bool.{true}
+use mathlib.Core.List.{List, []}
 use mathlib.Core.Path.{_≡_}
 use Prim.Native.Nat.{ℕ, zero, suc, _<_}
 use Rattle.lists.specs.Lists.{upTo, each, keep, inside, across, Two}
-use Rattle.bins.specs.declared.Axis.{Axis}
 use Rattle.bins.specs.declared.Grid.{Grid}
 use Rattle.bins.specs.declared.Cell.{Cell}
 use Rattle.bins.specs.declared.Reached.{Reached}

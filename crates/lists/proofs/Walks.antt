@@ -1,6 +1,6 @@
 -- A walk through a list from the front, at place i: what is left, `drop i l`, decides. One law a step, over the test. Assumes nothing.
-use mathlib.Core.Path.{_≡_, refl, sym, ap, _∙_}
-use mathlib.Core.Bool.{Bool, true, false, cond, _&&_, _||_}
+use mathlib.Core.Path.{_≡_, refl, ap, _∙_}
+use mathlib.Core.Bool.{Bool, true, false, cond}
 use mathlib.Core.List.{List, [], _∷_, _++_, foldl}
 use Prim.Native.Nat.{ℕ, zero, suc, _+_, _-_, _*_, _<_, _≤_}
 use native.Mathlib.Nat.{not-suc-le-zero}
@@ -8,7 +8,7 @@ use native.Mathlib.Numerals.{add-one}
 use native.Mathlib.Omega.{arith}
 use lib.ListN.{length, getD, take, drop, drop-of-length-le, length-drop}
 use lib.Seq.{drop-cons, take-all}
-use Rattle.lists.specs.Lists.{numbers, each, keep, howMany, every, some, firstWhere, ordered, withEach, inside, across}
+use Rattle.lists.specs.Lists.{numbers, each, howMany, every, some, firstWhere, ordered, withEach, inside, across}
 use Rattle.lists.proofs.Cases.{by-test, and-both, both-and, or-left, or-right}
 
 -- what is left at i, and at the end
