@@ -5,6 +5,35 @@ use lib.IntN.{pos, negsuc}
 use lib.Ieee.{nan, fin}
 use Rattle.float.specs.Arith.{bits}
 use Rattle.float.specs.Def.{roundOf, rootOf}
+use Prim.Native.Nat.{ℕ}
+use mathlib.Core.Bool.{Bool}
+use mathlib.Core.List.{List, [], _∷_}
+use lib.ListN.{replicate}
+use Rattle.answer.specs.Seen.{answered, refused}
+use Rattle.frame.specs.declared.Side.{Side}
+use Rattle.frame.specs.declared.Frame.{Frame}
+use Rattle.frame.specs.Distance.{along}
+use Rattle.frame.specs.Laying.{gridOf}
+use Rattle.frame.specs.Build.{Given, buildOf}
+
+-- a periodic axis of edge 10, and a frame of three of them
+abbrev pub ten : Side
+ten = record { edge = 10; round = true }
+
+abbrev pub tens : ℕ → Frame
+tens radius = record { x = ten; y = ten; z = ten; radius = radius }
+
+-- a build of two atoms, one at the corner and one at x on the first axis, with room for two pairs and for the starts of 27 cells
+abbrev pub pairAt : ℕ → ℕ → Given
+pairAt radius x =
+    record {
+      frame = tens radius;
+      coordinates = 0 ∷ 0 ∷ 0 ∷ x ∷ 0 ∷ 0 ∷ [];
+      exclusions = [];
+      pairs = replicate 4 7;
+      starts = replicate 28 7;
+      items = replicate 2 7;
+    }
 
 pub record Marked : Type 0 where
   -- `round` 0.5 → 1; -0.5 → -1; 2.5 → 3; 0.49999999999999994 → 0
@@ -17,3 +46,10 @@ pub record Marked : Type 0 where
   pub root-minus-zero : rootOf (fin true 0 (pos 0)) ≡ fin true 0 (pos 0)
   pub root-least : rootOf (fin false 1 (negsuc 1073)) ≡ fin false 1 (negsuc 536)
   pub root-minus-one : rootOf (fin true 1 (pos 0)) ≡ nan
+  -- whole frame, periodic edge 10: distance 0 to 9 is 1; radius 3 gives 3 bins, radius 4 falls back
+  pub distance-round : along ten 0 9 ≡ 1
+  pub three-bins : gridOf (tens 3) .x .size ≡ 3
+  pub three-lays : buildOf (pairAt 3 9) .answer ≡ answered (record { pairs = 1; checks = 1; fallback = false })
+  pub four-falls-back : buildOf (pairAt 4 9) .answer ≡ answered (record { pairs = 1; checks = 1; fallback = true })
+  -- coordinate 9 of edge 10 accepted (above), 10 refused 3
+  pub ten-refused : buildOf (pairAt 3 10) .answer ≡ refused 3 0

@@ -1,3 +1,4 @@
 pub mod Only
+pub mod Way
 pub mod Order
 pub mod Ways

@@ -1,15 +1,14 @@
 -- `Ways l` for every upright lattice in range, and a lattice at exactly 1e-9. Assumes nothing.
 use mathlib.Core.Path.{_≡_, refl, sym, _∙_, subst}
 use Prim.Native.Nat.{ℕ, zero, suc, _+_, _*_, _^_}
-use mathlib.Core.Bool.{Bool, true, false, cond, _&&_, _||_, false≢true, true≢false}
-use lib.Dec.{T, ltb}
+use mathlib.Core.Bool.{Bool, true, false, cond, _&&_, _||_, true≢false}
+use lib.Dec.{ltb}
 use lib.Ieee.{Float, nan, inf, fin, Format, binary64, prec, emax, low, add, sum, lt, eq, le, isNan, round, units, odd, up, down, ofBits}
-use lib.Ieee.Bits.{is-true}
-use lib.Ieee.Fits.{and-l, and-r, round-is}
+use lib.Ieee.Fits.{round-is}
 use lib.Ieee.Order.{kept, drop}
 use Rattle.float.specs.Arith.{_⊕_, bits}
 use Rattle.float.specs.Def.{absOf}
-use Rattle.float.proofs.Branches.{yes}
+use Rattle.image.proofs.Law.{both}
 use Rattle.ranges.specs.Range.{within}
 use Rattle.ranges.proofs.Finite.{Finite, within-finite}
 use Rattle.cell.specs.declared.Vec3.{Vec3}
@@ -72,9 +71,6 @@ unfolding isNan
 up-number nan p = absurd p
 up-number (inf s) p = refl
 up-number (fin s m e) p = refl
-
-both : (a b : Bool) → (a && b) ≡ true → (a ≡ true) × (b ≡ true)
-both a b h = let t = yes h in (is-true a (and-l a b t), is-true b (and-r a b t))
 
 entry-finite : Finite entryLimit
 unfolding ofBits

@@ -1,6 +1,7 @@
 pub mod Vec
 pub mod Matrix
 pub mod Cell
+pub mod General
 pub mod Range
 pub mod Seen
 pub mod Calls

@@ -1,8 +1,11 @@
 -- The helpers on three floats (cell.rs 175-181, `cross`, and 278-309, `vec3`), over the record Vec3, in the source's order. Definitions only.
 use lib.Ieee.{Float}
-use Rattle.float.specs.Arith.{_⊕_, _⊖_, _⊗_}
+use Rattle.float.specs.Arith.{_⊕_, _⊖_, _⊗_, bits}
 use Rattle.float.specs.Def.{rootOf}
 use Rattle.cell.specs.declared.Vec3.{Vec3}
+
+abbrev pub zeroVec : Vec3
+zeroVec = record { x = bits 0; y = bits 0; z = bits 0 }
 
 abbrev pub subOf : Vec3 → Vec3 → Vec3
 subOf a b = record { x = a .x ⊖ b .x; y = a .y ⊖ b .y; z = a .z ⊖ b .z }

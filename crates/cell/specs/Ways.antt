@@ -1,7 +1,7 @@
 -- Where `is_orthorhombic` and the way of `min_image` part: 01, "Cell rules", "at exactly 1e-9 they differ". proofs/Ways.antt shows `Ways l` of every upright lattice in range.
 use mathlib.Core.Path.{_≡_}
-use mathlib.Core.Bool.{Bool, true, false}
-use lib.Ieee.{Float, lt, eq}
+use mathlib.Core.Bool.{true, false}
+use lib.Ieee.{lt, eq}
 use Rattle.float.specs.Arith.{bits}
 use Rattle.cell.specs.Cell.{offDiagonalOf, isOrthorhombicOf, skewedOf, nano}
 use Rattle.cell.specs.declared.Lattice.{Lattice}

@@ -1,8 +1,10 @@
 // The cell's own functions without a test of their arguments, for the crates above: total on every float. Fractional and Cartesian
 // coordinates, wrap, widths and the minimum image.
 ghost use mathlib.Core.Path.{_≡_};
-ghost use Rattle.cell.specs.Cell.{orthorhombicOf, cubicOf, offDiagonalOf, isOrthorhombicOf, toFractionalOf, toCartesianOf, wrapAxisOf, wrapFractionOf, wrapOf, widthOf, perpWidthsOf, roundAxisOf, roundFractionOf, generalImageOf, boxImageOf, skewedOf, latticeImageOf, imageOf};
+ghost use Rattle.cell.specs.Cell.{orthorhombicOf, cubicOf, offDiagonalOf, isOrthorhombicOf, toFractionalOf, toCartesianOf, wrapAxisOf, wrapFractionOf, wrapOf, widthOf, perpWidthsOf, roundAxisOf, boxImageOf, skewedOf, latticeImageOf, imageOf};
+ghost use Rattle.cell.specs.General.{rowVec, generalOf, generalBy, imageBy};
 use crate::Cell;
+use crate::General;
 use crate::Image;
 use crate::Lattice;
 use crate::Vec3;
@@ -135,27 +137,7 @@ fn round_axis(periodic: bool, s: f64) -> f64
     s
 }
 
-pub fn round_fraction(l: Lattice, s: Vec3) -> Vec3
-    ensures { λ r. ⌜ r ≡ roundFractionOf l s ⌝ }
-{
-    Vec3 {
-        x: round_axis(l.px, s.x),
-        y: round_axis(l.py, s.y),
-        z: round_axis(l.pz, s.z),
-    }
-}
-
-fn general_image(l: Lattice, d: Vec3) -> Vec3
-    ensures { λ r. ⌜ r ≡ generalImageOf l d ⌝ }
-{
-    if matrices::singular(l) {
-        return d;
-    }
-    let s = matrices::times(matrices::inverse(l), d);
-    matrices::times(matrices::matrix(l), round_fraction(l, s))
-}
-
-pub fn box_image(l: Lattice, d: Vec3) -> Vec3
+fn box_image(l: Lattice, d: Vec3) -> Vec3
     ensures { λ r. ⌜ r ≡ boxImageOf l d ⌝ }
 {
     Vec3 {
@@ -172,11 +154,69 @@ pub fn skewed(l: Lattice) -> bool
     (off_diagonal(l) > 1e-9) | (l.a.x <= 0.0) | (l.b.y <= 0.0) | (l.c.z <= 0.0)
 }
 
+fn row_vec(r: [f64; 3]) -> Vec3
+    ensures { λ v. ⌜ v ≡ rowVec r ⌝ }
+{
+    Vec3 {
+        x: r[0],
+        y: r[1],
+        z: r[2],
+    }
+}
+
+// Zeros where the general way is not taken.
+pub fn general_of(l: Lattice) -> General
+    ensures { λ r. ⌜ r ≡ generalOf l ⌝ }
+{
+    if skewed(l) {
+        let m = matrices::inverse(l);
+        return General {
+            skewed: true,
+            singular: matrices::singular(l),
+            ix: row_vec(m[0]),
+            iy: row_vec(m[1]),
+            iz: row_vec(m[2]),
+        };
+    }
+    General {
+        skewed: false,
+        singular: true,
+        ix: vectors::zero(),
+        iy: vectors::zero(),
+        iz: vectors::zero(),
+    }
+}
+
+fn general_image(l: Lattice, g: General, d: Vec3) -> Vec3
+    ensures { λ r. ⌜ r ≡ generalBy l g d ⌝ }
+{
+    if g.singular {
+        return d;
+    }
+    let s = Vec3 {
+        x: round_axis(l.px, vectors::dot(g.ix, d)),
+        y: round_axis(l.py, vectors::dot(g.iy, d)),
+        z: round_axis(l.pz, vectors::dot(g.iz, d)),
+    };
+    matrices::times(matrices::matrix(l), s)
+}
+
+// The minimum image in a lattice by the numbers of the general way; with `general_of(l)` it is the source's.
+pub fn image_by(l: Lattice, g: General, d: Vec3) -> Vec3
+    ensures { λ r. ⌜ r ≡ imageBy l g d ⌝ }
+{
+    if g.skewed {
+        return general_image(l, g, d);
+    }
+    box_image(l, d)
+}
+
+// A single image in a box asks for no more than the source does.
 fn lattice_image(l: Lattice, d: Vec3) -> Vec3
     ensures { λ r. ⌜ r ≡ latticeImageOf l d ⌝ }
 {
     if skewed(l) {
-        return general_image(l, d);
+        return image_by(l, general_of(l), d);
     }
     box_image(l, d)
 }

@@ -38,6 +38,16 @@ pub struct Image {
     pub diff: Vec3,
 }
 
+// What the general way of the minimum image wants to know of a lattice: whether it is taken, whether there is an inverse, and the
+// inverse's rows.
+pub struct General {
+    pub skewed: bool,
+    pub singular: bool,
+    pub ix: Vec3,
+    pub iy: Vec3,
+    pub iz: Vec3,
+}
+
 // Three rows of three floats, where they stand beside an answer: no enum holds an array.
 pub struct Rows {
     pub x: [f64; 3],

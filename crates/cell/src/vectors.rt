@@ -1,7 +1,17 @@
 // Small Vec3 helpers (cell.rs's vec3).
 ghost use mathlib.Core.Path.{_≡_};
-ghost use Rattle.cell.specs.Vec.{subOf, addOf, scaleOf, dotOf, norm2Of, normOf, crossOf};
+ghost use Rattle.cell.specs.Vec.{zeroVec, subOf, addOf, scaleOf, dotOf, norm2Of, normOf, crossOf};
 use crate::Vec3;
+
+pub fn zero() -> Vec3
+    ensures { λ r. ⌜ r ≡ zeroVec ⌝ }
+{
+    Vec3 {
+        x: 0.0,
+        y: 0.0,
+        z: 0.0,
+    }
+}
 
 pub fn sub(a: Vec3, b: Vec3) -> Vec3
     ensures { λ r. ⌜ r ≡ subOf a b ⌝ }

@@ -1,21 +1,20 @@
 -- `near-law`: for |x| below len, x - len * round(x / len) is x + 0 where |x| + |x| < len, and x brought one len toward 0 otherwise. Assumes nothing.
 use mathlib.Core.Path.{_≡_, refl, sym, ap, _∙_, subst}
-use Prim.Native.Nat.{ℕ, zero, suc, _+_, _-_, _*_, _/_, _%_, _^_, _≤_, _<_}
-use native.Mathlib.Nat.{mul-one, one-mul, zero-mul, mul-zero, mul-pos, zero-lt-suc, lt-irrefl, le-of-lt, mul-comm, mul-assoc}
+use Prim.Native.Nat.{ℕ, zero, suc, _+_, _-_, _*_, _^_, _≤_, _<_}
+use native.Mathlib.Nat.{mul-one, zero-mul, mul-zero, mul-pos, zero-lt-suc, le-of-lt}
 use native.Mathlib.Omega.{arith}
-use mathlib.Core.Bool.{Bool, true, false, not, _&&_, _||_, cond, Bool·beq, true≢false, false≢true}
-use lib.IntN.{ℤ, pos, negsuc}
-use lib.Dec.{T, ltb, eqb, ltb→lt, lt→ltb, eqb→eq, not-T}
+use mathlib.Core.Bool.{Bool, true, false, not, _&&_, cond, false≢true}
+use lib.IntN.{ℤ, pos}
+use lib.Dec.{T, eqb, ltb→lt, eqb→eq, not-T}
 use lib.Ieee.Bits.{is-false, is-true}
-use lib.Ieee.{Float, nan, inf, fin, Format, binary64, up, down, neg, add, sub, mul, div, sum, lt, le, eq, fits, round, unlike, ofBits}
+use lib.Ieee.{Float, nan, inf, fin, binary64, up, down, neg, add, sub, mul, div, lt, le, eq, fits, round, ofBits}
 use lib.Ieee.Fits.{down-pos, up-pos, and-l, and-r}
-use lib.Ieee.Exact.{HasValue}
-use Rattle.float.specs.Def.{absOf, roundOf, wholeOf}
-use Rattle.float.specs.Arith.{_⊕_, _⊖_, _⊗_, _⊘_, bits}
+use Rattle.float.specs.Def.{absOf, roundOf}
+use Rattle.float.specs.Arith.{_⊕_}
 use Rattle.float.proofs.Branches.{zero+, yes}
 use Rattle.float.proofs.Unique.{round-own, holds}
 use Rattle.float.proofs.Fraction.{add-at, sub-at, round-neg}
-use Rattle.float.proofs.Whole.{one+, pos-not-below, neg-below, sign-fits}
+use Rattle.float.proofs.Whole.{pos-not-below, neg-below, sign-fits}
 use Rattle.image.specs.Image.{nearestOf, shiftOf, nearOf}
 use Rattle.image.proofs.Quotient.{few-digits, to-zero, to-one, signed-quotient}
 use Rattle.image.proofs.Double.{double-below, double-reaches}
@@ -186,14 +185,16 @@ pub near-apart : (len x y a r : Float) → T (fits binary64 len) → T (fits bin
 unfolding nearOf
 near-apart len x y a r F G A h k R = R ∙ ap (λ (z : Float). x ⊕ shiftOf z len x) A ∙ near-law len x y F G (subst (λ (z : Float). lt z len ≡ true) A h) k
 
--- both tests in one
+-- what is below anything is below infinity
+pub bounded : (x y : Float) → lt x y ≡ true → lt x (inf false) ≡ true
+bounded nan y h = absurd (false≢true (unfold lt in h))
+bounded (inf true) y h = unfold lt in refl
+bounded (inf false) y h = absurd (inf-not-below y y h)
+bounded (fin s m e) y h = unfold lt in refl
+
+-- two tests in one
+pub both : (a b : Bool) → (a && b) ≡ true → (a ≡ true) × (b ≡ true)
+both a b h = let t = yes h in (is-true a (and-l a b t), is-true b (and-r a b t))
+
 pub below-both : (len y a : Float) → (lt a len && lt len y) ≡ true → (lt a len ≡ true) × (lt len (inf false) ≡ true)
-below-both len y a h =
-    let t = yes h in
-    (is-true (lt a len) (and-l (lt a len) (lt len y) t), bounded len y (is-true (lt len y) (and-r (lt a len) (lt len y) t)))
-  where
-    bounded : (len y : Float) → lt len y ≡ true → lt len (inf false) ≡ true
-    bounded nan y h = absurd (false≢true (unfold lt in h))
-    bounded (inf true) y h = unfold lt in refl
-    bounded (inf false) y h = absurd (inf-not-below y y h)
-    bounded (fin s m e) y h = unfold lt in refl
+below-both len y a h = let t = both (lt a len) (lt len y) h in (t .0, bounded len y (t .1))

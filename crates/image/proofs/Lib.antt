@@ -2,4 +2,3 @@ pub mod Quotient
 pub mod Double
 pub mod Law
 pub mod Unit
-pub mod Bound

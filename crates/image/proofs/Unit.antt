@@ -1,11 +1,11 @@
 -- `unit-law`: for |x| below 1, x - round(x) is `near-law` at len 1, for a division and a product by 1 change nothing. Assumes nothing.
-use mathlib.Core.Path.{_≡_, refl, sym, ap, _∙_, subst}
-use Prim.Native.Nat.{ℕ, zero, suc, _+_, _*_}
+use mathlib.Core.Path.{_≡_, refl, ap, _∙_}
+use Prim.Native.Nat.{ℕ, _+_, _*_}
 use native.Mathlib.Nat.{mul-one, one-mul, mul-pos, zero-lt-suc}
-use mathlib.Core.Bool.{Bool, true, false, cond}
-use lib.IntN.{ℤ, pos, negsuc}
+use mathlib.Core.Bool.{Bool, true, false}
+use lib.IntN.{ℤ}
 use lib.Dec.{T}
-use lib.Ieee.{Float, nan, inf, fin, binary64, up, down, add, sub, mul, div, lt, fits, round}
+use lib.Ieee.{Float, nan, inf, fin, binary64, up, down, sub, mul, div, lt, fits, round}
 use lib.Ieee.Fits.{down-pos, nan-fits, inf-fits, round-fits}
 use Rattle.float.specs.Def.{absOf, roundOf}
 use Rattle.float.proofs.Unique.{round-own}

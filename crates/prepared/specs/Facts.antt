@@ -1,13 +1,13 @@
--- A cell's facts, asked once for many differences, and the minimum image by them. proofs/Law.antt has the law: by `prepareOf cell` it is `imageOf d cell`. Definitions only.
-use lib.Ieee.{Float, lt}
+-- A cell's facts, asked once for many differences, and the minimum image by them. Nobody has to believe that it is the source's: proofs/Law.antt shows that
+-- `imageIn (prepareOf cell) d` is `imageOf d cell`. Definitions only.
+use lib.Ieee.{Float, inf, lt}
 use mathlib.Core.Bool.{Bool, true, false, not, cond, _&&_}
-use mathlib.Core.List.{List}
-use Rattle.float.specs.Arith.{_⊕_, bits, at, row}
+use Rattle.float.specs.Arith.{bits}
 use Rattle.float.specs.Def.{absOf}
-use Rattle.image.specs.Image.{nearestOf}
-use Rattle.cell.specs.Vec.{dotOf}
-use Rattle.cell.specs.Matrix.{matrixOf, singularOf, inverseOf, timesOf}
-use Rattle.cell.specs.Cell.{orthorhombicOf, roundFractionOf, boxImageOf, skewedOf}
+use Rattle.image.specs.Image.{nearestOf, nearOf}
+use Rattle.cell.specs.Vec.{zeroVec}
+use Rattle.cell.specs.Cell.{cubicOf, skewedOf}
+use Rattle.cell.specs.General.{generalOf, imageBy}
 use Rattle.cell.specs.declared.Vec3.{Vec3}
 use Rattle.cell.specs.declared.Lattice.{Lattice}
 use Rattle.cell.specs.declared.Cell.{Cell}
@@ -15,54 +15,40 @@ use Rattle.cell.specs.declared.Cell.the-variants.{Absent, Present}
 use Rattle.cell.specs.declared.Image.{Image}
 use Rattle.prepared.specs.declared.Prepared.{Prepared}
 
-abbrev pub noVec : Vec3
-noVec = record { x = bits 0; y = bits 0; z = bits 0 }
-
--- the lengths of a box that is periodic on each axis, and zeros of any other cell: no magnitude is below a zero
-unfoldable pub shortOf : Lattice → Vec3
-shortOf l = cond (not (skewedOf l) && l .px && l .py && l .pz) (record { x = l .a .x; y = l .b .y; z = l .c .z }) noVec
-
-abbrev pub rowVec : List Float → Vec3
-rowVec r = record { x = at r 0; y = at r 1; z = at r 2 }
-
-unfoldable pub prepareLatticeOf : Lattice → Prepared
-prepareLatticeOf l =
-    record {
-      short = shortOf l;
-      lattice = l;
-      skewed = skewedOf l;
-      singular = singularOf l;
-      ix = rowVec (row (inverseOf l) 0);
-      iy = rowVec (row (inverseOf l) 1);
-      iz = rowVec (row (inverseOf l) 2);
-    }
-
--- without a cell the difference stays, as in a singular one
-unfoldable pub prepareOf : Cell → Prepared
-prepareOf Absent =
-    record { short = noVec; lattice = orthorhombicOf (bits 0) (bits 0) (bits 0); skewed = true; singular = true; ix = noVec; iy = noVec; iz = noVec }
-prepareOf (Present l) = prepareLatticeOf l
-
--- the general way by the rows of the inverse
-unfoldable pub generalIn : Prepared → Vec3 → Vec3
-generalIn p d =
-    cond (p .singular) d
-    (timesOf (matrixOf (p .lattice))
-    (roundFractionOf (p .lattice) (record { x = dotOf (p .ix) d; y = dotOf (p .iy) d; z = dotOf (p .iz) d })))
-
-unfoldable pub farImage : Prepared → Vec3 → Vec3
-farImage p d = cond (p .skewed) (generalIn p d) (boxImageOf (p .lattice) d)
-
--- 1e300: a sum below it has no infinite part
+-- 1e300: a length below it is no infinity
 abbrev pub huge : Float
 huge = bits 0x7e37_e43c_8800_759c
 
--- each magnitude is below its length, and no length is infinite
+-- a box, periodic on each axis, of finite lengths
+abbrev pub isBox : Lattice → Bool
+isBox l = not (skewedOf l) && l .px && l .py && l .pz && (lt (l .a .x) huge && lt (l .b .y) huge && lt (l .c .z) huge)
+
+abbrev pub lengths : Lattice → Vec3
+lengths l = record { x = l .a .x; y = l .b .y; z = l .c .z }
+
+-- no magnitude is below a zero, so the zeros send every difference the long way
+unfoldable pub shortOf : Lattice → Vec3
+shortOf l = cond (isBox l) (lengths l) zeroVec
+
+unfoldable pub prepareOf : Cell → Prepared
+prepareOf Absent =
+    record {
+      short = zeroVec;
+      lattice = cubicOf (bits 0);
+      general = record { skewed = true; singular = true; ix = zeroVec; iy = zeroVec; iz = zeroVec };
+    }
+prepareOf (Present l) = record { short = shortOf l; lattice = l; general = generalOf l }
+
+-- one axis: the formula; of an infinite length, which no prepared cell has, what the short way gives
+unfoldable pub shortAxis : Float → Float → Float
+shortAxis len x = cond (lt len (inf false)) (nearestOf len x) (nearOf (absOf x) len x)
+
+-- each magnitude is below its length
 abbrev pub isShort : Vec3 → Vec3 → Bool
-isShort s d = lt (absOf (d .x)) (s .x) && lt (absOf (d .y)) (s .y) && lt (absOf (d .z)) (s .z) && lt (s .x ⊕ s .y ⊕ s .z) huge
+isShort s d = lt (absOf (d .x)) (s .x) && lt (absOf (d .y)) (s .y) && lt (absOf (d .z)) (s .z)
 
 abbrev pub shortImage : Vec3 → Vec3 → Vec3
-shortImage s d = record { x = nearestOf (s .x) (d .x); y = nearestOf (s .y) (d .y); z = nearestOf (s .z) (d .z) }
+shortImage s d = record { x = shortAxis (s .x) (d .x); y = shortAxis (s .y) (d .y); z = shortAxis (s .z) (d .z) }
 
 unfoldable pub imageIn : Prepared → Vec3 → Image
-imageIn p d = record { diff = cond (isShort (p .short) d) (shortImage (p .short) d) (farImage p d) }
+imageIn p d = record { diff = cond (isShort (p .short) d) (shortImage (p .short) d) (imageBy (p .lattice) (p .general) d) }

@@ -1,5 +1,4 @@
 -- `image::axis` meets its contract. Assumes nothing.
-use mathlib.Core.Path.{sym, _∙_}
 use borrow.Author.Needs.{needs}
 use Rattle.image.specs.Image.{axisOf}
 use Rattle.image.proofs.axis.Statement.{statement}

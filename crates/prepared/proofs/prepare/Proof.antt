@@ -5,11 +5,11 @@ use Rattle.prepared.proofs.prepare.Tie as tie
 
 returns : tie.Need-returns
 unfolding prepareOf
-returns c = simp (c .before .before .before .before .no-vec .ensures, c .before .before .no-vec2 .ensures, c .before .no-vec3 .ensures, c .no-vec4 .ensures, c .before .before .before .orthorhombic .ensures, c .before .before .before .before .before .enum-told .given .1)
+returns c = simp (c .before .before .before .before .zero .ensures, c .before .before .zero2 .ensures, c .before .zero3 .ensures, c .zero4 .ensures, c .before .before .before .cubic .ensures, c .before .before .before .before .before .enum-told .given .1)
 
 returns-2 : tie.Need-returns-2
 unfolding prepareOf
-returns-2 c = simp (c .prepare-lattice .ensures, c .before .before .cell .given .1)
+returns-2 c = simp (c .before .short-of .ensures, c .general-of .ensures, c .before .before .before .cell .given .1)
 
 pub prepare-spec : {M : Type 1} → statement M
 prepare-spec =
@@ -22,6 +22,7 @@ prepare-spec =
     (λ c κs. search needs)
     (λ c κs. search needs)
     (λ c. search needs)
+    (λ c κs. search needs)
     (λ c κs. search needs)
     returns
     returns-2)

@@ -9,7 +9,7 @@ returns c = simp (← c .before .before .before .before .skewed .ensures, c .if1
 
 returns-2 : tie.Need-returns-2
 unfolding shortOf
-returns-2 c = simp (c .no-vec .ensures, ← c .before .before .before .before .before .skewed .ensures, c .before .if1 .left)
+returns-2 c = simp (c .zero .ensures, ← c .before .before .before .before .before .skewed .ensures, c .before .if1 .left)
 
 pub short-of-spec : {M : Type 1} → statement M
 short-of-spec = tie.close (tie.spec (λ c κs. search needs) returns (λ c κs. search needs) returns-2)

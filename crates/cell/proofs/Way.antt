@@ -1,0 +1,17 @@
+-- The minimum image by a lattice's own numbers is the source's. Assumes nothing.
+use mathlib.Core.Path.{_≡_, refl}
+use mathlib.Core.Bool.{Bool, true, false, cond}
+use Rattle.cell.specs.Matrix.{timesOf}
+use Rattle.cell.specs.Cell.{roundFractionOf, generalImageOf, boxImageOf, skewedOf, latticeImageOf}
+use Rattle.cell.specs.General.{askedOf, unasked, generalOf, generalBy, imageBy}
+use Rattle.cell.specs.declared.Vec3.{Vec3}
+use Rattle.cell.specs.declared.Lattice.{Lattice}
+
+by-way : (l : Lattice) (d : Vec3) (b : Bool) → imageBy l (cond b (askedOf l) unasked) d ≡ cond b (generalImageOf l d) (boxImageOf l d)
+unfolding imageBy generalBy generalImageOf roundFractionOf timesOf
+by-way l d true = refl
+by-way l d false = refl
+
+pub image-by : (l : Lattice) (d : Vec3) → imageBy l (generalOf l) d ≡ latticeImageOf l d
+unfolding generalOf latticeImageOf
+image-by l d = by-way l d (skewedOf l)

@@ -1,0 +1,173 @@
+-- The outcome of a build by its cases, and what an answered one lists. Assumes nothing.
+use Prim.Native.Nat.{ℕ, zero, suc, _+_, _*_, _/_, _%_, _≤_, _<_}
+use mathlib.Core.Path.{_≡_, refl, sym, ap, _∙_}
+use mathlib.Core.Bool.{Bool, true, false, cond, not, _&&_, _||_}
+use mathlib.Core.List.{List, [], _∷_, List·Memᴰ·not-nil}
+use native.Mathlib.Omega.{arith}
+use lib.ListN.{length, take}
+use lib.Dec.{eqb, ltb, leb}
+use borrow.Author.Tests.{ltb-true, ltb-false, lt-ltb, le-ltb, leb-true, not-false}
+use Rattle.answer.specs.declared.Done.{Done}
+use Rattle.answer.specs.declared.Done.the-variants.{Answered, Refused}
+use Rattle.answer.specs.declared.Refusal.{Refusal}
+use Rattle.answer.specs.declared.Refusal.the-variants.{Lengths, TooMany, Range, Order, Cells, Room}
+use Rattle.answer.specs.Seen.{Seen, answered, refused, refusedBy}
+use Rattle.lists.specs.Exact.{Exactly}
+use Rattle.lists.specs.Lists.{allPairs, upTo, numbers, inside, withEach, howMany, rows, Two}
+use Rattle.lists.proofs.Cases.{by-test, or-neither}
+use Rattle.bins.specs.Listing.{laidOf}
+use Rattle.bins.proofs.Laid.{laid-rows}
+use Rattle.exclusions.specs.Table.{isTable, isRow}
+use Rattle.frame.specs.declared.Frame.{Frame}
+use Rattle.frame.specs.declared.Built.{Built}
+use Rattle.frame.specs.Laying.{plainOf, crowded}
+use Rattle.frame.specs.Build.{Given, Counts, Outcome, seenBuilt, stays, sceneOf, beside, nearPairs, checksOf, lengthsBad, rangesOk, askedOf, shownOf, runOf, startsLaid, itemsLaid, afterOf, buildOf, BuildSays}
+use Rattle.frame.specs.Listed.{Close, Listed, BuildLists}
+use Rattle.frame.specs.Steps.{Framed}
+use Rattle.frame.proofs.Ranges.{ranges-framed}
+use Rattle.frame.proofs.Nearby.{near-exactly}
+
+impossible : {A : Type 0} → _≡_ {A = ℕ} 0 1 → A
+impossible e = absurd (omega arith)
+
+-- ---- what it shows that a build's tests have passed
+pass : (t : Bool) (r : Refusal) (rest : Done) → cond t (Refused r) rest ≡ Answered → (t ≡ false) × (rest ≡ Answered)
+pass true r rest q = impossible (cc)
+pass false r rest q = (refl, q)
+
+pub record Fine (f : Frame) (xs table : List ℕ) (items : ℕ) : Type 0 where
+  pub framed : Framed f xs
+  pub ascending : isTable (rows table) ≡ true
+  pub few : length xs / 3 ≤ 16384
+  pub room : length xs / 3 ≤ items
+
+module _ (f : Frame) (xs table : List ℕ) (items : ℕ) (h : askedOf f xs table items ≡ Answered) where
+  abbrev last : Done
+  last = cond (not (isTable (rows table))) (Refused Order) Answered
+
+  abbrev third : Done
+  third = cond (not (rangesOk f xs)) (Refused Range) last
+
+  abbrev second : Done
+  second = cond (ltb 16384 (length xs / 3)) (Refused (TooMany (length xs / 3))) third
+
+  one : (lengthsBad (length xs) (length table) items ≡ false) × (second ≡ Answered)
+  unfolding askedOf
+  one = pass (lengthsBad (length xs) (length table) items) Lengths second h
+
+  two : (ltb 16384 (length xs / 3) ≡ false) × (third ≡ Answered)
+  two = pass (ltb 16384 (length xs / 3)) (TooMany (length xs / 3)) third (one .1)
+
+  three : (not (rangesOk f xs) ≡ false) × (last ≡ Answered)
+  three = pass (not (rangesOk f xs)) Range last (two .1)
+
+  short : ltb items (length xs / 3) ≡ false
+  unfolding lengthsBad
+  short = or-neither (not (eqb (length xs % 3) 0) || not (eqb (length table % 2) 0)) (ltb items (length xs / 3)) (one .0) .1
+
+  pub asked-passed : Fine f xs table items
+  asked-passed =
+      record {
+        framed = ranges-framed f xs (not-false (rangesOk f xs) (three .0));
+        ascending = not-false (isTable (rows table)) (pass (not (isTable (rows table))) Order Answered (three .1) .0);
+        few = ltb-false 16384 (length xs / 3) (two .0);
+        room = ltb-false items (length xs / 3) short;
+      }
+
+-- ---- the build by its cases, for the code
+module _ (i : Given) {a : Done} (is : a ≡ askedOf (i .frame) (i .coordinates) (i .exclusions) (length (i .items))) where
+  pub build-refused : {r : Refusal} → a ≡ Refused r → stays i (refusedBy r) ≡ buildOf i
+  unfolding buildOf afterOf
+  build-refused e = rw (← is, e)
+
+  module _ (e : a ≡ Answered) where
+    pub build-fine : Fine (i .frame) (i .coordinates) (i .exclusions) (length (i .items))
+    build-fine = asked-passed (i .frame) (i .coordinates) (i .exclusions) (length (i .items)) (sym is ∙ e)
+
+    pub build-few : length (i .coordinates) / 3 < 2 → stays i (answered (record { pairs = 0; checks = 0; fallback = false })) ≡ buildOf i
+    unfolding buildOf afterOf
+    build-few h = rw (← is, e, lt-ltb (length (i .coordinates) / 3) 2 h)
+
+    pub build-run : {o : Outcome} → o ≡ afterOf i Answered → o ≡ buildOf i
+    unfolding buildOf
+    build-run q = rw (← is, e) q
+
+-- ---- an answered run
+module _ (i : Given) (framed : Framed (i .frame) (i .coordinates)) (c : Counts) where
+  abbrev found : List (ℕ × ℕ)
+  found = nearPairs (i .frame) (i .coordinates) (i .exclusions)
+
+  abbrev tested : ℕ
+  tested = checksOf (i .frame) (i .coordinates) (i .exclusions)
+
+  -- the pairs fit, and the numbers are those of the lists
+  fitting : (t : Bool) → (fallback : Bool) → leb (length found) (length (i .pairs) / 2) ≡ t
+      → cond t (answered (record { pairs = length found; checks = tested; fallback = fallback })) (refusedBy (Room (length found))) ≡ answered c
+      → (length found ≤ length (i .pairs) / 2) × (c ≡ record { pairs = length found; checks = tested; fallback = fallback })
+  fitting true fallback e q = (leb-true (length found) (length (i .pairs) / 2) e, cc)
+  fitting false fallback e q = impossible (cc)
+
+  lists-are : (fallback : Bool) → length found ≤ length (i .pairs) / 2 → c ≡ record { pairs = length found; checks = tested; fallback = fallback } → Listed i c (laidOf (i .pairs) found)
+  lists-are fallback h e =
+      rw e
+      (record {
+        exactly = rw (laid-rows (i .pairs) found h) (near-exactly i framed);
+        checks = unfold checksOf sceneOf in refl;
+      })
+
+  run-lists : (fallback : Bool) (starts items : List ℕ) → runOf i starts items fallback .answer ≡ answered c → Listed i c (runOf i starts items fallback .pairs)
+  unfolding runOf shownOf
+  run-lists fallback starts items q =
+      let z = fitting (leb (length found) (length (i .pairs) / 2)) fallback refl q in lists-are fallback (z .0) (z .1)
+
+-- below two atoms there is no pair
+no-pairs : (n : ℕ) → n < 2 → allPairs n ≡ []
+unfolding inside numbers withEach
+no-pairs zero h = refl
+no-pairs (suc zero) h = refl
+no-pairs (suc (suc n)) h = absurd (omega arith)
+
+few-lists : (i : Given) (c : Counts) → length (i .coordinates) / 3 < 2 → c ≡ record { pairs = 0; checks = 0; fallback = false } → Listed i c (i .pairs)
+unfolding rows howMany
+few-lists i c h e =
+    rw e
+    (record {
+      exactly =
+          record { sound = λ p m. absurd (List·Memᴰ·not-nil m); complete = λ p u. let l = u .0 .0 in let m = u .0 .1 in absurd (omega arith); once = tt };
+      checks = rw (no-pairs (length (i .coordinates) / 3) h);
+    })
+
+after-lists : (i : Given) → Framed (i .frame) (i .coordinates) → (c : Counts) → afterOf i Answered .answer ≡ answered c → Listed i c (afterOf i Answered .pairs)
+unfolding afterOf
+after-lists i framed c =
+    by-test (λ t. Says (below t)) (ltb (length (i .coordinates) / 3) 2) (λ e q. few-lists i c (ltb-true (length (i .coordinates) / 3) 2 e) (cc))
+    (λ e.
+    by-test (λ t. Says (flat t)) (plainOf (i .frame)) (λ _. run-lists i framed c true (i .starts) (i .items))
+    (λ _.
+    by-test (λ t. Says (full t)) (crowded (i .frame) (length (i .starts))) (λ _ q. impossible (cc)) (λ _. run-lists i framed c false _ _)))
+  where
+    Says : Outcome → Type 0
+    Says o = o .answer ≡ answered c → Listed i c (o .pairs)
+
+    full : Bool → Outcome
+    full t = cond t (stays i (refusedBy Cells)) (runOf i (startsLaid (i .frame) (i .coordinates) (i .starts)) (itemsLaid (i .frame) (i .coordinates) (i .items)) false)
+
+    flat : Bool → Outcome
+    flat t = cond t (runOf i (i .starts) (i .items) true) (full (crowded (i .frame) (length (i .starts))))
+
+    below : Bool → Outcome
+    below t = cond t (stays i (answered (record { pairs = 0; checks = 0; fallback = false }))) (flat (plainOf (i .frame)))
+
+-- whatever the tests say
+asked-lists : (i : Given) (a : Done) → askedOf (i .frame) (i .coordinates) (i .exclusions) (length (i .items)) ≡ a → (c : Counts) → afterOf i a .answer ≡ answered c → Listed i c (afterOf i a .pairs)
+unfolding afterOf
+asked-lists i (Refused r) e c q = impossible (cc)
+asked-lists i Answered e c q = after-lists i (asked-passed (i .frame) (i .coordinates) (i .exclusions) (length (i .items)) e .framed) c q
+
+-- DEMAND 3. What the outcome's equation says of an answered build.
+pub build-lists : (i : Given) (r : Built) (pairs starts items : List ℕ) → BuildSays i r pairs starts items → BuildLists i r pairs
+unfolding buildOf
+build-lists i r pairs starts items h c q =
+    let a = askedOf (i .frame) (i .coordinates) (i .exclusions) (length (i .items)) in
+    let answer : afterOf i a .answer ≡ answered c = sym (ap (λ (o : Outcome). o .answer) h) ∙ q in
+    rw (ap (λ (o : Outcome). o .pairs) h) (asked-lists i a refl c answer)

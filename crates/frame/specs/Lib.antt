@@ -1,0 +1,5 @@
+pub mod Distance
+pub mod Laying
+pub mod Build
+pub mod Listed
+pub mod Steps

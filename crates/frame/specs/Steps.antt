@@ -1,0 +1,65 @@
+-- What the private functions ask and say of themselves: nobody has to believe it. Definitions only.
+use Prim.Native.Nat.{ℕ, _+_, _*_, _/_, _≤_, _<_}
+use mathlib.Core.Path.{_≡_}
+use mathlib.Core.Bool.{Bool, false, cond}
+use mathlib.Core.List.{List}
+use lib.ListN.{length}
+use Rattle.bins.specs.declared.Grid.{Grid}
+use Rattle.bins.specs.declared.Cell.{Cell}
+use Rattle.bins.specs.Stencil.{GoodGrid, InGrid, flatten, cells}
+use Rattle.bins.specs.Sort.{atomsIn}
+use Rattle.bins.specs.Traversal.{bin}
+use Rattle.bins.specs.Listing.{Scene}
+use Rattle.exclusions.specs.Table.{lookedUp}
+use Rattle.frame.specs.declared.Side.{Side}
+use Rattle.frame.specs.declared.Frame.{Frame}
+use Rattle.frame.specs.declared.Spot.{Spot}
+use Rattle.frame.specs.declared.laying.Plan.{Plan}
+use Rattle.frame.specs.declared.laying.Plan.the-variants.{AllPairs, Laid, TooMany}
+use Rattle.frame.specs.Distance.{spotOf, nearOf}
+use Rattle.frame.specs.Laying.{gridOf, cellAt, plainOf, crowded}
+
+-- the frame's numbers are in range
+pub record Sized (f : Frame) : Type 0 where
+  pub x : f .x .edge ≤ 1048576
+  pub y : f .y .edge ≤ 1048576
+  pub z : f .z .edge ≤ 1048576
+  pub radius : f .radius ≤ 1048576
+
+-- the place is in the frame
+pub record Inside (f : Frame) (a : Spot) : Type 0 where
+  pub x : a .x < f .x .edge
+  pub y : a .y < f .y .edge
+  pub z : a .z < f .z .edge
+
+-- and so is each atom
+pub record Framed (f : Frame) (xs : List ℕ) : Type 0 where
+  pub sized : Sized f
+  pub inside : (i : ℕ) → i < length xs / 3 → Inside f (spotOf xs i)
+
+-- all pairs, a grid, or too many cells
+unfoldable pub planOf : Frame → ℕ → Plan
+planOf f starts = cond (plainOf f) AllPairs (cond (crowded f starts) TooMany (Laid (gridOf f)))
+
+-- the frame's own grid, small enough
+pub record Gridded (f : Frame) (g : Grid) : Type 0 where
+  pub is : g ≡ gridOf f
+  pub wide : plainOf f ≡ false
+  pub few : cells g ≤ 32768
+
+-- what is excluded and what is near, as the loops find it
+unfoldable pub sceneBy : Frame → List ℕ → List ℕ → Scene
+sceneBy f xs table = record { excluded = lookedUp table; near = λ low high. nearOf f (spotOf xs low) (spotOf xs high) }
+
+-- the same, where it is known whether the pair is near
+unfoldable pub judged : List ℕ → Bool → Scene
+judged table near = record { excluded = lookedUp table; near = λ low high. near }
+
+-- the atoms of a cell, rising
+abbrev pub atomsBy : Frame → List ℕ → Cell → List ℕ
+atomsBy f xs = bin (length xs / 3) (cellAt f xs)
+
+-- the lent tables hand out the atoms of each cell
+pub record Swept (f : Frame) (g : Grid) (xs starts items : List ℕ) : Type 0 where
+  pub framed : Framed f xs
+  pub part : (c : Cell) → InGrid g c → atomsIn (flatten g c) starts items ≡ atomsBy f xs c
