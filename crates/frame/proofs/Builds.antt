@@ -1,41 +1,38 @@
 -- A run of a build: what the tally and the memory are, by the lists that the outcome names. Assumes nothing.
-use Prim.Native.Nat.{ℕ, _+_, _*_, _/_, _≤_, _<_}
-use mathlib.Core.Path.{_≡_, refl, sym, ap, ap₂, _∙_}
-use mathlib.Core.Bool.{Bool, true, false, cond, not, _&&_, _||_, true≢false}
-use mathlib.Core.List.{List, _++_}
+use Prim.Native.Nat.{ℕ, _/_, _≤_, _<_}
+use mathlib.Core.Path.{_≡_, refl, sym, ap, _∙_}
+use mathlib.Core.Bool.{Bool, true, false, cond, _||_}
+use mathlib.Core.List.{List}
 use native.Mathlib.Omega.{arith}
-use native.Mathlib.Nat.{mul-le-mul, add-mul, mul-add}
-use mathlib.Core.Logic.{⊎-elim}
 use lib.ListN.{length}
 use lib.Dec.{eqb, ltb, leb}
-use borrow.Author.Tests.{ltb-true, ltb-false, lt-ltb, le-ltb, leb-true, leb-false, le-leb, lt-leb}
+use borrow.Author.Tests.{ltb-false, le-ltb, leb-false}
 use Rattle.answer.specs.declared.Done.the-variants.{Answered}
 use Rattle.answer.specs.declared.Refusal.the-variants.{Cells}
 use Rattle.answer.specs.Seen.{Seen, refusedBy}
-use Rattle.lists.specs.Lists.{allPairs, howMany, rows, Two}
-use Rattle.lists.proofs.Cases.{by-test, below-or, true-or-false, or-neither, both-and}
+use Rattle.lists.specs.Lists.{allPairs, rows}
+use Rattle.lists.proofs.Cases.{or-neither}
 use Rattle.bins.specs.declared.Tally.{Tally}
 use Rattle.bins.specs.declared.Grid.{Grid}
 use Rattle.bins.specs.Axis.{Good}
-use Rattle.bins.specs.Edge.{axisOn, distance}
-use Rattle.bins.specs.Stencil.{GoodGrid, cells, touching}
-use Rattle.bins.specs.Traversal.{bin, pairsOf}
-use Rattle.bins.specs.Listing.{Scene, Listing, listOf, fresh, free, close, checkedOf, foundOf, laidOf, Ready}
-use Rattle.bins.proofs.EdgeLaws.{axis-good, close-touch}
+use Rattle.bins.specs.Edge.{axisOn}
+use Rattle.bins.specs.Stencil.{GoodGrid, cells}
+use Rattle.bins.specs.Traversal.{pairsOf}
+use Rattle.bins.specs.Listing.{Scene, Listing, listOf, fresh, checkedOf, foundOf, laidOf, Ready}
+use Rattle.bins.proofs.EdgeLaws.{axis-good}
 use Rattle.bins.proofs.Runs.{ready-end}
 use Rattle.bins.proofs.Laid.{listed, laid-length}
-use Rattle.bins.proofs.Found.{plain-checks, plain-ready, binned-checks, binned-ready}
-use Rattle.exclusions.specs.Table.{isTable, isRow, lookedUp}
+use Rattle.bins.proofs.Found.{plain-checks, binned-checks, binned-ready}
+use Rattle.exclusions.specs.Table.{isTable}
 use Rattle.exclusions.proofs.Search.{looked-up}
 use Rattle.frame.specs.declared.Side.{Side}
 use Rattle.frame.specs.declared.Frame.{Frame}
-use Rattle.frame.specs.declared.Spot.{Spot}
 use Rattle.frame.specs.declared.laying.Plan.{Plan}
 use Rattle.frame.specs.declared.laying.Plan.the-variants.{AllPairs, Laid, TooMany}
-use Rattle.frame.specs.Distance.{spotOf, squareOf, squaredOf, nearOf, along}
-use Rattle.frame.specs.Laying.{gridOf, cellOf, cellAt, narrow, plainOf, crowded}
-use Rattle.frame.specs.Build.{Given, Counts, Outcome, stays, seenBuilt, sceneOf, candidates, nearPairs, beside, checksOf, shownOf, runOf, afterOf, startsLaid, itemsLaid}
-use Rattle.frame.specs.Steps.{Framed, Inside, Gridded, sceneBy, atomsBy, planOf}
+use Rattle.frame.specs.Distance.{spotOf, nearOf}
+use Rattle.frame.specs.Laying.{gridOf, cellAt, narrow, plainOf, crowded}
+use Rattle.frame.specs.Build.{Given, Counts, stays, sceneOf, candidates, nearPairs, beside, checksOf, shownOf, runOf, afterOf, startsLaid, itemsLaid}
+use Rattle.frame.specs.Steps.{Framed, Gridded, sceneBy, atomsBy, planOf}
 use Rattle.frame.proofs.Tables.{placed}
 
 -- ---- a run that has ended

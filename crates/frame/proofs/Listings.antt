@@ -1,14 +1,13 @@
 -- Laws of the loops over candidates: one pair of the frame, and what a row of the sweep lists. Assumes nothing.
 use Prim.Native.Nat.{ℕ, _+_, _-_, _/_, _≤_, _<_}
-use mathlib.Core.Path.{_≡_, refl, sym, ap, ap₂, _∙_}
-use mathlib.Core.Bool.{Bool, true, false, cond}
+use mathlib.Core.Path.{_≡_, sym, ap, ap₂, _∙_}
+use mathlib.Core.Bool.{Bool}
 use mathlib.Core.List.{List, []}
 use native.Mathlib.Omega.{arith}
-use lib.ListN.{length, getD}
-use Rattle.lists.specs.Lists.{ordered, inside, across, upTo, each, numbers}
+use lib.ListN.{length}
+use Rattle.lists.specs.Lists.{ordered, inside, across, each, numbers}
 use Rattle.bins.specs.declared.Cell.{Cell}
 use Rattle.bins.specs.declared.Grid.{Grid}
-use Rattle.bins.specs.declared.Tally.{Tally}
 use Rattle.bins.specs.declared.Reached.{Reached}
 use Rattle.bins.specs.declared.Reached.the-variants.{To, Nowhere}
 use Rattle.bins.specs.Edge.{gap, distance}

@@ -1,7 +1,7 @@
 -- Near atoms lie in bins that touch, so the bins excuse nothing: the listed pairs are exactly the near ones that are not excluded. Assumes nothing.
 use Prim.Native.Nat.{ℕ, _+_, _*_, _/_, _≤_, _<_}
-use mathlib.Core.Path.{_≡_, refl, sym, ap, _∙_}
-use mathlib.Core.Bool.{Bool, true, false}
+use mathlib.Core.Path.{_≡_}
+use mathlib.Core.Bool.{true, false}
 use mathlib.Core.List.{List}
 use mathlib.Core.Logic.{⊎-elim}
 use native.Mathlib.Nat.{mul-le-mul, add-mul, mul-add}
@@ -9,15 +9,13 @@ use native.Mathlib.Omega.{arith}
 use lib.ListN.{length}
 use borrow.Author.Tests.{leb-true, le-leb}
 use Rattle.lists.specs.Exact.{Exactly}
-use Rattle.lists.specs.Lists.{allPairs, rows, Two}
+use Rattle.lists.specs.Lists.{Two}
 use Rattle.lists.proofs.Cases.{below-or, true-or-false, both-and}
 use Rattle.lists.proofs.Exactness.{exactly-as}
 use Rattle.bins.specs.Stencil.{touching}
-use Rattle.bins.specs.Traversal.{bin, pairsOf}
-use Rattle.bins.specs.Listing.{close, foundOf, Chosen}
+use Rattle.bins.specs.Listing.{close, Chosen}
 use Rattle.bins.proofs.EdgeLaws.{close-touch}
 use Rattle.bins.proofs.Found.{plain-found, nothing-excused}
-use Rattle.exclusions.specs.Table.{isRow}
 use Rattle.frame.specs.declared.Frame.{Frame}
 use Rattle.frame.specs.declared.Spot.{Spot}
 use Rattle.frame.specs.Distance.{spotOf, along, squareOf, squaredOf, nearOf}

@@ -1,28 +1,27 @@
 -- The outcome of a build by its cases, and what an answered one lists. Assumes nothing.
-use Prim.Native.Nat.{ℕ, zero, suc, _+_, _*_, _/_, _%_, _≤_, _<_}
+use Prim.Native.Nat.{ℕ, zero, suc, _/_, _%_, _≤_, _<_}
 use mathlib.Core.Path.{_≡_, refl, sym, ap, _∙_}
-use mathlib.Core.Bool.{Bool, true, false, cond, not, _&&_, _||_}
-use mathlib.Core.List.{List, [], _∷_, List·Memᴰ·not-nil}
+use mathlib.Core.Bool.{Bool, true, false, cond, not, _||_}
+use mathlib.Core.List.{List, [], List·Memᴰ·not-nil}
 use native.Mathlib.Omega.{arith}
-use lib.ListN.{length, take}
+use lib.ListN.{length}
 use lib.Dec.{eqb, ltb, leb}
-use borrow.Author.Tests.{ltb-true, ltb-false, lt-ltb, le-ltb, leb-true, not-false}
+use borrow.Author.Tests.{ltb-true, ltb-false, lt-ltb, leb-true, not-false}
 use Rattle.answer.specs.declared.Done.{Done}
 use Rattle.answer.specs.declared.Done.the-variants.{Answered, Refused}
 use Rattle.answer.specs.declared.Refusal.{Refusal}
 use Rattle.answer.specs.declared.Refusal.the-variants.{Lengths, TooMany, Range, Order, Cells, Room}
-use Rattle.answer.specs.Seen.{Seen, answered, refused, refusedBy}
-use Rattle.lists.specs.Exact.{Exactly}
-use Rattle.lists.specs.Lists.{allPairs, upTo, numbers, inside, withEach, howMany, rows, Two}
+use Rattle.answer.specs.Seen.{answered, refusedBy}
+use Rattle.lists.specs.Lists.{allPairs, numbers, inside, withEach, howMany, rows}
 use Rattle.lists.proofs.Cases.{by-test, or-neither}
 use Rattle.bins.specs.Listing.{laidOf}
 use Rattle.bins.proofs.Laid.{laid-rows}
-use Rattle.exclusions.specs.Table.{isTable, isRow}
+use Rattle.exclusions.specs.Table.{isTable}
 use Rattle.frame.specs.declared.Frame.{Frame}
 use Rattle.frame.specs.declared.Built.{Built}
 use Rattle.frame.specs.Laying.{plainOf, crowded}
-use Rattle.frame.specs.Build.{Given, Counts, Outcome, seenBuilt, stays, sceneOf, beside, nearPairs, checksOf, lengthsBad, rangesOk, askedOf, shownOf, runOf, startsLaid, itemsLaid, afterOf, buildOf, BuildSays}
-use Rattle.frame.specs.Listed.{Close, Listed, BuildLists}
+use Rattle.frame.specs.Build.{Given, Counts, Outcome, stays, sceneOf, nearPairs, checksOf, lengthsBad, rangesOk, askedOf, shownOf, runOf, startsLaid, itemsLaid, afterOf, buildOf, BuildSays}
+use Rattle.frame.specs.Listed.{Listed, BuildLists}
 use Rattle.frame.specs.Steps.{Framed}
 use Rattle.frame.proofs.Ranges.{ranges-framed}
 use Rattle.frame.proofs.Nearby.{near-exactly}

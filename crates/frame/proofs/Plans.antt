@@ -1,12 +1,12 @@
 -- The grid of a frame: the plan by its cases, sizes that fit, and that each atom has a cell of the grid. Assumes nothing.
 use Prim.Native.Nat.{ℕ, _+_, _*_, _/_, _≤_, _<_}
-use mathlib.Core.Path.{_≡_, refl, sym, ap, _∙_}
-use mathlib.Core.Bool.{Bool, true, false, cond, _||_}
+use mathlib.Core.Path.{_≡_, refl, ap}
+use mathlib.Core.Bool.{true, false, _||_}
 use mathlib.Core.List.{List}
 use native.Mathlib.Nat.{mul-le-mul, mul-le-mul-left, mul-le-mul-right, mul-one, one-mul, div-le-of-le-mul}
 use native.Mathlib.Omega.{arith}
-use lib.ListN.{length, getD, set}
-use lib.Dec.{eqb, ltb, leb}
+use lib.ListN.{length, set}
+use lib.Dec.{ltb, leb}
 use borrow.Author.Tests.{eq-eqb, ne-eqb, lt-ltb, le-ltb}
 use Rattle.lists.specs.Loops.{mapAt, partAt}
 use Rattle.lists.proofs.Loops.{part-turn, part-done, part-length, part-none}
@@ -17,14 +17,11 @@ use Rattle.bins.specs.Edge.{binsOn, binOn, axisOn}
 use Rattle.bins.specs.Stencil.{InGrid, flatten, cells}
 use Rattle.bins.proofs.EdgeLaws.{bin-in}
 use Rattle.bins.proofs.FlatLaws.{flatten-less}
-use Rattle.frame.specs.declared.Side.{Side}
 use Rattle.frame.specs.declared.Frame.{Frame}
 use Rattle.frame.specs.declared.Spot.{Spot}
-use Rattle.frame.specs.declared.laying.Plan.{Plan}
 use Rattle.frame.specs.declared.laying.Plan.the-variants.{AllPairs, Laid, TooMany}
-use Rattle.frame.specs.Laying.{gridOf, cellOf, cellAt, placeAt, narrow, plainOf, crowded}
-use Rattle.frame.specs.Distance.{spotOf}
-use Rattle.frame.specs.Steps.{Inside, Framed, Gridded, planOf}
+use Rattle.frame.specs.Laying.{gridOf, cellOf, placeAt, narrow, plainOf, crowded}
+use Rattle.frame.specs.Steps.{Inside, Gridded, planOf}
 
 -- a factor of a product that is at most m
 pub factor-first : (a b c : ℕ) {m : ℕ} → 1 ≤ b → 1 ≤ c → a * b * c ≤ m → a ≤ m

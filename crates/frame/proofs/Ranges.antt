@@ -2,24 +2,22 @@
 use Prim.Native.Nat.{ℕ, _+_, _-_, _/_, _≤_, _<_}
 use native.Mathlib.Nat.{sub-zero, zero-add}
 use native.Mathlib.Omega.{arith}
-use mathlib.Core.List.{List, []}
-use lib.ListN.{length, getD}
-use mathlib.Core.Path.{_≡_, refl, sym, ap, _∙_}
-use mathlib.Core.Bool.{Bool, true, false, not, cond, _&&_}
+use mathlib.Core.List.{List}
+use lib.ListN.{length}
+use mathlib.Core.Path.{_≡_, refl, sym, _∙_}
+use mathlib.Core.Bool.{Bool, true, false, not, _&&_}
 use lib.Dec.{ltb, leb}
-use borrow.Author.Tests.{ltb-true, ltb-false, lt-ltb, le-ltb, leb-true, not-true, not-false}
-use Rattle.answer.specs.Seen.{Seen, answered, refused}
+use borrow.Author.Tests.{ltb-true, lt-ltb, le-ltb, leb-true, not-true, not-false}
+use Rattle.answer.specs.Seen.{answered, refused}
 use Rattle.lists.specs.Lists.{numbers, upTo, every, rows}
-use Rattle.lists.proofs.Cases.{and-both, both-and}
+use Rattle.lists.proofs.Cases.{and-both}
 use Rattle.lists.proofs.Exactness.{numbers-at, length-upTo}
 use Rattle.lists.proofs.Walks.{numbers-next, numbers-end, every-at}
-use Rattle.frame.specs.declared.Side.{Side}
 use Rattle.frame.specs.declared.Frame.{Frame}
 use Rattle.frame.specs.declared.Spot.{Spot}
 use Rattle.frame.specs.Distance.{spotOf, edgeOk, frameOk, spotOk, squaredOf, squaredSeen}
 use Rattle.frame.specs.Build.{lengthsBad, rangesOk, askedOf}
 use Rattle.exclusions.specs.Table.{isTable}
-use Rattle.answer.specs.declared.Done.{Done}
 use Rattle.answer.specs.declared.Done.the-variants.{Answered, Refused}
 use Rattle.answer.specs.declared.Refusal.the-variants.{Lengths, TooMany, Range, Order}
 use Rattle.frame.specs.Steps.{Sized, Inside, Framed}

@@ -1,17 +1,16 @@
 -- What a build of a whole-number frame answers, and what it leaves in everything lent: one outcome, made from the entry values alone, the tests in
 -- 01's order. The outcome's pairs are a list in 01's order, which is how the order of the stored pairs is said. Definitions only.
-use Prim.Native.Nat.{ℕ, _+_, _*_, _/_, _%_, _≤_}
+use Prim.Native.Nat.{ℕ, _+_, _/_, _%_}
 use mathlib.Core.Path.{_≡_}
 use mathlib.Core.Bool.{Bool, true, false, cond, not, _&&_, _||_}
 use mathlib.Core.List.{List, _++_}
-use lib.ListN.{length, take, drop}
+use lib.ListN.{length, drop}
 use lib.Dec.{eqb, ltb, leb}
 use Rattle.answer.specs.declared.Done.{Done}
 use Rattle.answer.specs.declared.Done.the-variants as Done·cases
 use Rattle.answer.specs.declared.Refusal.the-variants.{Lengths, TooMany, Range, Order, Cells, Room}
 use Rattle.answer.specs.Seen.{Seen, answered, refusedBy}
-use Rattle.lists.specs.Exact.{Exactly}
-use Rattle.lists.specs.Lists.{upTo, every, howMany, allPairs, rows, Two}
+use Rattle.lists.specs.Lists.{upTo, every, howMany, allPairs, rows}
 use Rattle.bins.specs.Stencil.{cells, touching}
 use Rattle.bins.specs.Traversal.{bin, pairsOf}
 use Rattle.bins.specs.Sort.{startsOf, itemsOf}
@@ -20,7 +19,7 @@ use Rattle.exclusions.specs.Table.{isTable, isRow}
 use Rattle.frame.specs.declared.Frame.{Frame}
 use Rattle.frame.specs.declared.Built.{Built}
 use Rattle.frame.specs.declared.Built.the-variants as Built·cases
-use Rattle.frame.specs.Distance.{spotOf, squareOf, squaredOf, nearOf, frameOk, spotOk}
+use Rattle.frame.specs.Distance.{spotOf, nearOf, frameOk, spotOk}
 use Rattle.frame.specs.Laying.{gridOf, cellAt, placeAt, plainOf, crowded}
 
 -- everything that a build is given; the last three are lent to be written
@@ -31,6 +30,10 @@ pub record Given : Type 0 where
   pub pairs : List ℕ
   pub starts : List ℕ
   pub items : List ℕ
+
+abbrev pub given : Frame → List ℕ → List ℕ → List ℕ → List ℕ → List ℕ → Given
+given f coordinates exclusions pairs starts items =
+    record { frame = f; coordinates = coordinates; exclusions = exclusions; pairs = pairs; starts = starts; items = items }
 
 -- an answered build's numbers, and what is seen of an answer
 pub record Counts : Type 0 where

@@ -1,7 +1,7 @@
 -- Demand 3 for the whole-number frame, said of the answer and of the lent pairs themselves. The order is said by `buildOf`. Definitions only.
 use Prim.Native.Nat.{ℕ, _*_, _≤_}
 use mathlib.Core.Path.{_≡_}
-use mathlib.Core.Bool.{Bool, false, not, _&&_}
+use mathlib.Core.Bool.{false, not, _&&_}
 use mathlib.Core.List.{List}
 use lib.ListN.{take}
 use Rattle.answer.specs.Seen.{answered}

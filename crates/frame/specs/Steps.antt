@@ -1,17 +1,17 @@
 -- What the private functions ask and say of themselves: nobody has to believe it. Definitions only.
-use Prim.Native.Nat.{ℕ, _+_, _*_, _/_, _≤_, _<_}
+use Prim.Native.Nat.{ℕ, _/_, _≤_, _<_}
 use mathlib.Core.Path.{_≡_}
 use mathlib.Core.Bool.{Bool, false, cond}
 use mathlib.Core.List.{List}
 use lib.ListN.{length}
 use Rattle.bins.specs.declared.Grid.{Grid}
 use Rattle.bins.specs.declared.Cell.{Cell}
-use Rattle.bins.specs.Stencil.{GoodGrid, InGrid, flatten, cells}
+use Rattle.bins.specs.Stencil.{InGrid, flatten, cells}
 use Rattle.bins.specs.Sort.{atomsIn}
 use Rattle.bins.specs.Traversal.{bin}
-use Rattle.bins.specs.Listing.{Scene}
+use Rattle.bins.specs.declared.Tally.{Tally}
+use Rattle.bins.specs.Listing.{Scene, listOf}
 use Rattle.exclusions.specs.Table.{lookedUp}
-use Rattle.frame.specs.declared.Side.{Side}
 use Rattle.frame.specs.declared.Frame.{Frame}
 use Rattle.frame.specs.declared.Spot.{Spot}
 use Rattle.frame.specs.declared.laying.Plan.{Plan}
@@ -54,6 +54,10 @@ sceneBy f xs table = record { excluded = lookedUp table; near = λ low high. nea
 -- the same, where it is known whether the pair is near
 unfoldable pub judged : List ℕ → Bool → Scene
 judged table near = record { excluded = lookedUp table; near = λ low high. near }
+
+-- from a tally t and a memory, the candidates lead to the tally r and the new memory
+abbrev pub Lists : Frame → List ℕ → List ℕ → Tally → List ℕ → List (ℕ × ℕ) → Tally → List ℕ → Type 0
+Lists f xs table t old cands r new = record { tally = r; mem = new } ≡ listOf (sceneBy f xs table) (record { tally = t; mem = old }) cands
 
 -- the atoms of a cell, rising
 abbrev pub atomsBy : Frame → List ℕ → Cell → List ℕ

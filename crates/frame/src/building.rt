@@ -19,7 +19,7 @@ ghost use Rattle.bins.specs.Stencil.{cells};
 ghost use Rattle.bins.specs.Listing.{laidOf};
 ghost use Rattle.exclusions.specs.Table.{isTable};
 ghost use Rattle.frame.specs.Laying.{plainOf};
-ghost use Rattle.frame.specs.Build.{seenBuilt, nearPairs, checksOf, shownOf, startsLaid, itemsLaid, Outcome, afterOf};
+ghost use Rattle.frame.specs.Build.{seenBuilt, nearPairs, checksOf, shownOf, startsLaid, itemsLaid, given, afterOf};
 ghost use Rattle.frame.specs.Steps.{Framed, Gridded};
 
 fn finish(t: Tally, room: usize, fallback: bool) -> Built
@@ -104,7 +104,7 @@ pub(crate) fn run(
 ) -> Built
     requires { ⌜ Framed f (now xs) × (isTable (rows (now table)) ≡ true) ⌝ }
     requires { ⌜ (2 ≤ length (now xs) / 3) × (length (now xs) / 3 ≤ 16384) × (length (now xs) / 3 ≤ length (now items)) ⌝ }
-    ensures { λ r. ⌜ record { answer = seenBuilt r; pairs = now (pairs .exit); starts = now (starts .exit); items = now (items .exit) } ≡ afterOf (record { frame = f; coordinates = now (xs .entry); exclusions = now (table .entry); pairs = now (pairs .entry); starts = now (starts .entry); items = now (items .entry) }) fine ⌝ }
+    ensures { λ r. ⌜ record { answer = seenBuilt r; pairs = now (pairs .exit); starts = now (starts .exit); items = now (items .exit) } ≡ afterOf (given f (now (xs .entry)) (now (table .entry)) (now (pairs .entry)) (now (starts .entry)) (now (items .entry))) fine ⌝ }
 {
     let p = plan_of(f, starts.len());
     match p {

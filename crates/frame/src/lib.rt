@@ -11,8 +11,7 @@ mod listing;
 mod sweep;
 mod tests;
 
-ghost use mathlib.Core.Path.{_≡_};
-ghost use Rattle.frame.specs.Build.{Given, BuildSays};
+ghost use Rattle.frame.specs.Build.{given, BuildSays};
 ghost use Rattle.frame.specs.Distance.{SquaredSays};
 ghost use Rattle.frame.specs.Listed.{BuildLists};
 
@@ -71,8 +70,8 @@ pub fn build(
     starts: &mut [u32],
     items: &mut [u32],
 ) -> Built
-    ensures says { λ r. ⌜ BuildSays (record { frame = f; coordinates = now (coordinates .entry); exclusions = now (exclusions .entry); pairs = now (pairs .entry); starts = now (starts .entry); items = now (items .entry) }) r (now (pairs .exit)) (now (starts .exit)) (now (items .exit)) ⌝ }
-    ensures lists { λ r. ⌜ BuildLists (record { frame = f; coordinates = now (coordinates .entry); exclusions = now (exclusions .entry); pairs = now (pairs .entry); starts = now (starts .entry); items = now (items .entry) }) r (now (pairs .exit)) ⌝ }
+    ensures says { λ r. ⌜ BuildSays (given f (now (coordinates .entry)) (now (exclusions .entry)) (now (pairs .entry)) (now (starts .entry)) (now (items .entry))) r (now (pairs .exit)) (now (starts .exit)) (now (items .exit)) ⌝ }
+    ensures lists { λ r. ⌜ BuildLists (given f (now (coordinates .entry)) (now (exclusions .entry)) (now (pairs .entry)) (now (starts .entry)) (now (items .entry))) r (now (pairs .exit)) ⌝ }
 {
     let a = tests::asked(f, coordinates, exclusions, items.len());
     if let Done::Refused(why) = a {

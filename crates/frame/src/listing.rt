@@ -8,9 +8,9 @@ ghost use mathlib.Core.Path.{_≡_};
 ghost use Prim.Native.Nat.{_+_, _-_, _/_, _≤_, _<_};
 ghost use lib.ListN.{length};
 ghost use Rattle.lists.specs.Lists.{numbers, ordered, withEach, inside, across, allPairs};
-ghost use Rattle.bins.specs.Listing.{considerOf, listOf, Listing, Ready, Below};
+ghost use Rattle.bins.specs.Listing.{considerOf, Ready, Below};
 ghost use Rattle.frame.specs.Distance.{spotOf};
-ghost use Rattle.frame.specs.Steps.{Framed, judged, sceneBy};
+ghost use Rattle.frame.specs.Steps.{Framed, judged, sceneBy, Lists};
 
 // A candidate pair, low atom first, of which it is known whether it is near.
 fn settle(table: &[u32], pairs: &mut [u32], t: Tally, low: u32, high: u32, near: bool) -> Tally
@@ -70,7 +70,7 @@ fn consider_part(
 ) -> Tally
     requires { ⌜ Framed f (now xs) ⌝ }
     requires { ⌜ (i < length (now xs) / 3) × Below (length (now xs) / 3) (now part) × Ready t (length (withEach i (now part))) ⌝ }
-    ensures { λ r. ⌜ record { tally = r; mem = now (pairs .exit) } ≡ listOf (sceneBy f (now (xs .entry)) (now (table .entry))) (record { tally = t; mem = now (pairs .entry) }) (withEach i (now (part .entry))) ⌝ }
+    ensures { λ r. ⌜ Lists f (now (xs .entry)) (now (table .entry)) t (now (pairs .entry)) (withEach i (now (part .entry))) r (now (pairs .exit)) ⌝ }
 {
     let a = spot_at(xs, i as usize);
     let mut now = t;
@@ -95,7 +95,7 @@ pub(crate) fn consider_cross(
 ) -> Tally
     requires { ⌜ Framed f (now xs) ⌝ }
     requires { ⌜ Below (length (now xs) / 3) (now home) × Below (length (now xs) / 3) (now other) × Ready t (length (across (now home) (now other))) ⌝ }
-    ensures { λ r. ⌜ record { tally = r; mem = now (pairs .exit) } ≡ listOf (sceneBy f (now (xs .entry)) (now (table .entry))) (record { tally = t; mem = now (pairs .entry) }) (across (now (home .entry)) (now (other .entry))) ⌝ }
+    ensures { λ r. ⌜ Lists f (now (xs .entry)) (now (table .entry)) t (now (pairs .entry)) (across (now (home .entry)) (now (other .entry))) r (now (pairs .exit)) ⌝ }
 {
     let mut now = t;
     let mut k = 0;
@@ -118,7 +118,7 @@ pub(crate) fn consider_home(
 ) -> Tally
     requires { ⌜ Framed f (now xs) ⌝ }
     requires { ⌜ Below (length (now xs) / 3) (now home) × Ready t (length (inside (now home))) ⌝ }
-    ensures { λ r. ⌜ record { tally = r; mem = now (pairs .exit) } ≡ listOf (sceneBy f (now (xs .entry)) (now (table .entry))) (record { tally = t; mem = now (pairs .entry) }) (inside (now (home .entry))) ⌝ }
+    ensures { λ r. ⌜ Lists f (now (xs .entry)) (now (table .entry)) t (now (pairs .entry)) (inside (now (home .entry))) r (now (pairs .exit)) ⌝ }
 {
     let mut now = t;
     let mut k = 0;
@@ -142,7 +142,7 @@ fn consider_above(
 ) -> Tally
     requires { ⌜ Framed f (now xs) ⌝ }
     requires { ⌜ (i < n) × (n ≤ length (now xs) / 3) × Ready t (length (withEach i (numbers (i + 1) (n - (i + 1))))) ⌝ }
-    ensures { λ r. ⌜ record { tally = r; mem = now (pairs .exit) } ≡ listOf (sceneBy f (now (xs .entry)) (now (table .entry))) (record { tally = t; mem = now (pairs .entry) }) (withEach i (numbers (i + 1) (n - (i + 1)))) ⌝ }
+    ensures { λ r. ⌜ Lists f (now (xs .entry)) (now (table .entry)) t (now (pairs .entry)) (withEach i (numbers (i + 1) (n - (i + 1)))) r (now (pairs .exit)) ⌝ }
 {
     let a = spot_at(xs, i as usize);
     let mut now = t;
@@ -165,7 +165,7 @@ pub(crate) fn consider_all(
 ) -> Tally
     requires { ⌜ Framed f (now xs) ⌝ }
     requires { ⌜ (n ≤ length (now xs) / 3) × Ready t (length (allPairs n)) ⌝ }
-    ensures { λ r. ⌜ record { tally = r; mem = now (pairs .exit) } ≡ listOf (sceneBy f (now (xs .entry)) (now (table .entry))) (record { tally = t; mem = now (pairs .entry) }) (allPairs n) ⌝ }
+    ensures { λ r. ⌜ Lists f (now (xs .entry)) (now (table .entry)) t (now (pairs .entry)) (allPairs n) r (now (pairs .exit)) ⌝ }
 {
     let mut now = t;
     let mut i = 0;

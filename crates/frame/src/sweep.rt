@@ -6,12 +6,11 @@ use bins::Cell;
 use bins::Grid;
 use bins::Reached;
 use bins::Tally;
-ghost use mathlib.Core.Path.{_≡_};
 ghost use lib.ListN.{length};
 ghost use Rattle.bins.specs.Stencil.{InGrid, cells};
 ghost use Rattle.bins.specs.Traversal.{visit, cellPairs, pairsOf};
-ghost use Rattle.bins.specs.Listing.{listOf, Listing, Ready};
-ghost use Rattle.frame.specs.Steps.{Swept, atomsBy, sceneBy};
+ghost use Rattle.bins.specs.Listing.{Ready};
+ghost use Rattle.frame.specs.Steps.{Swept, atomsBy, Lists};
 
 // A home cell and one row of the stencil.
 fn sweep_row(
@@ -29,7 +28,7 @@ fn sweep_row(
     requires { ⌜ Swept f g (now xs) (now starts) (now items) ⌝ }
     requires { ⌜ InGrid g home ⌝ }
     requires { ⌜ Ready t (length (visit g (atomsBy f (now xs)) home s)) ⌝ }
-    ensures { λ r. ⌜ record { tally = r; mem = now (pairs .exit) } ≡ listOf (sceneBy f (now (xs .entry)) (now (table .entry))) (record { tally = t; mem = now (pairs .entry) }) (visit g (atomsBy f (now (xs .entry))) home s) ⌝ }
+    ensures { λ r. ⌜ Lists f (now (xs .entry)) (now (table .entry)) t (now (pairs .entry)) (visit g (atomsBy f (now (xs .entry))) home s) r (now (pairs .exit)) ⌝ }
 {
     let o = bins::kernel::offset_index(g, home, s);
     let Reached::To(other) = o else {
@@ -58,7 +57,7 @@ fn sweep_cell(
     requires { ⌜ Swept f g (now xs) (now starts) (now items) ⌝ }
     requires { ⌜ InGrid g home ⌝ }
     requires { ⌜ Ready t (length (cellPairs g (atomsBy f (now xs)) home)) ⌝ }
-    ensures { λ r. ⌜ record { tally = r; mem = now (pairs .exit) } ≡ listOf (sceneBy f (now (xs .entry)) (now (table .entry))) (record { tally = t; mem = now (pairs .entry) }) (cellPairs g (atomsBy f (now (xs .entry))) home) ⌝ }
+    ensures { λ r. ⌜ Lists f (now (xs .entry)) (now (table .entry)) t (now (pairs .entry)) (cellPairs g (atomsBy f (now (xs .entry))) home) r (now (pairs .exit)) ⌝ }
 {
     let mut now = t;
     let mut s = 0;
@@ -82,7 +81,7 @@ pub(crate) fn sweep_all(
 ) -> Tally
     requires { ⌜ Swept f g (now xs) (now starts) (now items) ⌝ }
     requires { ⌜ Ready t (length (pairsOf g (atomsBy f (now xs)))) ⌝ }
-    ensures { λ r. ⌜ record { tally = r; mem = now (pairs .exit) } ≡ listOf (sceneBy f (now (xs .entry)) (now (table .entry))) (record { tally = t; mem = now (pairs .entry) }) (pairsOf g (atomsBy f (now (xs .entry)))) ⌝ }
+    ensures { λ r. ⌜ Lists f (now (xs .entry)) (now (table .entry)) t (now (pairs .entry)) (pairsOf g (atomsBy f (now (xs .entry)))) r (now (pairs .exit)) ⌝ }
 {
     let count = bins::kernel::cell_count(g);
     let mut now = t;

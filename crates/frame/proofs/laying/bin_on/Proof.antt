@@ -4,25 +4,16 @@ use borrow.Author.Needs.{needs}
 use native.Mathlib.Omega.{arith}
 use Rattle.frame.proofs.laying.bin_on.Statement.{statement}
 use Rattle.frame.proofs.laying.bin_on.Tie as tie
-use Rattle.frame.proofs.laying.bin_on.Reads as reads
-use Rattle.frame.proofs.laying.bin_on.Lts as lts
 
--- src/laying.rt:87:6
 mul-result : tie.Need-mul-result
 mul-result c = omega (arith, product-small {a = c .args .c} {b = c .args .bins} 4294967295 65535 (omega arith) (omega arith))
 
--- src/laying.rt:87:6
-div-result : tie.Need-div-result
-div-result c = search needs
-
--- src/laying.rt:87:5
 cast-result : tie.Need-cast-result
 cast-result c = omega (arith, bin-most (c .args .edge) (c .args .bins) (c .args .c) (c .pre))
 
--- src/laying.rt:83:1
 returns : tie.Need-returns
 unfolding binOn
 returns c = search needs
 
 pub bin-on-spec : {M : Type 1} → statement M
-bin-on-spec = tie.close (tie.spec mul-result div-result cast-result returns)
+bin-on-spec = tie.close (tie.spec mul-result (λ c. search needs) cast-result returns)

@@ -4,22 +4,14 @@ use native.Mathlib.Nat.{div-le-self}
 use native.Mathlib.Omega.{arith}
 use Rattle.frame.proofs.laying.bins_on.Statement.{statement}
 use Rattle.frame.proofs.laying.bins_on.Tie as tie
-use Rattle.frame.proofs.laying.bins_on.Reads as reads
-use Rattle.frame.proofs.laying.bins_on.Lts as lts
 
--- src/laying.rt:30:13
-div-n : tie.Need-div-n
-div-n c = search needs
-
--- src/laying.rt:26:1
 returns : tie.Need-returns
 unfolding binsOn
 returns c = omega (arith, div-le-self (c .before .args .edge) (c .before .args .radius))
 
--- src/laying.rt:26:1
 returns-2 : tie.Need-returns-2
 unfolding binsOn
 returns-2 c = omega (arith, div-le-self (c .before .args .edge) (c .before .args .radius))
 
 pub bins-on-spec : {M : Type 1} → statement M
-bins-on-spec = tie.close (tie.spec div-n returns returns-2)
+bins-on-spec = tie.close (tie.spec (λ c. search needs) returns returns-2)

@@ -2,54 +2,7 @@ use Rattle.frame.specs.Distance.{spotOf}
 use borrow.Author.Needs.{needs}
 use Rattle.frame.proofs.laying.spot_at.Statement.{statement}
 use Rattle.frame.proofs.laying.spot_at.Tie as tie
-use Rattle.frame.proofs.laying.spot_at.Reads as reads
-use Rattle.frame.proofs.laying.spot_at.Lts as lts
 
--- src/laying.rt:116:15
-mul-t3 : tie.Need-mul-t3
-mul-t3 c = search needs
-
--- src/laying.rt:116:12
-mul-t4 : tie.Need-mul-t4
-mul-t4 c = search needs
-
--- src/laying.rt:116:12
-shared-slice-read-t6 : tie.Need-shared-slice-read-t6
-shared-slice-read-t6 c = search needs
-
--- src/laying.rt:117:15
-mul-t7 : tie.Need-mul-t7
-mul-t7 c = search needs
-
--- src/laying.rt:117:15
-add-t8 : tie.Need-add-t8
-add-t8 c = search needs
-
--- src/laying.rt:117:12
-mul-t9 : tie.Need-mul-t9
-mul-t9 c = search needs
-
--- src/laying.rt:117:12
-shared-slice-read-t11 : tie.Need-shared-slice-read-t11
-shared-slice-read-t11 c = search needs
-
--- src/laying.rt:118:15
-mul-t12 : tie.Need-mul-t12
-mul-t12 c = search needs
-
--- src/laying.rt:118:15
-add-t13 : tie.Need-add-t13
-add-t13 c = search needs
-
--- src/laying.rt:118:12
-mul-t14 : tie.Need-mul-t14
-mul-t14 c = search needs
-
--- src/laying.rt:118:12
-shared-slice-read-t16 : tie.Need-shared-slice-read-t16
-shared-slice-read-t16 c = search needs
-
--- src/laying.rt:111:1
 returns : tie.Need-returns
 unfolding spotOf
 returns c = search needs
@@ -58,15 +11,15 @@ pub spot-at-spec : {M : Type 1} → statement M
 spot-at-spec =
     tie.close
     (tie.spec
-    mul-t3
-    mul-t4
-    shared-slice-read-t6
-    mul-t7
-    add-t8
-    mul-t9
-    shared-slice-read-t11
-    mul-t12
-    add-t13
-    mul-t14
-    shared-slice-read-t16
+    (λ c. search needs)
+    (λ c. search needs)
+    (λ c. search needs)
+    (λ c. search needs)
+    (λ c. search needs)
+    (λ c. search needs)
+    (λ c. search needs)
+    (λ c. search needs)
+    (λ c. search needs)
+    (λ c. search needs)
+    (λ c. search needs)
     returns)

@@ -1,17 +1,13 @@
-use Prim.Native.Nat.{_+_, _-_, _/_, _≤_}
-use Rattle.bins.proofs.Runs.{Run, run-begin, run-across, run-across-end, ready-across, below-rest}
+use Prim.Native.Nat.{_-_, _≤_}
+use Rattle.bins.proofs.Runs.{Run, run-begin, run-across, run-across-end, ready-across}
 use Rattle.frame.specs.Steps.{sceneBy}
 use Rattle.lists.specs.Lists.{across}
 use borrow.Author.Needs.{needs}
 use lib.ListN.{length, drop}
-use mathlib.Core.List.{[]}
 use mathlib.Core.Path.{_≡_, refl, _∙_}
 use native.Mathlib.Omega.{arith}
 use Rattle.frame.proofs.listing.consider_cross.Statement.{statement}
 use Rattle.frame.proofs.listing.consider_cross.Tie as tie
-use Rattle.frame.proofs.listing.consider_cross.Reads as reads
-use Rattle.frame.proofs.listing.consider_cross.Lts as lts
-use Rattle.frame.proofs.listing.consider_part.Reads as consider-part-reads
 
 abbrev Inv-loop : tie.InvT-loop
 Inv-loop f xs table pairs₀ home other now₀ k₀ pairs now k = (k ≤ length home) × (length pairs ≡ length pairs₀) × Run (sceneBy f xs table) (record { tally = now₀; mem = pairs₀ }) (record { tally = now; mem = pairs }) (across home other) (across (drop k home) other)
@@ -19,39 +15,27 @@ Inv-loop f xs table pairs₀ home other now₀ k₀ pairs now k = (k ≤ length 
 abbrev μ-loop : tie.MeasureT-loop
 μ-loop f xs table pairs₀ home other now₀ k₀ pairs now k = length home - k
 
--- src/listing.rt:77:5
 loop-holds : tie.Need-loop-holds Inv-loop μ-loop
 loop-holds c = (omega arith, refl, run-begin _ (c .before .before .before .before .before .pre .1 .2))
 
--- src/listing.rt:78:17
-mul-i : tie.Need-mul-i Inv-loop μ-loop
-mul-i c = search needs
-
--- src/listing.rt:78:17
 shared-slice-read-i : tie.Need-shared-slice-read-i Inv-loop μ-loop
 shared-slice-read-i c = omega (arith, c .before .loop-test .taken)
 
--- src/listing.rt:79:9
 consider-part-requires : tie.Need-consider-part-requires Inv-loop μ-loop
 consider-part-requires c κs = (c .before .before .before .before .before .before .before .before .before .pre .0, (c .before .before .before .before .before .before .before .before .before .pre .1 .0 _ (c .before .before .loop-test .taken), c .before .before .before .before .before .before .before .before .before .pre .1 .1, ready-across _ _ _ (c .before .before .loop-test .taken) (c .before .before .before .loop .inv .2 .ready)))
 
--- src/listing.rt:80:9
 add-k : tie.Need-add-k Inv-loop μ-loop
 add-k c = omega (arith, c .before .before .before .before .before .loop-test .taken)
 
--- src/listing.rt:77:5
 loop-less : tie.Need-loop-less Inv-loop μ-loop
 loop-less c = omega (arith, c .before .before .before .before .before .loop-test .taken)
 
--- src/listing.rt:77:5
 loop-again : tie.Need-loop-again Inv-loop μ-loop
 loop-again c = (omega arith, c .before .before .consider-part .kept .1 .1 .1 .0 ∙ c .before .before .before .before .before .before .loop .inv .1, run-across _ _ _ (c .before .before .before .before .before .loop-test .taken) _ (c .before .before .before .before .before .before .loop .inv .2) (c .before .before .consider-part .ensures))
 
--- src/listing.rt:70:1
 same-length : tie.Need-same-length Inv-loop μ-loop
 same-length c = c .before .loop .inv .1
 
--- src/listing.rt:70:1
 returns : tie.Need-returns Inv-loop μ-loop
 returns c = run-across-end _ _ _ (c .loop-test .left) (c .before .loop .inv .2)
 
@@ -62,7 +46,7 @@ consider-cross-spec =
     Inv-loop
     μ-loop
     loop-holds
-    mul-i
+    (λ c. search needs)
     shared-slice-read-i
     consider-part-requires
     add-k

@@ -9,9 +9,6 @@ use mathlib.Core.Path.{_≡_, refl, _∙_}
 use native.Mathlib.Omega.{arith}
 use Rattle.frame.proofs.listing.consider_home.Statement.{statement}
 use Rattle.frame.proofs.listing.consider_home.Tie as tie
-use Rattle.frame.proofs.listing.consider_home.Reads as reads
-use Rattle.frame.proofs.listing.consider_home.Lts as lts
-use Rattle.frame.proofs.listing.consider_part.Reads as consider-part-reads
 
 abbrev Inv-loop : tie.InvT-loop
 Inv-loop f xs table pairs₀ home now₀ k₀ pairs now k = (k ≤ length home) × (length pairs ≡ length pairs₀) × Run (sceneBy f xs table) (record { tally = now₀; mem = pairs₀ }) (record { tally = now; mem = pairs }) (inside home) (inside (drop k home))
@@ -19,59 +16,39 @@ Inv-loop f xs table pairs₀ home now₀ k₀ pairs now k = (k ≤ length home) 
 abbrev μ-loop : tie.MeasureT-loop
 μ-loop f xs table pairs₀ home now₀ k₀ pairs now k = length home - k
 
--- src/listing.rt:93:5
 loop-holds : tie.Need-loop-holds Inv-loop μ-loop
 loop-holds c = (omega arith, refl, run-begin _ (c .before .before .before .before .pre .1 .1))
 
--- src/listing.rt:94:17
-mul-i : tie.Need-mul-i Inv-loop μ-loop
-mul-i c = search needs
-
--- src/listing.rt:94:17
 shared-slice-read-i : tie.Need-shared-slice-read-i Inv-loop μ-loop
 shared-slice-read-i c = omega (arith, c .before .loop-test .taken)
 
--- src/listing.rt:95:64
 add-consider-part : tie.Need-add-consider-part Inv-loop μ-loop
 add-consider-part c = omega (arith, c .before .before .loop-test .taken)
 
--- src/listing.rt:95:58
-mul-consider-part : tie.Need-mul-consider-part Inv-loop μ-loop
-mul-consider-part c = search needs
-
--- src/listing.rt:95:58
 sub-consider-part : tie.Need-sub-consider-part Inv-loop μ-loop
 sub-consider-part c = omega (arith, c .before .before .loop-test .taken)
 
--- src/listing.rt:95:58
 part-consider-part-start : tie.Need-part-consider-part-start Inv-loop μ-loop
 part-consider-part-start c = omega (arith, c .before .before .loop-test .taken)
 
--- src/listing.rt:95:58
 part-consider-part-end : tie.Need-part-consider-part-end Inv-loop μ-loop
 part-consider-part-end c = omega (arith, c .before .before .loop-test .taken)
 
--- src/listing.rt:95:9
 consider-part-requires : tie.Need-consider-part-requires Inv-loop μ-loop
 consider-part-requires c κs = (c .before .before .before .before .before .before .before .before .before .pre .0, (c .before .before .before .before .before .before .before .before .before .pre .1 .0 _ (c .before .before .before .loop-test .taken), below-rest (length (c .before .before .before .before .before .before .before .before .before .args .xs .now) / 3) (c .before .before .before .before .before .before .before .before .before .args .home .now) (c .before .before .before .before .loop .k + 1) (c .before .before .before .before .before .before .before .before .before .pre .1 .0), ready-inside _ [] _ (c .before .before .before .loop-test .taken) (c .before .before .before .before .loop .inv .2 .ready)))
 
--- src/listing.rt:96:9
 add-k : tie.Need-add-k Inv-loop μ-loop
 add-k c = omega (arith, c .before .before .before .before .before .before .loop-test .taken)
 
--- src/listing.rt:93:5
 loop-less : tie.Need-loop-less Inv-loop μ-loop
 loop-less c = omega (arith, c .before .before .before .before .before .before .loop-test .taken)
 
--- src/listing.rt:93:5
 loop-again : tie.Need-loop-again Inv-loop μ-loop
 loop-again c = (omega arith, c .before .before .consider-part .kept .1 .1 .1 .0 ∙ c .before .before .before .before .before .before .before .loop .inv .1, run-inside _ [] _ (c .before .before .before .before .before .before .loop-test .taken) _ (c .before .before .before .before .before .before .before .loop .inv .2) (c .before .before .consider-part .ensures))
 
--- src/listing.rt:86:1
 same-length : tie.Need-same-length Inv-loop μ-loop
 same-length c = c .before .loop .inv .1
 
--- src/listing.rt:86:1
 returns : tie.Need-returns Inv-loop μ-loop
 returns c = run-inside-end _ [] _ (c .loop-test .left) (c .before .loop .inv .2)
 
@@ -82,10 +59,10 @@ consider-home-spec =
     Inv-loop
     μ-loop
     loop-holds
-    mul-i
+    (λ c. search needs)
     shared-slice-read-i
     add-consider-part
-    mul-consider-part
+    (λ c. search needs)
     sub-consider-part
     part-consider-part-start
     part-consider-part-end

@@ -1,4 +1,4 @@
-use Prim.Native.Nat.{_+_, _-_, _≤_}
+use Prim.Native.Nat.{_-_, _≤_}
 use Rattle.bins.proofs.Runs.{Run, run-begin, run-with, run-with-end, ready-with}
 use Rattle.frame.specs.Steps.{sceneBy}
 use Rattle.lists.proofs.Exactness.{length-with}
@@ -9,10 +9,6 @@ use mathlib.Core.Path.{_≡_, refl, _∙_}
 use native.Mathlib.Omega.{arith}
 use Rattle.frame.proofs.listing.consider_part.Statement.{statement}
 use Rattle.frame.proofs.listing.consider_part.Tie as tie
-use Rattle.frame.proofs.listing.consider_part.Reads as reads
-use Rattle.frame.proofs.listing.consider_part.Lts as lts
-use Rattle.frame.proofs.laying.spot_at.Reads as spot-at-reads
-use Rattle.frame.proofs.listing.consider.Reads as consider-reads
 
 abbrev Inv-loop : tie.InvT-loop
 Inv-loop f xs table pairs₀ i part a now₀ k₀ pairs now k = (k ≤ length part) × (length pairs ≡ length pairs₀) × Run (sceneBy f xs table) (record { tally = now₀; mem = pairs₀ }) (record { tally = now; mem = pairs }) (withEach i part) (withEach i (drop k part))
@@ -20,43 +16,21 @@ Inv-loop f xs table pairs₀ i part a now₀ k₀ pairs now k = (k ≤ length pa
 abbrev μ-loop : tie.MeasureT-loop
 μ-loop f xs table pairs₀ i part a now₀ k₀ pairs now k = length part - k
 
--- src/listing.rt:58:9
-spot-at-requires : tie.Need-spot-at-requires Inv-loop μ-loop
-spot-at-requires c κs = search needs
-
--- src/listing.rt:61:5
 loop-holds : tie.Need-loop-holds Inv-loop μ-loop
 loop-holds c = (omega arith, refl, run-begin _ (c .before .before .before .before .before .pre .1 .2))
 
--- src/listing.rt:62:17
-mul-j : tie.Need-mul-j Inv-loop μ-loop
-mul-j c = search needs
-
--- src/listing.rt:62:17
-shared-slice-read-j : tie.Need-shared-slice-read-j Inv-loop μ-loop
-shared-slice-read-j c = search needs
-
--- src/listing.rt:63:9
 consider-requires : tie.Need-consider-requires Inv-loop μ-loop
 consider-requires c κs = ((ready-with _ _ _ (c .before .before .loop-test .taken) (c .before .before .before .loop .inv .2), c .before .before .before .before .before .before .before .before .before .pre .0), (c .before .before .before .before .before .before .before .before .before .pre .1 .0, c .before .before .before .before .before .before .before .before .before .pre .1 .1 _ (c .before .before .loop-test .taken), c .before .before .before .before .spot-at .ensures))
 
--- src/listing.rt:64:9
 add-k : tie.Need-add-k Inv-loop μ-loop
 add-k c = omega (arith, c .before .before .before .before .before .loop-test .taken, c .before .before .before .before .before .before .before .before .before .before .before .before .pre .1 .2 .checks, length-with (c .before .before .before .before .before .before .before .before .before .before .before .before .args .i) (c .before .before .before .before .before .before .before .before .before .before .before .before .args .part .now))
 
--- src/listing.rt:61:5
-loop-less : tie.Need-loop-less Inv-loop μ-loop
-loop-less c = search needs
-
--- src/listing.rt:61:5
 loop-again : tie.Need-loop-again Inv-loop μ-loop
 loop-again c = (omega arith, c .before .before .consider .kept .1 .1 .1 .0 ∙ c .before .before .before .before .before .before .loop .inv .1, run-with _ _ _ (c .before .before .before .before .before .loop-test .taken) _ (c .before .before .before .before .before .before .loop .inv .2) (c .before .before .consider .ensures))
 
--- src/listing.rt:53:1
 same-length : tie.Need-same-length Inv-loop μ-loop
 same-length c = c .before .loop .inv .1
 
--- src/listing.rt:53:1
 returns : tie.Need-returns Inv-loop μ-loop
 returns c = run-with-end _ _ _ (c .loop-test .left) (c .before .loop .inv .2)
 
@@ -66,13 +40,13 @@ consider-part-spec =
     (tie.spec
     Inv-loop
     μ-loop
-    spot-at-requires
+    (λ c κs. search needs)
     loop-holds
-    mul-j
-    shared-slice-read-j
+    (λ c. search needs)
+    (λ c. search needs)
     consider-requires
     add-k
-    loop-less
+    (λ c. search needs)
     loop-again
     same-length
     returns)

@@ -1,4 +1,4 @@
-use Prim.Native.Nat.{_+_, _-_, _≤_}
+use Prim.Native.Nat.{_-_, _≤_}
 use Rattle.bins.proofs.Runs.{Run}
 use Rattle.bins.specs.Traversal.{pairsOf}
 use Rattle.frame.proofs.Listings.{cells-begin, cellsFrom, cell-turn, cell-ready, cells-end, cell-in}
@@ -9,11 +9,6 @@ use mathlib.Core.Path.{_≡_, refl, _∙_}
 use native.Mathlib.Omega.{arith}
 use Rattle.frame.proofs.sweep.sweep_all.Statement.{statement}
 use Rattle.frame.proofs.sweep.sweep_all.Tie as tie
-use Rattle.frame.proofs.sweep.sweep_all.Reads as reads
-use Rattle.frame.proofs.sweep.sweep_all.Lts as lts
-use Rattle.bins.proofs.kernel.cell_count.Reads as cell-count-reads
-use Rattle.bins.proofs.kernel.home_of.Reads as home-of-reads
-use Rattle.frame.proofs.sweep.sweep_cell.Reads as sweep-cell-reads
 
 abbrev Inv-loop : tie.InvT-loop
 Inv-loop f g xs table pairs₀ starts items count now₀ h₀ pairs now h = (h ≤ count) × (length pairs ≡ length pairs₀) × Run (sceneBy f xs table) (record { tally = now₀; mem = pairs₀ }) (record { tally = now; mem = pairs }) (pairsOf g (atomsBy f xs)) (cellsFrom g (atomsBy f xs) h)
@@ -21,39 +16,24 @@ Inv-loop f g xs table pairs₀ starts items count now₀ h₀ pairs now h = (h �
 abbrev μ-loop : tie.MeasureT-loop
 μ-loop f g xs table pairs₀ starts items count now₀ h₀ pairs now h = count - h
 
--- src/sweep.rt:87:9
-cell-count-requires : tie.Need-cell-count-requires Inv-loop μ-loop
-cell-count-requires c κs = search needs
-
--- src/sweep.rt:90:5
 loop-holds : tie.Need-loop-holds Inv-loop μ-loop
 loop-holds c = (omega arith, refl, cells-begin _ _ (c .before .before .before .before .before .before .pre .1))
 
--- src/sweep.rt:91:13
-home-of-requires : tie.Need-home-of-requires Inv-loop μ-loop
-home-of-requires c κs = search needs
-
--- src/sweep.rt:92:9
 sweep-cell-requires : tie.Need-sweep-cell-requires Inv-loop μ-loop
 sweep-cell-requires c κs = (c .before .before .before .before .before .before .before .before .before .before .pre .0, (cell-in (c .before .before .before .before .before .before .before .before .before .before .args .g) (c .before .before .before .loop .h) (c .before .before .before .before .cell-count .ensures) (c .before .before .loop-test .taken) (c .before .home-of .ensures), cell-ready (c .before .before .before .before .before .before .before .before .before .before .args .g) (atomsBy (c .before .before .before .before .before .before .before .before .before .before .args .f) (c .before .before .before .before .before .before .before .before .before .before .args .xs .now)) (c .before .before .before .loop .h) (c .before .before .before .before .cell-count .ensures) (c .before .before .loop-test .taken) (c .before .home-of .ensures) (c .before .before .before .loop .inv .2)))
 
--- src/sweep.rt:93:9
 add-h : tie.Need-add-h Inv-loop μ-loop
 add-h c = omega (arith, c .before .before .before .before .before .loop-test .taken)
 
--- src/sweep.rt:90:5
 loop-less : tie.Need-loop-less Inv-loop μ-loop
 loop-less c = omega (arith, c .before .before .before .before .before .loop-test .taken)
 
--- src/sweep.rt:90:5
 loop-again : tie.Need-loop-again Inv-loop μ-loop
 loop-again c = (omega (arith, c .before .before .before .before .before .loop-test .taken), c .before .before .sweep-cell .kept .1 .1 .1 .1 .0 ∙ c .before .before .before .before .before .before .loop .inv .1, cell-turn (c .before .before .before .before .before .before .before .before .before .before .before .before .before .args .g) (atomsBy (c .before .before .before .before .before .before .before .before .before .before .before .before .before .args .f) (c .before .before .before .before .before .before .before .before .before .before .before .before .before .args .xs .now)) (c .before .before .before .before .before .before .loop .h) (c .before .before .before .before .before .before .before .cell-count .ensures) (c .before .before .before .before .before .loop-test .taken) (c .before .before .before .before .home-of .ensures) _ (c .before .before .before .before .before .before .loop .inv .2) (c .before .before .sweep-cell .ensures))
 
--- src/sweep.rt:73:1
 same-length : tie.Need-same-length Inv-loop μ-loop
 same-length c = c .before .loop .inv .1
 
--- src/sweep.rt:73:1
 returns : tie.Need-returns Inv-loop μ-loop
 returns c = cells-end (c .before .before .before .before .before .before .before .before .args .g) (atomsBy (c .before .before .before .before .before .before .before .before .args .f) (c .before .before .before .before .before .before .before .before .args .xs .now)) (c .before .loop .h) (c .before .before .cell-count .ensures) (c .loop-test .left) (c .before .loop .inv .2)
 
@@ -63,9 +43,9 @@ sweep-all-spec =
     (tie.spec
     Inv-loop
     μ-loop
-    cell-count-requires
+    (λ c κs. search needs)
     loop-holds
-    home-of-requires
+    (λ c κs. search needs)
     sweep-cell-requires
     add-h
     loop-less

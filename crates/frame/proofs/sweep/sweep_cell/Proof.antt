@@ -1,4 +1,4 @@
-use Prim.Native.Nat.{_+_, _-_, _≤_}
+use Prim.Native.Nat.{_-_, _≤_}
 use Rattle.bins.proofs.Runs.{Run, run-each, run-each-end, ready-each}
 use Rattle.bins.specs.Traversal.{visit, cellPairs}
 use Rattle.frame.proofs.Listings.{rows-begin, rowsFrom}
@@ -8,9 +8,6 @@ use mathlib.Core.Path.{_≡_, refl, _∙_}
 use native.Mathlib.Omega.{arith}
 use Rattle.frame.proofs.sweep.sweep_cell.Statement.{statement}
 use Rattle.frame.proofs.sweep.sweep_cell.Tie as tie
-use Rattle.frame.proofs.sweep.sweep_cell.Reads as reads
-use Rattle.frame.proofs.sweep.sweep_cell.Lts as lts
-use Rattle.frame.proofs.sweep.sweep_row.Reads as sweep-row-reads
 
 abbrev Inv-loop : tie.InvT-loop
 Inv-loop f g xs table pairs₀ starts items home now₀ s₀ pairs now s = (s ≤ 14) × (length pairs ≡ length pairs₀) × Run (sceneBy f xs table) (record { tally = now₀; mem = pairs₀ }) (record { tally = now; mem = pairs }) (cellPairs g (atomsBy f xs) home) (rowsFrom g (atomsBy f xs) home s)
@@ -18,31 +15,24 @@ Inv-loop f g xs table pairs₀ starts items home now₀ s₀ pairs now s = (s �
 abbrev μ-loop : tie.MeasureT-loop
 μ-loop f g xs table pairs₀ starts items home now₀ s₀ pairs now s = 14 - s
 
--- src/sweep.rt:65:5
 loop-holds : tie.Need-loop-holds Inv-loop μ-loop
 loop-holds c = (omega arith, refl, rows-begin _ _ _ (c .before .before .before .before .before .pre .1 .1))
 
--- src/sweep.rt:66:9
 sweep-row-requires : tie.Need-sweep-row-requires Inv-loop μ-loop
 sweep-row-requires c κs = (c .before .before .before .before .before .before .before .before .pre .0, (c .before .before .before .before .before .before .before .before .pre .1 .0, ready-each 14 (c .before .before .loop .s) (visit (c .before .before .before .before .before .before .before .before .args .g) (atomsBy (c .before .before .before .before .before .before .before .before .args .f) (c .before .before .before .before .before .before .before .before .args .xs .now)) (c .before .before .before .before .before .before .before .before .args .home)) (c .before .loop-test .taken) (c .before .before .loop .inv .2)))
 
--- src/sweep.rt:67:9
 add-s : tie.Need-add-s Inv-loop μ-loop
 add-s c = omega (arith, c .before .before .before .before .loop-test .taken)
 
--- src/sweep.rt:65:5
 loop-less : tie.Need-loop-less Inv-loop μ-loop
 loop-less c = omega (arith, c .before .before .before .before .loop-test .taken)
 
--- src/sweep.rt:65:5
 loop-again : tie.Need-loop-again Inv-loop μ-loop
 loop-again c = (omega (arith, c .before .before .before .before .loop-test .taken), c .before .before .sweep-row .kept .1 .1 .1 .1 .0 ∙ c .before .before .before .before .before .loop .inv .1, run-each 14 (c .before .before .before .before .before .loop .s) (visit (c .before .before .before .before .before .before .before .before .before .before .before .args .g) (atomsBy (c .before .before .before .before .before .before .before .before .before .before .before .args .f) (c .before .before .before .before .before .before .before .before .before .before .before .args .xs .now)) (c .before .before .before .before .before .before .before .before .before .before .before .args .home)) (c .before .before .before .before .loop-test .taken) _ (c .before .before .before .before .before .loop .inv .2) (c .before .before .sweep-row .ensures))
 
--- src/sweep.rt:47:1
 same-length : tie.Need-same-length Inv-loop μ-loop
 same-length c = c .before .loop .inv .1
 
--- src/sweep.rt:47:1
 returns : tie.Need-returns Inv-loop μ-loop
 returns c = run-each-end 14 (c .before .loop .s) (visit (c .before .before .before .before .before .before .before .args .g) (atomsBy (c .before .before .before .before .before .before .before .args .f) (c .before .before .before .before .before .before .before .args .xs .now)) (c .before .before .before .before .before .before .before .args .home)) (c .loop-test .left) (c .before .loop .inv .2)
 

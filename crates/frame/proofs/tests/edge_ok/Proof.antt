@@ -2,10 +2,7 @@ use Rattle.frame.specs.Distance.{edgeOk}
 use borrow.Author.Needs.{needs}
 use Rattle.frame.proofs.tests.edge_ok.Statement.{statement}
 use Rattle.frame.proofs.tests.edge_ok.Tie as tie
-use Rattle.frame.proofs.tests.edge_ok.Reads as reads
-use Rattle.frame.proofs.tests.edge_ok.Lts as lts
 
--- src/tests.rt:7:1
 returns : tie.Need-returns
 unfolding edgeOk
 returns c = search needs

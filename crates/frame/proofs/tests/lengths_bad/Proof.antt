@@ -2,10 +2,7 @@ use Rattle.frame.specs.Build.{lengthsBad}
 use borrow.Author.Needs.{needs}
 use Rattle.frame.proofs.tests.lengths_bad.Statement.{statement}
 use Rattle.frame.proofs.tests.lengths_bad.Tie as tie
-use Rattle.frame.proofs.tests.lengths_bad.Reads as reads
-use Rattle.frame.proofs.tests.lengths_bad.Lts as lts
 
--- src/tests.rt:56:1
 returns : tie.Need-returns
 unfolding lengthsBad
 returns c = search needs

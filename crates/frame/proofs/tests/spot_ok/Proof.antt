@@ -2,10 +2,7 @@ use Rattle.frame.specs.Distance.{spotOk}
 use borrow.Author.Needs.{needs}
 use Rattle.frame.proofs.tests.spot_ok.Statement.{statement}
 use Rattle.frame.proofs.tests.spot_ok.Tie as tie
-use Rattle.frame.proofs.tests.spot_ok.Reads as reads
-use Rattle.frame.proofs.tests.spot_ok.Lts as lts
 
--- src/tests.rt:20:1
 returns : tie.Need-returns
 unfolding spotOk
 returns c = search needs

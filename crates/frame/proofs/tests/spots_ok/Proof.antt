@@ -6,10 +6,6 @@ use lib.ListN.{length}
 use native.Mathlib.Omega.{arith}
 use Rattle.frame.proofs.tests.spots_ok.Statement.{statement}
 use Rattle.frame.proofs.tests.spots_ok.Tie as tie
-use Rattle.frame.proofs.tests.spots_ok.Reads as reads
-use Rattle.frame.proofs.tests.spots_ok.Lts as lts
-use Rattle.frame.proofs.laying.spot_at.Reads as spot-at-reads
-use Rattle.frame.proofs.tests.spot_ok.Reads as spot-ok-reads
 
 abbrev Inv-loop : tie.InvT-loop
 Inv-loop f xs n i₀ i = Passing (λ k. spotOk f (spotOf xs k)) (length xs / 3) i
@@ -17,35 +13,24 @@ Inv-loop f xs n i₀ i = Passing (λ k. spotOk f (spotOf xs k)) (length xs / 3) 
 abbrev μ-loop : tie.MeasureT-loop
 μ-loop f xs n i₀ i = n - i
 
--- src/tests.rt:38:5
 loop-holds : tie.Need-loop-holds Inv-loop μ-loop
 loop-holds c = passing-begin _ _
 
--- src/tests.rt:39:24
 spot-at-requires : tie.Need-spot-at-requires Inv-loop μ-loop
 spot-at-requires c κs = omega (arith, c .loop-test .taken)
 
--- src/tests.rt:39:13
-spot-ok-requires : tie.Need-spot-ok-requires Inv-loop μ-loop
-spot-ok-requires c κs = search needs
-
--- src/tests.rt:40:13
 returns : tie.Need-returns Inv-loop μ-loop
 returns c = passing-fails _ _ (c .before .before .before .before .loop .inv) (c .before .before .before .loop-test .taken) (failed (rw (c .before .before .spot-at .ensures) at (c .before .spot-ok .ensures)) (c .if1 .taken))
 
--- src/tests.rt:42:9
 add-i : tie.Need-add-i Inv-loop μ-loop
 add-i c = omega (arith, c .before .before .before .loop-test .taken)
 
--- src/tests.rt:38:5
 loop-less : tie.Need-loop-less Inv-loop μ-loop
 loop-less c = omega (arith, c .before .before .before .loop-test .taken)
 
--- src/tests.rt:38:5
 loop-again : tie.Need-loop-again Inv-loop μ-loop
 loop-again c = passing-turn _ _ (c .before .before .before .before .loop .inv) (c .before .before .before .loop-test .taken) (passed (rw (c .before .before .spot-at .ensures) at (c .before .spot-ok .ensures)) (c .if1 .left))
 
--- src/tests.rt:33:1
 returns-2 : tie.Need-returns-2 Inv-loop μ-loop
 returns-2 c = passing-end _ _ (c .before .loop .inv) (c .loop-test .left)
 
@@ -57,7 +42,7 @@ spots-ok-spec =
     μ-loop
     loop-holds
     spot-at-requires
-    spot-ok-requires
+    (λ c κs. search needs)
     returns
     add-i
     loop-less

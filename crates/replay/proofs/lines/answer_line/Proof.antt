@@ -1,3 +1,4 @@
+-- `replay::lines::answer_line`: the words of a parsed case are read back as the line's values, and its answer is told; any other line is no case.
 use Rattle.replay.proofs.Answers.{line-case, line-none}
 use Rattle.words.proofs.Reading.{case-room, parsed-case, parsed-none}
 use borrow.Author.Needs.{needs}
