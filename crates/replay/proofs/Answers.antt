@@ -1,9 +1,10 @@
 -- Laws of an answer as a line.
-use Prim.Native.Nat.{ℕ, _+_, _/_, _≤_, _<_, min}
+use Prim.Native.Nat.{ℕ, _+_, _-_, _/_, _≤_, _<_, min}
 use mathlib.Core.Path.{_≡_, refl, sym, ap, _∙_}
-use mathlib.Core.Bool.{true, false}
+use mathlib.Core.Bool.{Bool, true, false}
 use mathlib.Core.List.{List, [], _∷_}
 use native.Mathlib.Omega.{arith}
+use lib.Dec.{ltb}
 use lib.ListN.{length, take, getD, length-take, List·getD-eq-default}
 use borrow.Author.Tests.{lt-ltb, le-ltb}
 use Rattle.words.specs.Put.{Put}
@@ -11,8 +12,8 @@ use Rattle.words.specs.Text.{hex2, valuesAt, formedIn, held, lineText, noCaseTe
 use Rattle.words.proofs.Writing.{put-none, put-same, put-front, cases}
 use Rattle.words.proofs.Reading.{held-words}
 use Rattle.replay.specs.Floats.{floatCases, floatAnswer, none}
-use Rattle.replay.specs.Calls.{answerOf}
-use Rattle.replay.specs.Lines.{toldLine, lineAnswer}
+use Rattle.replay.specs.Calls.{answerOf, given, Told}
+use Rattle.replay.specs.Lines.{toldLine, lineAnswer, givenLine}
 
 -- a number that is no call
 pub no-float : (call : ℕ) (ws : List ℕ) → 12 ≤ call → floatAnswer call ws ≡ []
@@ -62,3 +63,21 @@ line-case s words most call count {m} h e q =
 pub line-none : (s : List ℕ) (room most : ℕ) {o r : List ℕ} {at k : ℕ} → formedIn s room ≡ false → Put o at noCaseText r k → Put o at (lineAnswer room most s) r k
 unfolding lineAnswer
 line-none s room most h q = simp h q
+
+-- what is written is within the room
+pub put-bound : {l vs m : List ℕ} {i j : ℕ} → Put l i vs m j → j ≤ i + (length l - i)
+put-bound p = omega (arith, p .next)
+
+pub told-given : {b : Bool} {l vs m : List ℕ} {i j : ℕ} → Put l i vs m j → Told b l i vs m j
+told-given p = record { within = put-bound p; told = λ e. p }
+
+pub told-bound : {b : Bool} {l vs m : List ℕ} {i j : ℕ} → b ≡ false → j ≤ i + (length l - i) → Told b l i vs m j
+told-bound e h = record { within = h; told = λ t. absurd (let z : _≡_ {A = Bool} true false = sym t ∙ e in let y : _≡_ {A = ℕ} 0 1 = cc in omega arith) }
+
+-- a line that is a case, and one that is none, with what is given of each
+pub told-case : (s words : List ℕ) (most call count : ℕ) {m o r : List ℕ} {at k : ℕ}
+    → (formedIn s (length words) ≡ true) × (call ≡ hex2 s 0) × (count ≡ length s / 17) → m ≡ held s words
+    → Told (given call) o at (toldLine call (take most (answerOf call (take count m)))) r k → Told (givenLine (length words) s) o at (lineAnswer (length words) most s) r k
+unfolding givenLine
+told-case s words most call count h e q =
+    record { within = q .within; told = λ t. line-case s words most call count h e (q .told (ap (λ (n : ℕ). ltb n 12) (h .1) ∙ (simp (h .0) at t))) }

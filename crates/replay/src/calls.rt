@@ -1,5 +1,7 @@
 // Which call a case asks for.
 use crate::floats;
+ghost use Prim.Native.Nat.{_≤_};
+ghost use lib.ListN.{length};
 ghost use Rattle.words.specs.Put.{Put};
 ghost use Rattle.replay.specs.Calls.{answerOf};
 
@@ -11,4 +13,17 @@ pub fn answer(call: u64, ws: &[u64], out: &mut [u64]) -> usize
         return floats::answer(call, ws, out);
     }
     0
+}
+
+// The same of the calls whose answers are compared by running.
+pub fn compared_answer(call: u64, ws: &[u64], out: &mut [u64]) -> usize
+    ensures { λ r. ⌜ r ≤ length (now (out .exit)) ⌝ }
+{
+    if call < 32 {
+        return replay_cell::answer(call, ws, out);
+    }
+    if call < 48 {
+        return replay_virial::answer(call, ws, out);
+    }
+    replay_bins::answer(call, ws, out)
 }

@@ -2,16 +2,15 @@
 use Prim.Native.Nat.{ℕ, zero, suc, _+_, _-_, _≤_, _<_}
 use mathlib.Core.Path.{_≡_, refl, sym, ap, _∙_}
 use mathlib.Core.Bool.{Bool, true, false, cond, _&&_}
-use mathlib.Core.List.{List, [], _∷_, map}
-use lib.ListN.{length, getD, take, drop, set, length-drop, length-map}
-use lib.Seq.{sets, drop-cons, length-sets, length-take-le}
+use mathlib.Core.List.{List, [], _∷_}
+use lib.ListN.{length, getD, take, drop, set}
+use lib.Seq.{sets, drop-cons}
 use lib.Dec.{ltb, leb}
-use lib.Ieee.{Float}
 use native.Mathlib.Numerals.{add-one}
 use native.Mathlib.Omega.{arith}
 use borrow.Author.Tests.{ltb-true, leb-true, lt-ltb, le-ltb}
-use Rattle.words.specs.Take.{wordAt, floatOf, smallAt, allBelow, elementsAt, fitsAt, smallFitsAt, TakenTable}
-use Rattle.words.proofs.Writing.{cases, read-back}
+use Rattle.words.specs.Take.{wordAt, smallAt, allBelow, fitsAt, TakenTable}
+use Rattle.words.proofs.Writing.{cases}
 
 pub small-below : (limit : ℕ) (ws : List ℕ) (at : ℕ) → 0 < limit → smallAt limit ws at < limit
 unfolding smallAt
@@ -56,58 +55,7 @@ fits-bounds room ws at h =
 
 module _ {A : Type 0} {sound : Bool} {ws : List ℕ} {at : ℕ} {vs before : List A} where
   pub taken-none : sound ≡ false → TakenTable sound ws at vs before before 0 (length ws + 1)
-  taken-none h = record { counted = simp h; ended = simp h; stored = simp h; within = omega arith; part = refl }
+  taken-none h = record { counted = simp h; ended = simp h; stored = simp h }
 
-  pub taken-all : {after : List A} {n : ℕ} → sound ≡ true → n ≡ wordAt ws at → n ≤ length before → after ≡ sets before 0 vs → TakenTable sound ws at vs before after n (at + 1 + n)
-  taken-all {after} {n} h e w s =
-      let m : n ≤ length after = omega (arith, ap length s, length-sets before 0 vs) in
-      record {
-        counted = simp h e;
-        ended = simp h (ap (λ (k : ℕ). at + 1 + k) e);
-        stored = simp h s;
-        within = m;
-        part = sym (length-take-le n after m);
-      }
-
--- ---- what a caller has of the tables that it took, once the last place is not past the end
-
--- so was the place where the table began
-pub taken-sound : {A : Type 0} (sound : Bool) {ws : List ℕ} {at : ℕ} {vs before after : List A} {count next : ℕ} → TakenTable sound ws at vs before after count next
-    → next ≤ length ws → sound ≡ true
-taken-sound true t h = refl
-taken-sound false {ws} {next = next} t h = absurd (let e : next ≡ length ws + 1 = t .ended in omega arith)
-
-taken-part : {A : Type 0} (sound : Bool) {ws : List ℕ} {at : ℕ} {vs before after : List A} {count next : ℕ} → TakenTable sound ws at vs before after count next
-    → sound ≡ true → length vs ≡ wordAt ws at → take count after ≡ vs
-taken-part true {vs = vs} {before = before} {after = after} {count = count} t h e =
-    let s : after ≡ sets before 0 vs = t .stored in
-    ap (take count) s ∙ read-back before vs count (t .counted ∙ sym e) (omega (arith, t .within, ap length s, length-sets before 0 vs))
-taken-part false {count = count} t h e = absurd (let z : _≡_ {A = ℕ} 0 1 = cc in omega arith)
-
-elements-length : (room : ℕ) (ws : List ℕ) (at : ℕ) → fitsAt room ws at ≡ true → length (elementsAt ws at) ≡ wordAt ws at
-elements-length room ws at h =
-    let b = fits-bounds room ws at h in
-    length-take-le (wordAt ws at) (drop (at + 1) ws) (omega (arith, b .0, b .1, length-drop (at + 1) ws))
-
-small-fits : (room : ℕ) (ws : List ℕ) (at : ℕ) → smallFitsAt room ws at ≡ true → fitsAt room ws at ≡ true
-unfolding smallFitsAt
-small-fits room ws at h = both (fitsAt room ws at) (allBelow 4294967296 (elementsAt ws at)) h .0
-
-module _ (room : ℕ) {ws : List ℕ} {at : ℕ} {count next : ℕ} where
-  -- the place where the table began, and the part of the lent memory that it is
-  pub floats-began : {before after : List Float} → TakenTable (fitsAt room ws at) ws at (map floatOf (elementsAt ws at)) before after count next → next ≤ length ws → at < length ws
-  floats-began t h = fits-bounds room ws at (taken-sound (fitsAt room ws at) t h) .0
-
-  pub floats-taken : {before after : List Float} → TakenTable (fitsAt room ws at) ws at (map floatOf (elementsAt ws at)) before after count next → next ≤ length ws
-      → take count after ≡ map floatOf (elementsAt ws at)
-  floats-taken t h =
-      let s = taken-sound (fitsAt room ws at) t h in
-      taken-part (fitsAt room ws at) t s (length-map (elementsAt ws at) floatOf ∙ elements-length room ws at s)
-
-  pub u32s-began : {before after : List ℕ} → TakenTable (smallFitsAt room ws at) ws at (elementsAt ws at) before after count next → next ≤ length ws → at < length ws
-  u32s-began t h = fits-bounds room ws at (small-fits room ws at (taken-sound (smallFitsAt room ws at) t h)) .0
-
-  pub u32s-taken : {before after : List ℕ} → TakenTable (smallFitsAt room ws at) ws at (elementsAt ws at) before after count next → next ≤ length ws → take count after ≡ elementsAt ws at
-  u32s-taken t h =
-      let s = taken-sound (smallFitsAt room ws at) t h in
-      taken-part (smallFitsAt room ws at) t s (elements-length room ws at (small-fits room ws at s))
+  pub taken-all : {after : List A} {n : ℕ} → sound ≡ true → n ≡ wordAt ws at → after ≡ sets before 0 vs → TakenTable sound ws at vs before after n (at + 1 + n)
+  taken-all h e s = record { counted = simp h e; ended = simp h (ap (λ (k : ℕ). at + 1 + k) e); stored = simp h s }

@@ -82,8 +82,10 @@ held-front l vs =
     ∙ (sym (sets-append a (drop (length l) vs) l 0) ∙ sets-out (drop (length l) vs) (sets l 0 a) (0 + length a) past))
 
 -- all that was written, read back
-pub read-back : {A : Type 0} (l vs : List A) (n : ℕ) → n ≡ length vs → n ≤ length l → take n (sets l 0 vs) ≡ vs
-read-back l vs n e h = ap (take n) (sets-eq vs l 0 (omega arith)) ∙ take-at vs (drop (0 + length vs) l) n (sym e)
+pub read-back : (l vs : List ℕ) (n : ℕ) → n ≡ length vs → n ≤ length l → take n (sets l 0 vs) ≡ vs
+read-back l vs n e h =
+    let z : 0 + length vs ≡ n = omega arith in
+    ap (take n) (sets-eq vs l 0 (omega arith)) ∙ take-at vs (drop (0 + length vs) l) n (sym e)
 
 pub put-front : {l vs m : List ℕ} {n : ℕ} → Put l 0 vs m n → take n m ≡ take (length l) vs
 put-front {l} {vs} {m} {n} p =

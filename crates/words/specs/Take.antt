@@ -1,5 +1,5 @@
 -- Taking a case's arguments out of its words, one after the other. A place past the end says that a word was missing or was no such argument.
-use Prim.Native.Nat.{ℕ, _+_, _-_, _≤_, min}
+use Prim.Native.Nat.{ℕ, _+_, _-_, min}
 use mathlib.Core.Path.{_≡_}
 use mathlib.Core.Bool.{Bool, true, false, cond, _&&_}
 use mathlib.Core.List.{List, [], _∷_}
@@ -47,18 +47,8 @@ fitsAt room ws at = ltb at (length ws) && (ltb (wordAt ws at) (length ws - at) &
 unfoldable pub smallFitsAt : ℕ → List ℕ → ℕ → Bool
 smallFitsAt room ws at = fitsAt room ws at && allBelow 4294967296 (elementsAt ws at)
 
--- how many elements are taken, and the place after them; none, and past the end, where that is not sound
-abbrev pub countAt : Bool → List ℕ → ℕ → ℕ
-countAt sound ws at = cond sound (wordAt ws at) 0
-
-abbrev pub afterTable : Bool → List ℕ → ℕ → ℕ
-afterTable sound ws at = cond sound (at + 1 + wordAt ws at) (length ws + 1)
-
--- A table with the elements vs is taken from a place of ws, if that is sound: its count, the place after it, and the lent memory before and after.
--- (The last two fields follow; lending the table, `&after[..count]`, asks for them.)
+-- A table with the elements vs is taken from a place of ws, if that is `sound`: its count, the place after it, and the lent memory before and after.
 pub record TakenTable {A : Type 0} (sound : Bool) (ws : List ℕ) (at : ℕ) (vs before after : List A) (count next : ℕ) : Type 0 where
-  pub counted : count ≡ countAt sound ws at
-  pub ended : next ≡ afterTable sound ws at
+  pub counted : count ≡ cond sound (wordAt ws at) 0
+  pub ended : next ≡ cond sound (at + 1 + wordAt ws at) (length ws + 1)
   pub stored : after ≡ cond sound (sets before 0 vs) before
-  pub within : count ≤ length after
-  pub part : count ≡ length (take count after)

@@ -1,4 +1,3 @@
--- `replay::hear_all`: what is pending stays within its memory. The measure is how many bytes are left.
 use Prim.Native.Nat.{_≤_, _-_}
 use borrow.Author.Needs.{needs}
 use lib.ListN.{length}

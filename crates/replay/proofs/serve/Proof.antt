@@ -1,4 +1,3 @@
--- `replay::serve`: what is pending stays within its memory, and what was read within the chunk. The measure is the turns.
 use Prim.Native.Nat.{_≤_, _-_}
 use borrow.Author.Needs.{needs}
 use lib.ListN.{length}

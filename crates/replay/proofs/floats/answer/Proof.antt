@@ -1,4 +1,3 @@
--- `replay::floats::answer`: each arm is its case; a number below 12 that is none of 1 to 11 is 0.
 use Prim.Native.Nat.{_<_}
 use Rattle.replay.proofs.Answers.{no-float, lower, below-one}
 use Rattle.replay.specs.Floats.{floatAnswer}

@@ -1,5 +1,4 @@
--- `replay::lines::answer_line`: the words of a parsed case are read back as the line's values, and its answer is told; any other line is no case.
-use Rattle.replay.proofs.Answers.{line-case, line-none}
+use Rattle.replay.proofs.Answers.{line-none, told-case, told-given}
 use Rattle.words.proofs.Reading.{case-room, parsed-case, parsed-none}
 use borrow.Author.Needs.{needs}
 use lib.ListN.{length}
@@ -9,17 +8,17 @@ use native.Mathlib.Omega.{arith}
 use Rattle.replay.proofs.lines.answer_line.Statement.{statement}
 use Rattle.replay.proofs.lines.answer_line.Tie as tie
 
-slice-reshare-prefix-told : tie.Need-slice-reshare-prefix-told
-slice-reshare-prefix-told c = omega (arith, case-room (c .before .before .before .before .before .before .before .before .before .before .before .args .line .now) (length (c .before .before .before .before .before .before .before .before .before .before .before .args .words .now)) _ _ (sym (c .before .before .before .before .before .parse .ensures .0) ∙ c .before .parsed .given .1), c .before .before .before .before .before .parse .kept .1 .0)
+slice-reshare-prefix-told-call : tie.Need-slice-reshare-prefix-told-call
+slice-reshare-prefix-told-call c = omega (arith, case-room (c .before .before .before .before .before .before .before .before .before .before .before .args .line .now) (length (c .before .before .before .before .before .before .before .before .before .before .before .args .words .now)) _ _ (sym (c .before .before .before .before .before .parse .ensures .0) ∙ c .before .parsed .given .1), c .before .before .before .before .before .parse .kept .1 .0)
 
-slice-aggregate-told : tie.Need-slice-aggregate-told
-slice-aggregate-told c = sym (length-take-le _ _ (omega (arith, case-room (c .before .before .before .before .before .before .before .before .before .before .before .before .args .line .now) (length (c .before .before .before .before .before .before .before .before .before .before .before .before .args .words .now)) _ _ (sym (c .before .before .before .before .before .before .parse .ensures .0) ∙ c .before .before .parsed .given .1), c .before .before .before .before .before .before .parse .kept .1 .0)))
+slice-aggregate-told-call : tie.Need-slice-aggregate-told-call
+slice-aggregate-told-call c = sym (length-take-le _ _ (omega (arith, case-room (c .before .before .before .before .before .before .before .before .before .before .before .before .args .line .now) (length (c .before .before .before .before .before .before .before .before .before .before .before .before .args .words .now)) _ _ (sym (c .before .before .before .before .before .before .parse .ensures .0) ∙ c .before .before .parsed .given .1), c .before .before .before .before .before .before .parse .kept .1 .0)))
 
 returns : tie.Need-returns
-returns c = line-case (c .before .before .before .before .before .before .before .before .before .before .before .before .before .before .before .before .before .before .before .args .line .now) (c .before .before .before .before .before .before .before .before .before .before .before .before .before .before .before .before .before .before .before .args .words .now) (length (c .before .before .before .before .before .before .before .before .before .before .before .before .before .before .before .before .before .before .before .args .answer .now)) _ _ (parsed-case (c .before .before .before .before .before .before .before .before .before .before .before .before .before .before .before .before .before .before .before .args .line .now) (length (c .before .before .before .before .before .before .before .before .before .before .before .before .before .before .before .before .before .before .before .args .words .now)) _ _ (sym (c .before .before .before .before .before .before .before .before .before .before .before .before .before .parse .ensures .0) ∙ c .before .before .before .before .before .before .before .before .before .parsed .given .1)) (c .before .before .before .before .before .before .before .before .before .before .before .before .before .parse .ensures .1) (c .before .before .before .before .told .ensures)
+returns c = told-case (c .before .before .before .before .before .before .before .before .before .before .before .before .before .before .before .before .before .before .before .args .line .now) (c .before .before .before .before .before .before .before .before .before .before .before .before .before .before .before .before .before .before .before .args .words .now) (length (c .before .before .before .before .before .before .before .before .before .before .before .before .before .before .before .before .before .before .before .args .answer .now)) _ _ (parsed-case (c .before .before .before .before .before .before .before .before .before .before .before .before .before .before .before .before .before .before .before .args .line .now) (length (c .before .before .before .before .before .before .before .before .before .before .before .before .before .before .before .before .before .before .before .args .words .now)) _ _ (sym (c .before .before .before .before .before .before .before .before .before .before .before .before .before .parse .ensures .0) ∙ c .before .before .before .before .before .before .before .before .before .parsed .given .1)) (c .before .before .before .before .before .before .before .before .before .before .before .before .before .parse .ensures .1) (c .before .before .before .before .told-call .ensures)
 
 returns-2 : tie.Need-returns-2
-returns-2 c = line-none (c .before .before .before .before .before .before .before .before .before .before .before .before .before .before .args .line .now) (length (c .before .before .before .before .before .before .before .before .before .before .before .before .before .before .args .words .now)) (length (c .before .before .before .before .before .before .before .before .before .before .before .before .before .before .args .answer .now)) (parsed-none (c .before .before .before .before .before .before .before .before .before .before .before .before .before .before .args .line .now) (length (c .before .before .before .before .before .before .before .before .before .before .before .before .before .before .args .words .now)) (sym (c .before .before .before .before .before .before .before .before .parse .ensures .0) ∙ c .before .before .before .before .enum-told .given .1)) (c .before .before .print-no-case .ensures)
+returns-2 c = told-given (line-none (c .before .before .before .before .before .before .before .before .before .before .before .before .before .before .args .line .now) (length (c .before .before .before .before .before .before .before .before .before .before .before .before .before .before .args .words .now)) (length (c .before .before .before .before .before .before .before .before .before .before .before .before .before .before .args .answer .now)) (parsed-none (c .before .before .before .before .before .before .before .before .before .before .before .before .before .before .args .line .now) (length (c .before .before .before .before .before .before .before .before .before .before .before .before .before .before .args .words .now)) (sym (c .before .before .before .before .before .before .before .before .parse .ensures .0) ∙ c .before .before .before .before .enum-told .given .1)) (c .before .before .print-no-case .ensures))
 
 pub answer-line-spec : {M : Type 1} → statement M
 answer-line-spec =
@@ -27,8 +26,8 @@ answer-line-spec =
     (tie.spec
     (λ c κs. search needs)
     (λ c. search needs)
-    slice-reshare-prefix-told
-    slice-aggregate-told
+    slice-reshare-prefix-told-call
+    slice-aggregate-told-call
     (λ c κs. search needs)
     (λ c. search needs)
     (λ c κs. search needs)

@@ -1,4 +1,3 @@
--- `replay::lines::told`: no words are no case; else the words that were put are read back and printed.
 use Rattle.replay.proofs.Answers.{told-none, told-some, told-within}
 use borrow.Author.Needs.{needs}
 use lib.Seq.{length-take-le}

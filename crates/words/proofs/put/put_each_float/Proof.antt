@@ -1,4 +1,3 @@
--- `words::put::put_each_float`: the words of the floats passed are written. The measure is how many are left.
 use Prim.Native.Nat.{_+_, _*_, _-_, _≤_}
 use Rattle.words.proofs.Writing.{put-none, put-more, put-same}
 use Rattle.words.specs.Put.{Put, each, floatWord}

@@ -1,4 +1,3 @@
--- `words::put::signed_bits`: below 0 it is 2^64 - 1 less -1 - x (Signs).
 use Rattle.words.proofs.Signs.{below, turned, at-least, back, signed-below, signed-above}
 use lib.IntN.{pos}
 use lib.Signed.{ltZ, mag}

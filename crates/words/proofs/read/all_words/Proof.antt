@@ -1,4 +1,3 @@
--- `words::read::all_words`: the words that are left stand from here on if and only if all stood from the start. The measure is how many are left.
 use Prim.Native.Nat.{_+_, _*_, _-_}
 use Rattle.words.proofs.Reading.{word-passed, word-failed}
 use Rattle.words.specs.Text.{allWords}

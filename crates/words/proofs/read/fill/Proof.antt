@@ -1,4 +1,3 @@
--- `words::read::fill`: storing the values that are left gives what storing all gave at the start. The measure is what is left of the count.
 use Prim.Native.Nat.{_+_, _*_, _-_, _≤_, ℕ}
 use Rattle.words.proofs.Reading.{value-stored}
 use Rattle.words.specs.Text.{valuesAt}

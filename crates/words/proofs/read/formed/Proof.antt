@@ -1,4 +1,3 @@
--- `words::read::formed`: each way out is the test of specs/Text that it failed, or the last one.
 use Rattle.words.specs.Text.{formedIn}
 use borrow.Author.Needs.{needs}
 use borrow.Author.Tests.{lt-ltb, le-ltb, le-leb, lt-leb, eq-eqb, ne-eqb}

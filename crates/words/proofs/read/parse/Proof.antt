@@ -1,4 +1,3 @@
--- `words::read::parse`: the line is formed and its words are stored, or it is not and nothing is.
 use Rattle.words.proofs.Reading.{formed-room}
 use Rattle.words.specs.Text.{parsed, held}
 use borrow.Author.Needs.{needs}

@@ -1,4 +1,3 @@
--- `words::take::all_u32`: the words that are left are all u32s if and only if all were from the start. The measure is how many are left.
 use Prim.Native.Nat.{_+_, _-_}
 use Rattle.words.proofs.Taking.{below-passed, below-failed}
 use Rattle.words.specs.Take.{allBelow}

@@ -1,4 +1,3 @@
--- `words::take::fill_floats`: storing the floats that are left gives what storing all gave at the start. The measure is what is left of the count.
 use Prim.Native.Nat.{ℕ, _+_, _-_, _≤_}
 use Rattle.words.proofs.Taking.{front, stored-front}
 use Rattle.words.specs.Take.{floatOf}

@@ -1,4 +1,3 @@
--- `words::take::fill_u32s`: as fill_floats; the words that are left are u32s.
 use Prim.Native.Nat.{ℕ, _+_, _-_, _≤_}
 use Rattle.words.proofs.Taking.{front, stored-front, below-split}
 use Rattle.words.specs.Take.{allBelow}

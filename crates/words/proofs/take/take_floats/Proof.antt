@@ -1,4 +1,3 @@
--- `words::take::take_floats`: `fits-bounds` has the bounds of a table that is there.
 use Rattle.words.proofs.Taking.{fits-bounds, taken-none, taken-all}
 use Rattle.words.specs.Take.{fitsAt, smallFitsAt, allBelow, elementsAt}
 use borrow.Author.Needs.{needs}
@@ -32,7 +31,7 @@ add-t15 : tie.Need-add-t15
 add-t15 c = let b = fits-bounds (length (c .before .before .before .before .before .before .before .before .before .args .into .now)) (c .before .before .before .before .before .before .before .before .before .args .ws .now) (c .before .before .before .before .before .before .before .before .before .args .at) (sym (c .before .before .before .before .before .before .table-fits .ensures) ∙ not-false (c .before .before .before .before .before .before .table-fits .result) (c .before .before .before .before .before .if1 .left)) in omega (arith, b .0, b .1, b .2)
 
 returns-2 : tie.Need-returns-2
-returns-2 c = taken-all (sym (c .before .before .before .before .before .before .table-fits .ensures) ∙ not-false (c .before .before .before .before .before .before .table-fits .result) (c .before .before .before .before .before .if1 .left)) refl (fits-bounds (length (c .before .before .before .before .before .before .before .before .before .args .into .now)) (c .before .before .before .before .before .before .before .before .before .args .ws .now) (c .before .before .before .before .before .before .before .before .before .args .at) (sym (c .before .before .before .before .before .before .table-fits .ensures) ∙ not-false (c .before .before .before .before .before .before .table-fits .result) (c .before .before .before .before .before .if1 .left)) .2) (c .before .before .fill-floats .ensures)
+returns-2 c = taken-all (sym (c .before .before .before .before .before .before .table-fits .ensures) ∙ not-false (c .before .before .before .before .before .before .table-fits .result) (c .before .before .before .before .before .if1 .left)) refl (c .before .before .fill-floats .ensures)
 
 pub take-floats-spec : {M : Type 1} → statement M
 take-floats-spec =

@@ -1,4 +1,3 @@
--- `words::take::take_u32s`: `fits-bounds` has the bounds of a table that is there.
 use Rattle.words.proofs.Taking.{fits-bounds, taken-none, taken-all}
 use Rattle.words.specs.Take.{fitsAt, smallFitsAt, allBelow, elementsAt}
 use borrow.Author.Needs.{needs}
@@ -41,7 +40,7 @@ add-t17 : tie.Need-add-t17
 add-t17 c = let b = fits-bounds (length (c .before .before .before .before .before .before .before .before .before .before .before .args .into .now)) (c .before .before .before .before .before .before .before .before .before .before .before .args .ws .now) (c .before .before .before .before .before .before .before .before .before .before .before .args .at) (sym (c .before .before .before .before .before .before .before .before .table-fits .ensures) ∙ not-false (c .before .before .before .before .before .before .before .before .table-fits .result) (c .before .before .before .before .before .before .before .if1 .left)) in omega (arith, b .0, b .1, b .2)
 
 returns-3 : tie.Need-returns-3
-returns-3 c = taken-all (unfold smallFitsAt in simp ((sym (c .before .before .before .before .before .before .before .before .table-fits .ensures) ∙ not-false (c .before .before .before .before .before .before .before .before .table-fits .result) (c .before .before .before .before .before .before .before .if1 .left)), (sym (c .before .before .before .before .before .all-u32 .ensures) ∙ not-false (c .before .before .before .before .before .all-u32 .result) (c .before .before .before .before .if2 .left)))) refl (fits-bounds (length (c .before .before .before .before .before .before .before .before .before .before .before .args .into .now)) (c .before .before .before .before .before .before .before .before .before .before .before .args .ws .now) (c .before .before .before .before .before .before .before .before .before .before .before .args .at) (sym (c .before .before .before .before .before .before .before .before .table-fits .ensures) ∙ not-false (c .before .before .before .before .before .before .before .before .table-fits .result) (c .before .before .before .before .before .before .before .if1 .left)) .2) (c .before .before .fill-u32s .ensures)
+returns-3 c = taken-all (unfold smallFitsAt in simp ((sym (c .before .before .before .before .before .before .before .before .table-fits .ensures) ∙ not-false (c .before .before .before .before .before .before .before .before .table-fits .result) (c .before .before .before .before .before .before .before .if1 .left)), (sym (c .before .before .before .before .before .all-u32 .ensures) ∙ not-false (c .before .before .before .before .before .all-u32 .result) (c .before .before .before .before .if2 .left)))) refl (c .before .before .fill-u32s .ensures)
 
 pub take-u32s-spec : {M : Type 1} → statement M
 take-u32s-spec =

@@ -1,4 +1,3 @@
--- `words::write::put_texts`: the texts of the words passed are written. The measure is how many words are left.
 use Prim.Native.Nat.{_+_, _*_, _-_, _≤_}
 use Rattle.words.proofs.Writing.{put-none, put-more}
 use Rattle.words.specs.Put.{Put, each}

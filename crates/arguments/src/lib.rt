@@ -1,0 +1,50 @@
+// The library's records as words: taken out of a case, and put into an answer. (CALLS.md, "Words used" and "The replay program".)
+use cell::Cell;
+use cell::Lattice;
+use cell::Vec3;
+use virial::Sum;
+use virial::Units;
+
+mod put;
+mod take;
+
+pub use put::held;
+pub use put::put_answered;
+pub use put::put_lattice;
+pub use put::put_refusal;
+pub use put::put_rows;
+pub use put::put_sum;
+pub use put::put_vec3;
+pub use take::take_cell;
+pub use take::take_floats;
+pub use take::take_lattice;
+pub use take::take_sum;
+pub use take::take_u32s;
+pub use take::take_units;
+pub use take::take_vec3;
+
+// An argument, and the place after it; past the end where a word is missing or is no such argument.
+pub struct VecArg {
+    pub value: Vec3,
+    pub next: usize,
+}
+
+pub struct LatticeArg {
+    pub value: Lattice,
+    pub next: usize,
+}
+
+pub struct CellArg {
+    pub value: Cell,
+    pub next: usize,
+}
+
+pub struct SumArg {
+    pub value: Sum,
+    pub next: usize,
+}
+
+pub struct UnitsArg {
+    pub value: Units,
+    pub next: usize,
+}

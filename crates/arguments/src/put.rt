@@ -1,0 +1,109 @@
+// An answer's values. Each call writes from a place on, and answers the place after; what finds no room is not written.
+ghost use mathlib.Core.Path.{_≡_};
+ghost use Prim.Native.Nat.{min};
+ghost use lib.ListN.{length};
+ghost use Rattle.words.specs.Put.{Put};
+ghost use Rattle.arguments.specs.Put.{answeredWords, refusalWords, vecWords, rowWords, rowsWords, latticeWords, sumWords};
+use answer::Refusal;
+use cell::Lattice;
+use cell::Rows;
+use cell::Vec3;
+use virial::Sum;
+
+// Number 0, place 0.
+pub fn put_answered(out: &mut [u64]) -> usize
+    ensures { λ r. ⌜ Put (now (out .entry)) 0 answeredWords (now (out .exit)) r ⌝ }
+{
+    let at = words::put_word(out, 0, 0);
+    words::put_word(out, at, 0)
+}
+
+pub fn put_refusal(out: &mut [u64], why: Refusal) -> usize
+    ensures { λ r. ⌜ Put (now (out .entry)) 0 (refusalWords why) (now (out .exit)) r ⌝ }
+{
+    let number = why.number();
+    let place = why.place();
+    let at = words::put_word(out, 0, number);
+    words::put_word(out, at, place)
+}
+
+pub fn put_vec3(out: &mut [u64], at: usize, v: Vec3) -> usize
+    ensures { λ r. ⌜ Put (now (out .entry)) at (vecWords v) (now (out .exit)) r ⌝ }
+{
+    let x = words::put_float(out, at, v.x);
+    let y = words::put_float(out, x, v.y);
+    words::put_float(out, y, v.z)
+}
+
+fn put_row(out: &mut [u64], at: usize, row: [f64; 3]) -> usize
+    ensures { λ r. ⌜ Put (now (out .entry)) at (rowWords row) (now (out .exit)) r ⌝ }
+{
+    let x = words::put_float(out, at, row[0]);
+    let y = words::put_float(out, x, row[1]);
+    words::put_float(out, y, row[2])
+}
+
+pub fn put_rows(out: &mut [u64], at: usize, rows: Rows) -> usize
+    ensures { λ r. ⌜ Put (now (out .entry)) at (rowsWords rows) (now (out .exit)) r ⌝ }
+{
+    let rx = rows.x;
+    let ry = rows.y;
+    let rz = rows.z;
+    let x = put_row(out, at, rx);
+    let y = put_row(out, x, ry);
+    put_row(out, y, rz)
+}
+
+pub fn put_lattice(out: &mut [u64], at: usize, l: Lattice) -> usize
+    ensures { λ r. ⌜ Put (now (out .entry)) at (latticeWords l) (now (out .exit)) r ⌝ }
+{
+    let a = put_vec3(out, at, l.a);
+    let b = put_vec3(out, a, l.b);
+    let c = put_vec3(out, b, l.c);
+    let x = words::put_bool(out, c, l.px);
+    let y = words::put_bool(out, x, l.py);
+    words::put_bool(out, y, l.pz)
+}
+
+pub fn put_sum(out: &mut [u64], at: usize, s: Sum) -> usize
+    ensures { λ r. ⌜ Put (now (out .entry)) at (sumWords s) (now (out .exit)) r ⌝ }
+{
+    let energy = words::put_float(out, at, s.energy);
+    let x = put_vec3(
+        out,
+        energy,
+        Vec3 {
+            x: s.xx,
+            y: s.xy,
+            z: s.xz,
+        },
+    );
+    let y = put_vec3(
+        out,
+        x,
+        Vec3 {
+            x: s.yx,
+            y: s.yy,
+            z: s.yz,
+        },
+    );
+    put_vec3(
+        out,
+        y,
+        Vec3 {
+            x: s.zx,
+            y: s.zy,
+            z: s.zz,
+        },
+    )
+}
+
+// How many words of an answer the room holds.
+pub fn held(out: &[u64], count: usize) -> usize
+    ensures { λ r. ⌜ r ≡ min count (length (now (out .entry))) ⌝ }
+{
+    if out.len() < count {
+        return out.len();
+    }
+    count
+}

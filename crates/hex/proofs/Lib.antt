@@ -1,0 +1,3 @@
+pub mod Choice
+pub mod Reading
+pub mod Writing

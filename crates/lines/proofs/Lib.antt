@@ -1,0 +1,4 @@
+pub mod GrammarLaws
+pub mod Texts
+pub mod WholeLines
+pub mod Unread

@@ -1,0 +1,4 @@
+// `pairs` on a sheet of one byte too many.
+fn main() {
+    console::run();
+}

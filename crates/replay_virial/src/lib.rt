@@ -1,0 +1,221 @@
+// The calls of `virial`, 20 to 27, as cases of the replay program. What is no case has no answer. No table is longer than 8,192.
+ghost use Prim.Native.Nat.{_≤_};
+ghost use lib.ListN.{length};
+use answer::Done;
+use answer::Number;
+use cell::RowsAnswer;
+use cell::Vec3;
+use virial::Sum;
+use virial::Summed;
+
+// ---- answers as words
+
+fn tell_number(out: &mut [u64], answer: Number) -> usize {
+    match answer {
+        Number::Answered(x) => {
+            let at = arguments::put_answered(out);
+            words::put_float(out, at, x)
+        }
+        Number::Refused(why) => arguments::put_refusal(out, why),
+    }
+}
+
+fn tell_rows(out: &mut [u64], answer: RowsAnswer) -> usize {
+    let done = answer.done;
+    let rows = answer.rows;
+    match done {
+        Done::Answered => {
+            let at = arguments::put_answered(out);
+            arguments::put_rows(out, at, rows)
+        }
+        Done::Refused(why) => arguments::put_refusal(out, why),
+    }
+}
+
+fn tell_sum(out: &mut [u64], answer: Summed) -> usize {
+    match answer {
+        Summed::Answered(sum) => {
+            let at = arguments::put_answered(out);
+            arguments::put_sum(out, at, sum)
+        }
+        Summed::Refused(why) => arguments::put_refusal(out, why),
+    }
+}
+
+// The answer, then the forces, whatever became of them.
+fn tell_sum_forces(out: &mut [u64], answer: Summed, forces: &[f64]) -> usize {
+    let at = tell_sum(out, answer);
+    words::put_floats(out, at, forces)
+}
+
+fn three_rows(a: Vec3, b: Vec3, c: Vec3) -> [[f64; 3]; 3] {
+    [[a.x, a.y, a.z], [b.x, b.y, b.z], [c.x, c.y, c.z]]
+}
+
+// ---- the calls
+
+// Each call that writes forces, and its answer.
+fn merged(sum: Sum, other: Sum, added: &[f64], forces: &mut [f64], out: &mut [u64]) -> usize {
+    let r = virial::merge(sum, forces, other, added);
+    tell_sum_forces(out, r, forces)
+}
+
+fn pair_added(
+    sum: Sum,
+    i: u32,
+    j: u32,
+    d: Vec3,
+    f: Vec3,
+    forces: &mut [f64],
+    out: &mut [u64],
+) -> usize {
+    let r = virial::add_pair_force(sum, forces, i, j, d, f);
+    tell_sum_forces(out, r, forces)
+}
+
+fn cleared(forces: &mut [f64], out: &mut [u64]) -> usize {
+    let r = virial::zeros(forces);
+    tell_sum_forces(out, r, forces)
+}
+
+fn merge_case(ws: &[u64], out: &mut [u64]) -> usize {
+    let mut added = [0.0; 8192];
+    let mut forces = [0.0; 8192];
+    let sum = arguments::take_sum(ws, 0);
+    let other = arguments::take_sum(ws, sum.next);
+    let from = arguments::take_floats(ws, other.next, &mut added);
+    let to = arguments::take_floats(ws, from.next, &mut forces);
+    if to.next != ws.len() {
+        return 0;
+    }
+    let m = from.count;
+    let n = to.count;
+    merged(sum.value, other.value, &added[..m], &mut forces[..n], out)
+}
+
+fn add_pair_force_case(ws: &[u64], out: &mut [u64]) -> usize {
+    let mut forces = [0.0; 8192];
+    let sum = arguments::take_sum(ws, 0);
+    let i = words::take_u32(ws, sum.next);
+    let j = words::take_u32(ws, i.next);
+    let d = arguments::take_vec3(ws, j.next);
+    let f = arguments::take_vec3(ws, d.next);
+    let to = arguments::take_floats(ws, f.next, &mut forces);
+    if to.next != ws.len() {
+        return 0;
+    }
+    let n = to.count;
+    pair_added(
+        sum.value,
+        i.value,
+        j.value,
+        d.value,
+        f.value,
+        &mut forces[..n],
+        out,
+    )
+}
+
+fn virial_from_pair_case(ws: &[u64], out: &mut [u64]) -> usize {
+    let x = arguments::take_vec3(ws, 0);
+    let y = arguments::take_vec3(ws, x.next);
+    let z = arguments::take_vec3(ws, y.next);
+    let d = arguments::take_vec3(ws, z.next);
+    let f = arguments::take_vec3(ws, d.next);
+    if f.next != ws.len() {
+        return 0;
+    }
+    let rows = three_rows(x.value, y.value, z.value);
+    tell_rows(out, virial::virial_from_pair(rows, d.value, f.value))
+}
+
+fn scalar_virial_case(ws: &[u64], out: &mut [u64]) -> usize {
+    let x = arguments::take_vec3(ws, 0);
+    let y = arguments::take_vec3(ws, x.next);
+    let z = arguments::take_vec3(ws, y.next);
+    if z.next != ws.len() {
+        return 0;
+    }
+    let rows = three_rows(x.value, y.value, z.value);
+    tell_number(out, virial::scalar_virial(rows))
+}
+
+fn pressure_case(ws: &[u64], out: &mut [u64]) -> usize {
+    let kinetic = words::take_float(ws, 0);
+    let scalar = words::take_float(ws, kinetic.next);
+    let volume = words::take_float(ws, scalar.next);
+    if volume.next != ws.len() {
+        return 0;
+    }
+    tell_number(
+        out,
+        virial::pressure(kinetic.value, scalar.value, volume.value),
+    )
+}
+
+fn pressure_tensor_case(ws: &[u64], out: &mut [u64]) -> usize {
+    let mut velocities = [0.0; 8192];
+    let mut masses = [0.0; 8192];
+    let units = arguments::take_units(ws, 0);
+    let volume = words::take_float(ws, units.next);
+    let x = arguments::take_vec3(ws, volume.next);
+    let y = arguments::take_vec3(ws, x.next);
+    let z = arguments::take_vec3(ws, y.next);
+    let vs = arguments::take_floats(ws, z.next, &mut velocities);
+    let ms = arguments::take_floats(ws, vs.next, &mut masses);
+    if ms.next != ws.len() {
+        return 0;
+    }
+    let rows = three_rows(x.value, y.value, z.value);
+    let n = vs.count;
+    let m = ms.count;
+    let r = virial::pressure_tensor(
+        units.value,
+        volume.value,
+        rows,
+        &velocities[..n],
+        &masses[..m],
+    );
+    tell_rows(out, r)
+}
+
+fn to_gpa_case(ws: &[u64], out: &mut [u64]) -> usize {
+    let units = arguments::take_units(ws, 0);
+    let p = words::take_float(ws, units.next);
+    if p.next != ws.len() {
+        return 0;
+    }
+    tell_number(out, virial::to_gpa(units.value, p.value))
+}
+
+fn zeros_case(ws: &[u64], out: &mut [u64]) -> usize {
+    let mut forces = [0.0; 8192];
+    let to = arguments::take_floats(ws, 0, &mut forces);
+    if to.next != ws.len() {
+        return 0;
+    }
+    let n = to.count;
+    cleared(&mut forces[..n], out)
+}
+
+fn picked(call: u64, ws: &[u64], out: &mut [u64]) -> usize {
+    match call {
+        32 => merge_case(ws, out),
+        33 => add_pair_force_case(ws, out),
+        34 => virial_from_pair_case(ws, out),
+        35 => scalar_virial_case(ws, out),
+        36 => pressure_case(ws, out),
+        37 => pressure_tensor_case(ws, out),
+        38 => to_gpa_case(ws, out),
+        39 => zeros_case(ws, out),
+        _ => 0,
+    }
+}
+
+// The answer's words, and how many there are: 0 where the call is none of these or the words are not its arguments.
+pub fn answer(call: u64, ws: &[u64], out: &mut [u64]) -> usize
+    ensures { λ r. ⌜ r ≤ length (now (out .exit)) ⌝ }
+{
+    let count = picked(call, ws, out);
+    arguments::held(out, count)
+}

@@ -1,0 +1,11 @@
+pub mod Copying
+pub mod Leads
+pub mod Keeping
+pub mod Arms
+pub mod Turns
+pub mod Settling
+pub mod RowSets
+pub mod Acts
+pub mod Order
+pub mod Only
+pub mod Sizes

@@ -1,0 +1,39 @@
+use Prim.Native.Nat.{ℕ}
+use Rattle.solve.proofs.Telling.{read-answered, read-refused, too-small, solved}
+use borrow.Author.Needs.{needs}
+use lib.ListN.{replicate, length-replicate}
+use mathlib.Core.Path.{_∙_, sym}
+use native.Mathlib.Omega.{arith}
+use Rattle.solve.proofs.solve.Statement.{statement}
+use Rattle.solve.proofs.solve.Tie as tie
+
+returns : tie.Need-returns
+returns c = too-small (c .before .before .before .args .input .now) (c .before .before .before .args .out .now) (c .if1 .taken)
+
+put-job-requires : tie.Need-put-job-requires
+put-job-requires c κs = let h = read-answered (c .before .before .before .before .before .before .before .before .before .before .before .before .before .before .args .input .now) (replicate 3072 0) (replicate 2048 0) (omega (arith, length-replicate {A = ℕ} 3072 0)) (omega (arith, length-replicate {A = ℕ} 2048 0)) (c .before .before .before .before .before .before .before .before .read .result) _ (c .before .before .before .before .before .before .before .before .read .last .1 .0) (c .before .before .before .before .before .before .before .before .read .last .1 .1 .0) (c .before .before .before .before .sheet .given .1) (c .before .before .before .before .before .before .before .before .read .ensures) in (omega (arith, h .0 .atoms, c .before .before .before .before .before .before .before .before .read .kept .1 .0), omega (arith, h .0 .count, c .before .before .before .before .before .before .before .before .read .kept .1 .1 .0))
+
+returns-2 : tie.Need-returns-2
+returns-2 c = let h = read-answered (c .before .before .before .before .before .before .before .before .before .before .before .before .before .before .before .before .before .args .input .now) (replicate 3072 0) (replicate 2048 0) (omega (arith, length-replicate {A = ℕ} 3072 0)) (omega (arith, length-replicate {A = ℕ} 2048 0)) (c .before .before .before .before .before .before .before .before .before .before .before .read .result) _ (c .before .before .before .before .before .before .before .before .before .before .before .read .last .1 .0) (c .before .before .before .before .before .before .before .before .before .before .before .read .last .1 .1 .0) (c .before .before .before .before .before .before .before .sheet .given .1) (c .before .before .before .before .before .before .before .before .before .before .before .read .ensures) in solved (c .before .before .before .before .before .before .before .before .before .before .before .before .before .before .before .before .before .args .input .now) (c .before .before .before .before .before .before .before .before .before .before .before .before .before .before .before .before .before .args .out .now) _ _ (c .before .before .put-job .result) (c .before .before .before .before .before .before .before .before .before .before .before .before .before .before .if1 .left) (h .0 .text ∙ h .1) (c .before .before .put-job .ensures .0) (c .before .before .put-job .ensures .1)
+
+returns-3 : tie.Need-returns-3
+returns-3 c = solved (c .before .before .before .before .before .before .before .before .before .before .before .before .before .before .before .args .input .now) (c .before .before .before .before .before .before .before .before .before .before .before .before .before .before .before .args .out .now) _ _ (c .before .before .refuse .result) (c .before .before .before .before .before .before .before .before .before .before .before .before .if1 .left) (read-refused (c .before .before .before .before .before .before .before .before .before .before .before .before .before .before .before .args .input .now) (replicate 3072 0) (replicate 2048 0) (omega (arith, length-replicate {A = ℕ} 3072 0)) (omega (arith, length-replicate {A = ℕ} 2048 0)) (c .before .before .before .before .before .before .before .before .before .read .result) (c .before .before .before .before .before .sheet2 .given .0 .0) (c .before .before .before .before .before .before .before .before .before .read .last .1 .0) (c .before .before .before .before .before .before .before .before .before .read .last .1 .1 .0) (c .before .before .before .before .before .sheet2 .given .1) (c .before .before .before .before .before .before .before .before .before .read .ensures)) (c .before .before .refuse .ensures .0) (c .before .before .refuse .ensures .1)
+
+pub solve-spec : {M : Type 1} → statement M
+solve-spec =
+    tie.close
+    (tie.spec
+    returns
+    (λ c. search needs)
+    (λ c. search needs)
+    (λ c κs. search needs)
+    (λ c. search needs)
+    (λ c. search needs)
+    (λ c. search needs)
+    put-job-requires
+    (λ c. search needs)
+    (λ c κs. search needs)
+    (λ c. search needs)
+    returns-2
+    (λ c. search needs)
+    returns-3)

@@ -1,0 +1,250 @@
+#!/usr/bin/env python3
+"""Job sheets for the program `sheets`, and the answers that an independent model of the scope paper gives.
+
+    tools/sheets.py            writes crates/sheets/stdin and crates/sheets/stdout
+    tools/sheets.py FILE       prints the model's answer for one sheet
+    tools/sheets.py -SIZE      prints a sheet of that many bytes: five atoms, then an atom's exclusion with itself again and again (65,536 is whole lines)
+
+The model shares nothing with the library: lines by regular expressions, pairs by trying the stencil over a dictionary of bins.
+In crates/sheets/stdin each sheet stands after its length, eight hexadecimal digits and a newline."""
+import os
+import random
+import re
+import sys
+
+STENCIL = [(0, 0, 0), (0, 0, 1), (0, 1, -1), (0, 1, 0), (0, 1, 1), (1, -1, -1), (1, -1, 0), (1, -1, 1), (1, 0, -1), (1, 0, 0),
+           (1, 0, 1), (1, 1, -1), (1, 1, 0), (1, 1, 1)]
+HEADER = re.compile(rb"01([0-9a-f]{4})([0-9a-f]{8})([0-9a-f]{8})([0-9a-f]{8})0([0-7])([0-9a-f]{8})")
+ATOM = re.compile(rb"02([0-9a-f]{4})([0-9a-f]{8})([0-9a-f]{8})([0-9a-f]{8})")
+EXCLUSION = re.compile(rb"03([0-9a-f]{4})([0-9a-f]{4})")
+
+
+class Refused(Exception):
+    def __init__(self, number, place=0):
+        self.text = b"8f%02x%08x\n" % (number, place)
+
+
+def numbers(match):
+    return [int(g, 16) for g in match.groups()]
+
+
+def read(data):
+    if len(data) > 65536:
+        raise Refused(1)
+    header, atoms, excluded = None, {}, set()
+    lines = data.split(b"\n")
+    rest = lines.pop()
+    for n, line in enumerate(lines, 1):
+        if m := HEADER.fullmatch(line):
+            if header is not None:
+                raise Refused(10, n)
+            header = numbers(m)
+        elif (m := ATOM.fullmatch(line)) and numbers(m)[0] < 1024:
+            k, *place = numbers(m)
+            if k in atoms:
+                raise Refused(10, n)
+            atoms[k] = place
+        elif m := EXCLUSION.fullmatch(line):
+            a, b = sorted(numbers(m))
+            if a != b and (a, b) not in excluded and len(excluded) == 1024:
+                raise Refused(8, 1025)
+            if a != b:
+                excluded.add((a, b))
+        else:
+            raise Refused(9, n)
+    if rest:
+        raise Refused(9, len(lines) + 1)
+    if header is None:
+        raise Refused(11, 0xffffffff)
+    count = header[0]
+    if count > 1024:
+        raise Refused(2, count)
+    stray = [k for k in atoms if k >= count]
+    if stray:
+        raise Refused(4, min(stray))
+    for k in range(count):
+        if k not in atoms:
+            raise Refused(11, k)
+    return header, [atoms[k] for k in range(count)], excluded
+
+
+def axis(d, edge, periodic):
+    d = abs(d)
+    return min(d, edge - d) if periodic else d
+
+
+def candidates(count, edges, periodic, radius, places):
+    """The pairs in 01's order, and whether all pairs were tried."""
+    everything = [(i, j) for i in range(count) for j in range(i + 1, count)]
+    if radius == 0 or any(p and e // radius < 3 for e, p in zip(edges, periodic)):
+        return everything, True
+    bins = [max(1, e // radius) for e in edges]
+    cells = bins[0] * bins[1] * bins[2]
+    if cells < 8:
+        return everything, True
+    if cells > 32768 or cells > 16384 - 1:
+        raise Refused(7)
+    held = {}
+    for k, p in enumerate(places):
+        held.setdefault(tuple(x * b // e for x, b, e in zip(p, bins, edges)), []).append(k)
+    pairs = []
+    for home in sorted(held):
+        for s, step in enumerate(STENCIL):
+            other = []
+            for c, d, b, p in zip(home, step, bins, periodic):
+                c += d
+                other.append(c % b if p else c)
+            there = held.get(tuple(other), [])
+            if s == 0:
+                pairs += [(a, b) for x, a in enumerate(there) for b in there[x + 1:]]
+            else:
+                pairs += [(min(a, b), max(a, b)) for a in held[home] for b in there]
+    return pairs, False
+
+
+def solve(data):
+    try:
+        (count, ex, ey, ez, mask, radius), places, excluded = read(data)
+        edges, periodic = (ex, ey, ez), [mask >> k & 1 == 1 for k in range(3)]
+        top = 2 ** 20
+        if not all(1 <= e <= top for e in edges) or radius > top or any(x >= e for p in places for x, e in zip(p, edges)):
+            raise Refused(3)
+        if count < 2:
+            return b"81%08x%08x00\n" % (0, 0)
+        pairs, fallback = candidates(count, edges, periodic, radius, places)
+        pairs = [p for p in pairs if p not in excluded]
+        near = [(a, b) for a, b in pairs
+                if sum(axis(places[a][k] - places[b][k], edges[k], periodic[k]) ** 2 for k in range(3)) <= radius * radius]
+        if len(near) > 8192:
+            raise Refused(8, len(near))
+        return b"81%08x%08x%02x\n" % (len(near), len(pairs), fallback) + b"".join(b"82%04x%04x\n" % p for p in near)
+    except Refused as r:
+        return r.text
+
+
+# ---- sheets
+
+def header(count, edges=(10, 10, 10), mask=7, radius=3):
+    return b"01%04x%08x%08x%08x%02x%08x\n" % (count, *edges, mask, radius)
+
+
+def atom(k, place):
+    return b"02%04x%08x%08x%08x\n" % (k, *place)
+
+
+def exclusion(a, b):
+    return b"03%04x%04x\n" % (a, b)
+
+
+EXAMPLE = [b"020003000000050000000500000008\n", b"0300020000\n", b"0100040000000a0000000a0000000a0700000003\n",
+           b"020000000000000000000000000000\n", b"020002000000050000000500000005\n", b"020001000000090000000000000000\n"]
+
+
+def some(rng, count, edges, mask, radius, exclusions=0):
+    lines = [header(count, edges, mask, radius)]
+    lines += [atom(k, [rng.randrange(e) for e in edges]) for k in range(count)]
+    lines += [exclusion(rng.randrange(max(count, 1)), rng.randrange(max(count, 1))) for _ in range(exclusions)]
+    return lines
+
+
+def shuffled(rng, lines):
+    lines = list(lines)
+    rng.shuffle(lines)
+    return lines
+
+
+def damaged(rng, text):
+    """A byte changed, taken out, put in or two swapped."""
+    text = bytearray(text)
+    at = rng.randrange(len(text))
+    kind = rng.randrange(4)
+    if kind == 0:
+        text[at] = rng.choice(b"0123456789abcdefABCDEF \r\ng\0")
+    elif kind == 1:
+        del text[at]
+    elif kind == 2:
+        text.insert(at, rng.choice(b"0123456789abcdef\n"))
+    else:
+        other = rng.randrange(len(text))
+        text[at], text[other] = text[other], text[at]
+    return bytes(text)
+
+
+def table():
+    rng = random.Random(1)
+    join = b"".join
+    out = [join(EXAMPLE), join(EXAMPLE[:5]) + b"0200010000000900000000000000000\n", b"", b"\n", b"\0" * 64, b"0", join(EXAMPLE)[:-1],
+           join(EXAMPLE).replace(b"\n", b"\r\n"), join(EXAMPLE).replace(b"a", b"A"), join(EXAMPLE) + b"\n", b"\n" + join(EXAMPLE),
+           join(EXAMPLE).replace(b"\n", b" \n", 1)]
+    # each refusal, at its edge
+    two = [atom(0, (0, 0, 0)), atom(1, (1, 1, 1))]
+    out += [join([header(2)] + two), join(two), join([header(2)] + two + [header(2)]), join([header(2)] + two + two[:1]),
+            join([header(1)] + two), join([header(3)] + two), join([header(2)] + two[1:]), join([header(0)]), join([header(0), two[0]]),
+            join([header(1), two[0]]), header(1024), header(1025), header(0xffff), join([header(1025)] + two),
+            join([header(2)] + [atom(0, (0, 0, 0)), atom(1023, (0, 0, 0))]), join([header(2)] + two) + b"0204000000000000000000000000000a\n",
+            join([header(2)] + two) + b"02040000000000000000000000000a\n", join([header(2)] + two) + atom(1024, (0, 0, 0))]
+    for mask in range(10):
+        out.append(join([b"010002" + b"0000000a" * 3 + b"%02x" % mask + b"00000003\n"] + two))
+    for tag in (b"00", b"04", b"05", b"10", b"20", b"ff", b"81", b"0A"):
+        out.append(join([header(2)] + two) + tag + b"00000000\n")
+    # refusal 3 and the ranges
+    for edges in ((0, 10, 10), (10, 0, 10), (10, 10, 0), (2 ** 20, 10, 10), (2 ** 20 + 1, 10, 10), (10, 10, 0xffffffff), (2, 10, 10), (10, 2, 10), (1, 1, 1)):
+        out.append(join([header(2, edges)] + two))
+        out.append(join([header(0, edges)]))
+    for radius in (0, 1, 2, 3, 4, 9, 10, 2 ** 20, 2 ** 20 + 1, 0xffffffff):
+        out.append(join([header(2, radius=radius)] + two))
+    for place in ((9, 9, 9), (10, 9, 9), (9, 10, 9), (9, 9, 10), (0xffffffff, 0, 0)):
+        out.append(join([header(2), two[0], atom(1, place)]))
+    # refusal 7: 16,383 starts less one
+    for edges, radius in (((127, 129, 1), 1), ((128, 128, 1), 1), ((32, 32, 16), 1), ((25, 25, 26), 1), ((2 ** 20, 2 ** 20, 2 ** 20), 1), ((7, 1, 1), 1), ((8, 1, 1), 1), ((2, 2, 2), 1)):
+        for mask in (0, 1, 7):
+            out.append(join([header(2, edges, mask, radius), two[0], atom(1, (1 % edges[0], 1 % edges[1], 0))]))
+    # exclusions: with itself, twice, turned, of no atom, 1,024 and one more
+    out += [join([header(2)] + two + [exclusion(0, 0)]), join([header(2)] + two + [exclusion(1, 0), exclusion(0, 1), exclusion(1, 0)]),
+            join([header(2)] + two + [exclusion(0xffff, 0xfffe), exclusion(7, 0xffff)])]
+    many = [exclusion(k, 5000 + k) for k in range(1024)]
+    out += [join([header(2)] + two + many), join(many + [exclusion(9, 10)]), join(many + many[:3] + [exclusion(3, 3), header(2)] + two),
+            join(many + [exclusion(9, 10), header(1)] + two + two), join(many + [b"03\n"])]
+    # mixed faults: the first in line order counts, then 11, 2, 4, 11
+    faults = [header(2), header(2), two[0], two[0], b"02\n", exclusion(1, 2), b"garbage\n", atom(7, (3, 3, 3)), header(2000)]
+    for _ in range(24):
+        out.append(join(shuffled(rng, rng.sample(faults, rng.randrange(2, len(faults))))))
+    # sound sheets, and the same in other orders
+    for count, edges, mask, radius, exclusions in ((12, (30, 30, 30), 7, 9, 4), (20, (40, 30, 20), 5, 6, 10), (9, (12, 50, 7), 2, 4, 3), (30, (64, 64, 64), 0, 16, 20),
+                                                   (16, (9, 9, 9), 7, 3, 6), (25, (100, 20, 20), 1, 8, 0), (40, (33, 47, 61), 7, 11, 30)):
+        lines = some(rng, count, edges, mask, radius, exclusions)
+        out.append(join(lines))
+        for _ in range(3):
+            out.append(join(shuffled(rng, lines)))
+        for _ in range(3):
+            out.append(damaged(rng, join(lines)))
+    # 1,024 atoms, and pairs at and past the room
+    out.append(join(some(rng, 1024, (200, 200, 200), 7, 20, 40)))
+    for count, spare in ((128, 64), (129, 64), (129, 63)):
+        lines = [header(count, (1000, 10, 10), 0, 500)] + [atom(k, (0, 0, 0)) for k in range(count)]
+        pairs = [(a, b) for a in range(count) for b in range(a + 1, count)]
+        out.append(join(lines + [exclusion(a, b) for a, b in pairs[:max(0, min(1024, len(pairs) - 8192 - (1 if spare == 63 else 0)))]]))
+    return out
+
+
+def main():
+    if len(sys.argv) > 1 and sys.argv[1].startswith("-"):
+        lines = [header(5)] + [atom(k, (k, k, 0)) for k in range(5)]
+        left = int(sys.argv[1][1:]) - len(b"".join(lines))
+        sys.stdout.buffer.write(b"".join(lines) + exclusion(0, 0) * (left // 11) + b"0" * (left % 11))
+        return
+    if len(sys.argv) > 1:
+        with open(sys.argv[1], "rb") as f:
+            sys.stdout.buffer.write(solve(f.read()))
+        return
+    here = os.path.join(os.path.dirname(os.path.abspath(__file__)), "..", "crates", "sheets")
+    sheets = table()
+    with open(os.path.join(here, "stdin"), "wb") as f:
+        f.write(b"".join(b"%08x\n" % len(s) + s for s in sheets))
+    with open(os.path.join(here, "stdout"), "wb") as f:
+        f.write(b"".join(solve(s) for s in sheets))
+    print(len(sheets), "sheets")
+
+
+if __name__ == "__main__":
+    main()
