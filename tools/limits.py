@@ -1,0 +1,53 @@
+"""What the program limits must write (crates/limits/stdout): a plain model of the whole-number frame, which shares nothing with the library."""
+def spread(n):
+    return [((k%32)*10+k%7, (k//32%32)*10+k%5, (k//1024%16)*10+k%3) for k in range(n)]
+M=4242424242
+def digest(xs):
+    h=7
+    for x in xs: h=(h%4294967291*31+x)%4294967291
+    return h
+ST=[(0,0,0),(0,0,1),(0,1,-1),(0,1,0),(0,1,1),(1,-1,-1),(1,-1,0),(1,-1,1),(1,0,-1),(1,0,0),(1,0,1),(1,1,-1),(1,1,0),(1,1,1)]
+def build(edges,radius,p,npairs,nstarts,nitems):
+    pairs=[M]*npairs; starts=[M]*nstarts; items=[M]*nitems
+    n=len(p)
+    if n>16384: return [2,n],pairs,starts,items
+    b=[max(1,e//radius) for e in edges]
+    if b[0]*b[1]*b[2]>min(32768,nstarts-1): return [7,0],pairs,starts,items
+    cells=[[] for _ in range(b[0]*b[1]*b[2])]
+    for i,q in enumerate(p):
+        c=[q[k]*b[k]//edges[k] for k in range(3)]
+        cells[(c[0]*b[1]+c[1])*b[2]+c[2]].append(i)
+    s=0; it=[]
+    for k,c in enumerate(cells):
+        starts[k]=s; s+=len(c); it+=c
+    starts[len(cells)]=s
+    items[:n]=it
+    count=0; checks=0
+    def near(i,j):
+        t=0
+        for k in range(3):
+            d=abs(p[i][k]-p[j][k]); d=min(d,edges[k]-d); t+=d*d
+        return t<=radius*radius
+    for cx in range(b[0]):
+        for cy in range(b[1]):
+            for cz in range(b[2]):
+                home=cells[(cx*b[1]+cy)*b[2]+cz]
+                if not home: continue
+                for s,(dx,dy,dz) in enumerate(ST):
+                    o=cells[((cx+dx)%b[0]*b[1]+(cy+dy)%b[1])*b[2]+(cz+dz)%b[2]]
+                    cand=[(home[a],home[c]) for a in range(len(home)) for c in range(a+1,len(home))] if s==0 else [(i,j) for i in home for j in o]
+                    for i,j in cand:
+                        i,j=min(i,j),max(i,j)
+                        checks+=1
+                        if near(i,j):
+                            if 2*count+1<npairs: pairs[2*count]=i; pairs[2*count+1]=j
+                            count+=1
+    if count>npairs//2: return [8,count],pairs,starts,items
+    return [0,0,count,checks,0],pairs,starts,items
+def line(r):
+    print(*r[0],digest(r[1]),digest(r[2]),digest(r[3]))
+p=spread(16385)
+line(build((320,320,320),10,p[:16384],200000,32769,16390))
+line(build((320,320,320),10,p[:16384],200000,32768,16390))
+line(build((320,320,320),10,p,200000,32769,16390))
+line(build((3,3,3641),1,[(1,1,1),(1,1,1)],200000,32769,16390))
