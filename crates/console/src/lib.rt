@@ -3,7 +3,9 @@ use answer::Whole;
 use libc::STDIN_FILENO;
 use libc::STDOUT_FILENO;
 use solve::solve;
+ghost use mathlib.Core.Path.{_≡_};
 ghost use Rattle.io.specs.Counts.{Counts};
+ghost use Rattle.solve.specs.Solve.{solveOf};
 
 // n, where the buffer has as many bytes.
 fn within(n: u64, buf: &[u8]) -> usize
@@ -14,7 +16,9 @@ fn within(n: u64, buf: &[u8]) -> usize
 }
 
 // The answer of one sheet, or its refusal's line; `out` is room to write it in.
-pub fn print(sheet: &[u8], out: &mut [u8]) {
+pub fn print(sheet: &[u8], out: &mut [u8])
+    ensures { λ _. ⌜ now (out .exit) ≡ solveOf (now (sheet .entry)) (now (out .entry)) .out ⌝ }
+{
     let answer = solve(sheet, out);
     match answer {
         Whole::Answered(n) => {
