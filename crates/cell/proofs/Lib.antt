@@ -2,3 +2,5 @@ pub mod Only
 pub mod Way
 pub mod Order
 pub mod Ways
+pub mod Running
+pub mod Axes

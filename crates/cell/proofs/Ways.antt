@@ -20,7 +20,7 @@ use Rattle.cell.proofs.Order.{lt-not-gt, lt-not-ge, eq-not-lt, compared
 
 -- ---- the sum of magnitudes is a number
 -- no not-a-number, and not negative
-abbrev Up : Float → Type 0
+abbrev pub Up : Float → Type 0
 Up nan = ⊥
 Up (inf true) = ⊥
 Up (inf false) = Unit {0}

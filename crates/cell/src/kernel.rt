@@ -1,8 +1,8 @@
 // The cell's own functions without a test of their arguments, for the crates above: total on every float. Fractional and Cartesian
 // coordinates, wrap, widths and the minimum image.
 ghost use mathlib.Core.Path.{_≡_};
-ghost use Rattle.cell.specs.Cell.{orthorhombicOf, cubicOf, offDiagonalOf, isOrthorhombicOf, toFractionalOf, toCartesianOf, wrapAxisOf, wrapFractionOf, wrapOf, widthOf, perpWidthsOf, roundAxisOf, boxImageOf, skewedOf, latticeImageOf, imageOf};
-ghost use Rattle.cell.specs.General.{rowVec, generalOf, generalBy, imageBy};
+ghost use Rattle.cell.specs.Cell.{orthorhombicOf, cubicOf, offDiagonalOf, isOrthorhombicOf, toFractionalOf, toCartesianOf, wrapAxisOf, wrapFractionOf, wrapOf, widthOf, perpWidthsOf, roundAxisOf, generalImageOf, skewedOf, latticeImageOf, imageOf};
+ghost use Rattle.cell.specs.General.{boxBy, fractionBy, rowVec, generalOf, generalBy, imageBy};
 use crate::Cell;
 use crate::General;
 use crate::Image;
@@ -137,13 +137,57 @@ fn round_axis(periodic: bool, s: f64) -> f64
     s
 }
 
-fn box_image(l: Lattice, d: Vec3) -> Vec3
-    ensures { λ r. ⌜ r ≡ boxImageOf l d ⌝ }
+// One call for the three axes, in a box: floats and flags by themselves, since a struct that is handed to a call is copied.
+fn box_image(
+    px: bool,
+    py: bool,
+    pz: bool,
+    lx: f64,
+    ly: f64,
+    lz: f64,
+    dx: f64,
+    dy: f64,
+    dz: f64,
+) -> Vec3
+    ensures { λ r. ⌜ r ≡ boxBy px py pz lx ly lz dx dy dz ⌝ }
 {
+    let ax = float::abs(dx);
+    let ay = float::abs(dy);
+    let az = float::abs(dz);
+    let reach = image::in_reach(ax, lx) & image::in_reach(ay, ly) & image::in_reach(az, lz);
+    if px & py & pz & reach {
+        return Vec3 {
+            x: image::far(ax, lx, dx),
+            y: image::far(ay, ly, dy),
+            z: image::far(az, lz, dz),
+        };
+    }
     Vec3 {
-        x: image::axis(l.px, l.a.x, d.x),
-        y: image::axis(l.py, l.b.y, d.y),
-        z: image::axis(l.pz, l.c.z, d.z),
+        x: image::axis(px, lx, dx),
+        y: image::axis(py, ly, dy),
+        z: image::axis(pz, lz, dz),
+    }
+}
+
+// .. and on the general way, where the lengths are 1.
+fn round_fraction(px: bool, py: bool, pz: bool, x: f64, y: f64, z: f64) -> Vec3
+    ensures { λ r. ⌜ r ≡ fractionBy px py pz x y z ⌝ }
+{
+    let ax = float::abs(x);
+    let ay = float::abs(y);
+    let az = float::abs(z);
+    let reach = image::in_reach(ax, 1.0) & image::in_reach(ay, 1.0) & image::in_reach(az, 1.0);
+    if px & py & pz & reach {
+        return Vec3 {
+            x: image::far(ax, 1.0, x),
+            y: image::far(ay, 1.0, y),
+            z: image::far(az, 1.0, z),
+        };
+    }
+    Vec3 {
+        x: round_axis(px, x),
+        y: round_axis(py, y),
+        z: round_axis(pz, z),
     }
 }
 
@@ -187,18 +231,19 @@ pub fn general_of(l: Lattice) -> General
     }
 }
 
-fn general_image(l: Lattice, g: General, d: Vec3) -> Vec3
+fn general_by(l: Lattice, g: General, d: Vec3) -> Vec3
     ensures { λ r. ⌜ r ≡ generalBy l g d ⌝ }
 {
     if g.singular {
         return d;
     }
-    let s = Vec3 {
-        x: round_axis(l.px, vectors::dot(g.ix, d)),
-        y: round_axis(l.py, vectors::dot(g.iy, d)),
-        z: round_axis(l.pz, vectors::dot(g.iz, d)),
-    };
-    matrices::times(matrices::matrix(l), s)
+    let x = vectors::dot(g.ix, d);
+    let y = vectors::dot(g.iy, d);
+    let z = vectors::dot(g.iz, d);
+    matrices::times(
+        matrices::matrix(l),
+        round_fraction(l.px, l.py, l.pz, x, y, z),
+    )
 }
 
 // The minimum image in a lattice by the numbers of the general way; with `general_of(l)` it is the source's.
@@ -206,19 +251,32 @@ pub fn image_by(l: Lattice, g: General, d: Vec3) -> Vec3
     ensures { λ r. ⌜ r ≡ imageBy l g d ⌝ }
 {
     if g.skewed {
-        return general_image(l, g, d);
+        return general_by(l, g, d);
     }
-    box_image(l, d)
+    box_image(l.px, l.py, l.pz, l.a.x, l.b.y, l.c.z, d.x, d.y, d.z)
 }
 
-// A single image in a box asks for no more than the source does.
+fn general_image(l: Lattice, d: Vec3) -> Vec3
+    ensures { λ r. ⌜ r ≡ generalImageOf l d ⌝ }
+{
+    if matrices::singular(l) {
+        return d;
+    }
+    let s = matrices::times(matrices::inverse(l), d);
+    matrices::times(
+        matrices::matrix(l),
+        round_fraction(l.px, l.py, l.pz, s.x, s.y, s.z),
+    )
+}
+
+// A single image asks for no more than the source does.
 fn lattice_image(l: Lattice, d: Vec3) -> Vec3
     ensures { λ r. ⌜ r ≡ latticeImageOf l d ⌝ }
 {
     if skewed(l) {
-        return image_by(l, general_of(l), d);
+        return general_image(l, d);
     }
-    box_image(l, d)
+    box_image(l.px, l.py, l.pz, l.a.x, l.b.y, l.c.z, d.x, d.y, d.z)
 }
 
 // The minimum image of a difference in a cell, or the difference itself without one.

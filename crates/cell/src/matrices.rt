@@ -1,7 +1,8 @@
 // The cell matrix, its determinant and its inverse. The definitions speak of the matrix, as the source does; the code reads the
 // lattice's fields, which ask no proof of an index.
 ghost use mathlib.Core.Path.{_≡_};
-ghost use Rattle.cell.specs.Matrix.{matrixOf, volumeOf, adjugateOf, largerOf, largestInRow, largestOf, singularOf, inverseOf, timesRow, timesOf};
+ghost use Rattle.cell.specs.Matrix.{matrixOf, volumeOf, adjugateOf, largestOf, singularOf, inverseOf, timesRow, timesOf};
+ghost use Rattle.cell.specs.General.{aboveOf, runningOf, runningInRow};
 ghost use Rattle.cell.specs.Seen.{rowsOf, zeroRows};
 use crate::Lattice;
 use crate::Rows;
@@ -46,14 +47,21 @@ fn adjugate(l: Lattice, id: f64) -> [[f64; 3]; 3]
     ]
 }
 
-fn larger(m: f64, v: f64) -> f64
-    ensures { λ r. ⌜ r ≡ largerOf m v ⌝ }
+fn above(m: f64, v: f64) -> f64
+    ensures { λ r. ⌜ r ≡ aboveOf m v ⌝ }
 {
-    float::max(m, float::abs(v))
+    if m < v { v } else { m }
+}
+
+// The larger of m and |v|, for an m that is not negative: two comparisons, and none of them asks for a not-a-number or a zero.
+fn larger(m: f64, v: f64) -> f64
+    ensures { λ r. ⌜ r ≡ runningOf m v ⌝ }
+{
+    above(above(m, v), -v)
 }
 
 fn largest_in_row(m: f64, x: f64, y: f64, z: f64) -> f64
-    ensures { λ n. ⌜ n ≡ largestInRow m x y z ⌝ }
+    ensures { λ n. ⌜ n ≡ runningInRow m x y z ⌝ }
 {
     larger(larger(larger(m, x), y), z)
 }

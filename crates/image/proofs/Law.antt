@@ -19,13 +19,13 @@ use Rattle.image.specs.Image.{nearestOf, shiftOf, nearOf}
 use Rattle.image.proofs.Quotient.{few-digits, to-zero, to-one, signed-quotient}
 use Rattle.image.proofs.Double.{double-below, double-reaches}
 
-not-zero : (n : ℕ) → eqb (suc n) 0 ≡ false
+pub not-zero : (n : ℕ) → eqb (suc n) 0 ≡ false
 not-zero n = is-false (eqb (suc n) 0) (not-T (eqb (suc n) 0) (λ t. no-suc n (eqb→eq (suc n) 0 t)))
   where
     no-suc : (n : ℕ) → suc n ≡ 0 → ⊥
     no-suc n h = omega arith
 
-div-is : (s : Bool) (m n : ℕ) (e d : ℤ) → div binary64 (fin s m e) (fin false (suc n) d) ≡ round binary64 s (m * up e * down d) (suc n * up d * down e)
+pub div-is : (s : Bool) (m n : ℕ) (e d : ℤ) → div binary64 (fin s m e) (fin false (suc n) d) ≡ round binary64 s (m * up e * down d) (suc n * up d * down e)
 unfolding div
 div-is true m n e d = rw (not-zero n)
 div-is false m n e d = rw (not-zero n)
@@ -35,7 +35,7 @@ zero-fits : (s : Bool) → T (fits binary64 (fin s 0 (pos 0)))
 unfolding fits
 zero-fits s = tt
 
-zero-times : (s : Bool) (n : ℕ) (d : ℤ) → mul binary64 (fin false n d) (fin s 0 (pos 0)) ≡ fin s 0 (pos 0)
+pub zero-times : (s : Bool) (n : ℕ) (d : ℤ) → mul binary64 (fin false n d) (fin s 0 (pos 0)) ≡ fin s 0 (pos 0)
 unfolding mul
 zero-times true n d = ap (λ (z : ℕ). round binary64 true z (down d * 1)) (mul-zero (n * up d)) ∙ round-own binary64 (fin true 0 (pos 0)) true 0 (down d * 1) (mul-pos (down-pos d) (zero-lt-suc 0)) (zero-fits true) (refl, zero-mul (down d * 1))
 zero-times false n d = ap (λ (z : ℕ). round binary64 false z (down d * 1)) (mul-zero (n * up d)) ∙ round-own binary64 (fin false 0 (pos 0)) false 0 (down d * 1) (mul-pos (down-pos d) (zero-lt-suc 0)) (zero-fits false) (refl, zero-mul (down d * 1))
@@ -52,7 +52,7 @@ one-times true n d F = sym (round-neg binary64 (n * up d * 1) (down d * 1)) ∙ 
 one-times false n d F = once n d F
 
 -- ---- x less that
-less-zero : (s : Bool) (m : ℕ) (e : ℤ) → sub binary64 (fin s m e) (fin s 0 (pos 0)) ≡ add binary64 (fin s m e) zero+
+pub less-zero : (s : Bool) (m : ℕ) (e : ℤ) → sub binary64 (fin s m e) (fin s 0 (pos 0)) ≡ add binary64 (fin s m e) zero+
 unfolding sub neg
 less-zero true m e = refl
 less-zero false m e =
@@ -85,7 +85,7 @@ module _ (m n : ℕ) (e d : ℤ) where
       clash q p a b c = omega arith
 
 -- the step that the code picks, where twice |x| reaches len
-above-zero : (m : ℕ) (e : ℤ) → le (fin false (suc m) e) zero+ ≡ false
+pub above-zero : (m : ℕ) (e : ℤ) → le (fin false (suc m) e) zero+ ≡ false
 unfolding le eq
 above-zero m e = rw (pos-not-below (suc m) e, is-false (eqb (suc m * up e * 1) (0 * 1 * down e)) (not-T (eqb (suc m * up e * 1) (0 * 1 * down e)) (λ t. differ (suc m * up e) (down e) (mul-pos (zero-lt-suc m) (up-pos e)) (eqb→eq (suc m * up e * 1) (0 * 1 * down e) t))))
   where
@@ -147,7 +147,7 @@ module _ (s : Bool) (m n : ℕ) (e d : ℤ) (G : T (fits binary64 (fin false m e
   near-fin = near-both (lt (add binary64 (fin false m e) (fin false m e)) (fin false (suc n) d)) refl
 
 -- ---- the law. y is any bound: it only keeps an infinite len out.
-not-under-zero : (a u d : ℕ) → a < 0 * u * d → ⊥
+pub not-under-zero : (a u d : ℕ) → a < 0 * u * d → ⊥
 not-under-zero a u d h = none a (subst (λ (z : ℕ). a < z) (ap (λ (z : ℕ). z * d) (zero-mul u) ∙ zero-mul d) h)
   where
     none : (a : ℕ) → a < 0 → ⊥
@@ -195,6 +195,3 @@ bounded (fin s m e) y h = unfold lt in refl
 -- two tests in one
 pub both : (a b : Bool) → (a && b) ≡ true → (a ≡ true) × (b ≡ true)
 both a b h = let t = yes h in (is-true a (and-l a b t), is-true b (and-r a b t))
-
-pub below-both : (len y a : Float) → (lt a len && lt len y) ≡ true → (lt a len ≡ true) × (lt len (inf false) ≡ true)
-below-both len y a h = let t = both (lt a len) (lt len y) h in (t .0, bounded len y (t .1))

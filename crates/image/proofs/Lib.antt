@@ -1,4 +1,6 @@
 pub mod Quotient
 pub mod Double
+pub mod Count
 pub mod Law
+pub mod Long
 pub mod Unit

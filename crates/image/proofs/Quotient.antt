@@ -84,7 +84,7 @@ few-digits m n e d a b h =
     join m i j = ap (λ (z : ℕ). 2 * z) (join₂ m i j) ∙ double m (2 ^ (i + j)) ∙ ap (λ (z : ℕ). m * z) (sym (pow-suc 2 (i + j)))
 
 -- ---- the rounded quotient is a value that is not negative
-round-ends : (round binary64 false 0 1 ≡ zero+) × (round binary64 false 1 1 ≡ one+) × (round binary64 false 1 2 ≡ half+) × (round binary64 false (2 ^ 53 - 1) (2 ^ 54) ≡ fin false (2 ^ 53 - 1) (negsuc 53))
+pub round-ends : (round binary64 false 0 1 ≡ zero+) × (round binary64 false 1 1 ≡ one+) × (round binary64 false 1 2 ≡ half+) × (round binary64 false (2 ^ 53 - 1) (2 ^ 54) ≡ fin false (2 ^ 53 - 1) (negsuc 53))
 unfolding round
 round-ends = (refl, refl, refl, refl)
 
@@ -192,7 +192,7 @@ neg-fin : (m : ℕ) (e : ℤ) → roundOf (neg (fin false m e)) ≡ neg (roundOf
 unfolding roundOf neg
 neg-fin m e = sym (round-neg binary64 ((2 * (m * up e) + down e) / (2 * down e)) 1)
 
-through-neg : (q : Float) → Plain q → roundOf (neg q) ≡ neg (roundOf q)
+pub through-neg : (q : Float) → Plain q → roundOf (neg q) ≡ neg (roundOf q)
 through-neg q s = ap (λ (z : Float). roundOf (neg z)) (s .is) ∙ neg-fin (s .m) (s .e) ∙ ap (λ (z : Float). neg (roundOf z)) (sym (s .is))
 
 neg-round : (P Q n : ℕ) → 0 < Q → P ≤ Q → roundOf (round binary64 false P Q) ≡ fin false n (pos 0) → roundOf (round binary64 true P Q) ≡ fin true n (pos 0)

@@ -1,17 +1,16 @@
--- `unit-law`: for |x| below 1, x - round(x) is `near-law` at len 1, for a division and a product by 1 change nothing. Assumes nothing.
+-- `nearest-one`: x - round(x) is the formula at len 1, for a division and a product by 1 change nothing. Assumes nothing.
 use mathlib.Core.Path.{_≡_, refl, ap, _∙_}
 use Prim.Native.Nat.{ℕ, _+_, _*_}
 use native.Mathlib.Nat.{mul-one, one-mul, mul-pos, zero-lt-suc}
 use mathlib.Core.Bool.{Bool, true, false}
 use lib.IntN.{ℤ}
 use lib.Dec.{T}
-use lib.Ieee.{Float, nan, inf, fin, binary64, up, down, sub, mul, div, lt, fits, round}
+use lib.Ieee.{Float, nan, inf, fin, binary64, up, down, sub, mul, div, fits, round}
 use lib.Ieee.Fits.{down-pos, nan-fits, inf-fits, round-fits}
-use Rattle.float.specs.Def.{absOf, roundOf}
+use Rattle.float.specs.Def.{roundOf}
 use Rattle.float.proofs.Unique.{round-own}
 use Rattle.float.proofs.Whole.{one+}
-use Rattle.image.specs.Image.{nearestOf, fractionOf, nearOf}
-use Rattle.image.proofs.Law.{near-apart}
+use Rattle.image.specs.Image.{nearestOf, fractionOf}
 
 div-fin : (s : Bool) (m : ℕ) (e : ℤ) → div binary64 (fin s m e) one+ ≡ round binary64 s (m * up e * 1) (1 * 1 * down e)
 unfolding div
@@ -50,10 +49,3 @@ round-of-fits (fin s m e) = round-fits binary64 s _ 1
 pub nearest-one : (x : Float) → T (fits binary64 x) → nearestOf one+ x ≡ fractionOf x
 unfolding nearestOf fractionOf
 nearest-one x F = ap (λ (z : Float). sub binary64 x (mul binary64 one+ (roundOf z))) (by-one x F) ∙ ap (λ (z : Float). sub binary64 x z) (one-by (roundOf x) (round-of-fits x))
-
-one-fits : T (fits binary64 one+) × (lt one+ (inf false) ≡ true)
-unfolding fits lt
-one-fits = (tt, refl)
-
-pub unit-law : (x a r : Float) → T (fits binary64 x) → a ≡ absOf x → lt a one+ ≡ true → r ≡ nearOf a one+ x → r ≡ fractionOf x
-unit-law x a r F A h R = near-apart one+ x (inf false) a r (one-fits .0) F A h (one-fits .1) R ∙ nearest-one x F

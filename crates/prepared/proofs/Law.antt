@@ -1,4 +1,4 @@
--- The minimum image by a cell's prepared facts is the minimum image in the cell (`prepared-image`), and the short way of `image_in` is what `imageIn` says (`short-way`). Assumes nothing.
+-- The minimum image by a cell's prepared facts is the minimum image in the cell (`prepared-image`), and the short way is what `imageIn` says (`short-way`). Assumes nothing.
 use mathlib.Core.Path.{_≡_, refl, ap, _∙_}
 use mathlib.Core.Bool.{Bool, true, false, not, cond, _&&_}
 use lib.Ieee.{Float, nan, inf, fin, lt, ofBits}
@@ -95,20 +95,19 @@ near-axis a len x r A h n = go (lt len (inf false)) refl
     go true e = n .formula A h e
     go false e = n .is ∙ ap (λ (z : Float). nearOf z len x) A
 
-pub short-way : (p : Prepared) (d : Vec3) (a b c u v w : Float) → a ≡ absOf (d .x) → b ≡ absOf (d .y) → c ≡ absOf (d .z)
-    → (lt a (p .short .x) && lt b (p .short .y) && lt c (p .short .z)) ≡ true
-    → NearSays a (p .short .x) (d .x) u → NearSays b (p .short .y) (d .y) v → NearSays c (p .short .z) (d .z) w
-    → record { diff = record { x = u; y = v; z = w } } ≡ imageIn p d
-unfolding imageIn
-short-way p d a b c u v w A B C h nx ny nz =
-    let s = p .short in
-    let p2 = both (lt a (s .x) && lt b (s .y)) (lt c (s .z)) h in
-    let p1 = both (lt a (s .x)) (lt b (s .y)) (p2 .0) in
-    let test : isShort s d ≡ true = rw (← A, ← B, ← C) h in
-    rw test (λ i. record {
-      diff = record {
-        x = near-axis a (s .x) (d .x) u A (p1 .0) nx i;
-        y = near-axis b (s .y) (d .y) v B (p1 .1) ny i;
-        z = near-axis c (s .z) (d .z) w C (p2 .1) nz i;
-      };
-    })
+pub short-way : (s d : Vec3) {a b c u v w : Float} → isShort s d ≡ true → a ≡ absOf (d .x) → b ≡ absOf (d .y) → c ≡ absOf (d .z)
+    → NearSays a (s .x) (d .x) u → NearSays b (s .y) (d .y) v → NearSays c (s .z) (d .z) w
+    → record { x = u; y = v; z = w } ≡ shortImage s d
+short-way s d {a} {b} {c} {u} {v} {w} h A B C nx ny nz =
+    let p2 = both (lt (absOf (d .x)) (s .x) && lt (absOf (d .y)) (s .y)) (lt (absOf (d .z)) (s .z)) h in
+    let p1 = both (lt (absOf (d .x)) (s .x)) (lt (absOf (d .y)) (s .y)) (p2 .0) in
+    λ i. record {
+      x = near-axis a (s .x) (d .x) u A (rw A (p1 .0)) nx i;
+      y = near-axis b (s .y) (d .y) v B (rw B (p1 .1)) ny i;
+      z = near-axis c (s .z) (d .z) w C (rw C (p2 .1)) nz i;
+    }
+
+-- ---- where there is no cell
+pub free-way : (p : Prepared) (d : Vec3) → isShort (p .short) d ≡ false → p .general .skewed && p .general .singular ≡ true → d ≡ imageIn p d .diff
+unfolding imageIn imageBy generalBy
+free-way p d far free = let f = both (p .general .skewed) (p .general .singular) free in rw (far, f .0, f .1)

@@ -1,7 +1,8 @@
 // The minimum image for a loop over differences: the cell's facts are asked once, and most differences in a box need no division.
 // proofs/Law.antt: image_in(prepare(cell), d) is cell::kernel::min_image(d, cell).
 ghost use mathlib.Core.Path.{_≡_};
-ghost use Rattle.prepared.specs.Facts.{shortOf, prepareOf, imageIn};
+ghost use mathlib.Core.Bool.{true};
+ghost use Rattle.prepared.specs.Facts.{shortOf, prepareOf, isShort, shortImage, imageIn};
 use cell::Cell;
 use cell::General;
 use cell::Image;
@@ -56,20 +57,30 @@ pub fn prepare(cell: Cell) -> Prepared
     }
 }
 
-// Small, so that it goes into the loops that call it: one branch, and at its end one call, whose arguments are copied there and not before.
+fn is_short(s: Vec3, d: Vec3) -> bool
+    ensures { λ r. ⌜ r ≡ isShort s d ⌝ }
+{
+    (float::abs(d.x) < s.x) & (float::abs(d.y) < s.y) & (float::abs(d.z) < s.z)
+}
+
+fn short_image(s: Vec3, d: Vec3) -> Vec3
+    requires { ⌜ isShort s d ≡ true ⌝ }
+    ensures { λ r. ⌜ r ≡ shortImage s d ⌝ }
+{
+    Vec3 {
+        x: image::near(float::abs(d.x), s.x, d.x),
+        y: image::near(float::abs(d.y), s.y, d.y),
+        z: image::near(float::abs(d.z), s.z, d.z),
+    }
+}
+
 pub fn image_in(p: Prepared, d: Vec3) -> Image
     ensures { λ r. ⌜ r ≡ imageIn p d ⌝ }
 {
-    let ax = float::abs(d.x);
-    let ay = float::abs(d.y);
-    let az = float::abs(d.z);
-    if (ax < p.short.x) & (ay < p.short.y) & (az < p.short.z) {
+    let s = p.short;
+    if is_short(s, d) {
         return Image {
-            diff: Vec3 {
-                x: image::near(ax, p.short.x, d.x),
-                y: image::near(ay, p.short.y, d.y),
-                z: image::near(az, p.short.z, d.z),
-            },
+            diff: short_image(s, d),
         };
     }
     let l = p.lattice;
@@ -77,4 +88,20 @@ pub fn image_in(p: Prepared, d: Vec3) -> Image
     Image {
         diff: kernel::image_by(l, g, d),
     }
+}
+
+// The same for an innermost loop. Small, so that it goes into the loop: what is short, or free because there is no cell, is done there, and only
+// the rest is a call, for which the facts are copied.
+pub fn diff_in(p: Prepared, d: Vec3) -> Vec3
+    ensures { λ r. ⌜ r ≡ imageIn p d .diff ⌝ }
+{
+    let s = p.short;
+    if is_short(s, d) {
+        return short_image(s, d);
+    }
+    if p.general.skewed & p.general.singular {
+        return d;
+    }
+    let image = image_in(p, d);
+    image.diff
 }

@@ -1,5 +1,6 @@
--- `image::shift` meets its contract: each branch is what the definition's `cond`s pick. Assumes nothing.
-use mathlib.Core.Path.{sym}
+-- `image::shift` meets its contract: each branch is what the definition's `cond` picks. Assumes nothing.
+use mathlib.Core.Path.{sym, _∙_}
+use borrow.Author.Needs.{needs}
 use Rattle.image.specs.Image.{shiftOf}
 use Rattle.image.proofs.shift.Statement.{statement}
 use Rattle.image.proofs.shift.Tie as tie
@@ -10,11 +11,7 @@ returns c = sym (rw (c .if1 .taken))
 
 returns-2 : tie.Need-returns-2
 unfolding shiftOf
-returns-2 c = sym (rw (c .before .if1 .left, c .if2 .taken))
-
-returns-3 : tie.Need-returns-3
-unfolding shiftOf
-returns-3 c = sym (rw (c .before .if1 .left, c .if2 .left))
+returns-2 c = c .toward .ensures ∙ sym (rw (c .before .if1 .left))
 
 pub shift-spec : {M : Type 1} → statement M
-shift-spec = tie.close (tie.spec returns returns-2 returns-3)
+shift-spec = tie.close (tie.spec (λ c κs. search needs) returns returns-2)
