@@ -5,6 +5,7 @@ pub mod Wide
 pub mod SortLaws
 pub mod Parts
 pub mod Runs
+pub mod Sweeps
 pub mod Laid
 pub mod Found
 pub mod EdgeLaws

@@ -1,5 +1,5 @@
 -- A run of a build: what the tally and the memory are, by the lists that the outcome names. Assumes nothing.
-use Prim.Native.Nat.{ℕ, _/_, _≤_, _<_}
+use Prim.Native.Nat.{ℕ, _+_, _-_, _/_, _≤_, _<_}
 use mathlib.Core.Path.{_≡_, refl, sym, ap, _∙_}
 use mathlib.Core.Bool.{Bool, true, false, cond, _||_}
 use mathlib.Core.List.{List}
@@ -18,13 +18,14 @@ use Rattle.bins.specs.Axis.{Good}
 use Rattle.bins.specs.Edge.{axisOn}
 use Rattle.bins.specs.Stencil.{GoodGrid, cells}
 use Rattle.bins.specs.Traversal.{pairsOf}
-use Rattle.bins.specs.Listing.{Scene, Listing, listOf, fresh, checkedOf, foundOf, laidOf, Ready}
+use Rattle.bins.specs.Listing.{Scene, listOf, fresh, checkedOf, foundOf, laidOf, Ready}
 use Rattle.bins.proofs.EdgeLaws.{axis-good}
-use Rattle.bins.proofs.Runs.{ready-end}
-use Rattle.bins.proofs.Laid.{listed, laid-length}
 use Rattle.bins.proofs.Found.{plain-checks, binned-checks, binned-ready}
 use Rattle.exclusions.specs.Table.{isTable}
 use Rattle.exclusions.proofs.Search.{looked-up}
+use Rattle.checks.specs.Checks.{rowsBelow, rowsTouching}
+use Rattle.checks.proofs.Counted.{plain-less, binned-less}
+use Rattle.checks.proofs.Runs.{Ended, ended}
 use Rattle.frame.specs.declared.Side.{Side}
 use Rattle.frame.specs.declared.Frame.{Frame}
 use Rattle.frame.specs.declared.laying.Plan.{Plan}
@@ -32,37 +33,12 @@ use Rattle.frame.specs.declared.laying.Plan.the-variants.{AllPairs, Laid
 use Rattle.frame.specs.Distance.{spotOf, nearOf}
 use Rattle.frame.specs.Laying.{gridOf, cellAt, narrow, plainOf, crowded}
 use Rattle.frame.specs.Build.{Given, Counts, stays, sceneOf, candidates, nearPairs, beside, checksOf, shownOf, runOf, afterOf, startsLaid, itemsLaid}
-use Rattle.frame.specs.Steps.{Framed, Gridded, sceneBy, atomsBy, planOf}
+use Rattle.frame.specs.Steps.{Framed, Gridded, lookedBy, sceneBy, atomsBy, planOf}
 use Rattle.frame.proofs.Tables.{placed}
 
--- ---- a run that has ended
-pub record Ended (e : Scene) (old : List ℕ) (cands : List (ℕ × ℕ)) (t : Tally) (m : List ℕ) : Type 0 where
-  pub count : t .count ≡ length (foundOf e cands)
-  pub checks : t .checks ≡ length (checkedOf e cands)
-  pub mem : m ≡ laidOf old (foundOf e cands)
-  pub order : t .count ≤ t .checks
-  pub few : t .checks < 4294967296
-  pub same : length m ≡ length old
-
-pub ended : (e : Scene) (old : List ℕ) (cands : List (ℕ × ℕ)) (t : Tally) (m : List ℕ) → record { tally = t; mem = m } ≡ listOf e (fresh old) cands
-    → Ready (record { count = 0; checks = 0 }) (length cands) → Ended e old cands t m
-ended e old cands t m q r =
-    let z = ready-end e (fresh old) cands r in
-    let l = listed e old cands in
-    let mem : m ≡ laidOf old (foundOf e cands) = ap (λ (s : Listing). s .mem) (q ∙ l) in
-    let t-is : t ≡ listOf e (fresh old) cands .tally = ap (λ (s : Listing). s .tally) q in
-    record {
-      count = ap (λ (s : Listing). s .tally .count) (q ∙ l);
-      checks = ap (λ (s : Listing). s .tally .checks) (q ∙ l);
-      mem = mem;
-      order = rw t-is (z .count);
-      few = rw t-is (omega (arith, z .checks));
-      same = ap length mem ∙ laid-length old (foundOf e cands);
-    }
-
 -- ---- in an exclusion table the lookup is membership, so the loops' scene is the outcome's
-pub scene-is : (f : Frame) (xs table : List ℕ) → isTable (rows table) ≡ true → sceneBy f xs table ≡ sceneOf f xs table
-unfolding sceneBy sceneOf
+pub scene-is : (f : Frame) (xs table : List ℕ) → isTable (rows table) ≡ true → lookedBy f xs table ≡ sceneOf f xs table
+unfolding lookedBy sceneOf
 scene-is f xs table h =
     λ i. record { excluded = λ low high. looked-up table h low high i; near = λ low high. nearOf f (spotOf xs low) (spotOf xs high) }
 
@@ -85,8 +61,8 @@ good-grid f h =
 
 -- ---- a run gives the outcome's numbers
 module _ (f : Frame) (xs table : List ℕ) (h : isTable (rows table) ≡ true) (old : List ℕ) {t : Tally} {m : List ℕ} where
-  module _ (p : plainOf f ≡ true) (z : Ended (sceneBy f xs table) old (allPairs (length xs / 3)) t m) where
-    plain-pairs : foundOf (sceneBy f xs table) (allPairs (length xs / 3)) ≡ nearPairs f xs table
+  module _ (p : plainOf f ≡ true) (z : Ended (lookedBy f xs table) old (allPairs (length xs / 3)) t m) where
+    plain-pairs : foundOf (lookedBy f xs table) (allPairs (length xs / 3)) ≡ nearPairs f xs table
     unfolding nearPairs candidates
     plain-pairs = rw (p, scene-is f xs table h)
 
@@ -96,12 +72,24 @@ module _ (f : Frame) (xs table : List ℕ) (h : isTable (rows table) ≡ true) (
     pub plain-mem : m ≡ laidOf old (nearPairs f xs table)
     plain-mem = z .mem ∙ ap (laidOf old) plain-pairs
 
-    pub plain-tested : t .checks ≡ checksOf f xs table
+    plain-tested : length (checkedOf (lookedBy f xs table) (allPairs (length xs / 3))) ≡ checksOf f xs table
     unfolding checksOf beside
-    plain-tested = z .checks ∙ rw (scene-is f xs table h, p) (plain-checks (sceneOf f xs table) (length xs / 3))
+    plain-tested = rw (scene-is f xs table h, p) (plain-checks (sceneOf f xs table) (length xs / 3))
 
-  module _ (p : plainOf f ≡ false) (framed : Framed f xs) (z : Ended (sceneBy f xs table) old (pairsOf (gridOf f) (atomsBy f xs)) t m) where
-    grid-pairs : foundOf (sceneBy f xs table) (pairsOf (gridOf f) (atomsBy f xs)) ≡ nearPairs f xs table
+    plain-all : length (allPairs (length xs / 3)) ≡ checksOf f xs table + rowsBelow (length xs / 3) (rows table)
+    unfolding checksOf beside sceneOf
+    plain-all = rw p (plain-less table h (length xs / 3))
+
+    -- the candidates less the rows among them
+    module _ {r : ℕ} (is : r ≡ rowsBelow (length xs / 3) (rows table)) where
+      pub plain-room : t .count + r ≤ t .checks
+      plain-room = omega (arith, z .order, z .all, plain-tested, plain-all, is)
+
+      pub plain-left : t .checks - r ≡ checksOf f xs table
+      plain-left = omega (arith, z .all, plain-all, is)
+
+  module _ (p : plainOf f ≡ false) (framed : Framed f xs) (z : Ended (lookedBy f xs table) old (pairsOf (gridOf f) (atomsBy f xs)) t m) where
+    grid-pairs : foundOf (lookedBy f xs table) (pairsOf (gridOf f) (atomsBy f xs)) ≡ nearPairs f xs table
     unfolding nearPairs candidates
     grid-pairs = rw (p, scene-is f xs table h)
 
@@ -111,12 +99,22 @@ module _ (f : Frame) (xs table : List ℕ) (h : isTable (rows table) ≡ true) (
     pub grid-mem : m ≡ laidOf old (nearPairs f xs table)
     grid-mem = z .mem ∙ ap (laidOf old) grid-pairs
 
-    pub grid-tested : t .checks ≡ checksOf f xs table
+    grid-tested : length (checkedOf (lookedBy f xs table) (pairsOf (gridOf f) (atomsBy f xs))) ≡ checksOf f xs table
     unfolding checksOf beside
     grid-tested =
-        z .checks
-        ∙ rw (scene-is f xs table h, p)
+        rw (scene-is f xs table h, p)
         (binned-checks (sceneOf f xs table) (gridOf f) (good-grid f p) (length xs / 3) (cellAt f xs) (placed f xs framed))
+
+    grid-all : length (pairsOf (gridOf f) (atomsBy f xs)) ≡ checksOf f xs table + rowsTouching (gridOf f) (length xs / 3) (cellAt f xs) (rows table)
+    unfolding checksOf beside sceneOf
+    grid-all = rw p (binned-less table h (length xs / 3) (gridOf f) (good-grid f p) (cellAt f xs) (placed f xs framed))
+
+    module _ {r : ℕ} (is : r ≡ rowsTouching (gridOf f) (length xs / 3) (cellAt f xs) (rows table)) where
+      pub grid-room : t .count + r ≤ t .checks
+      grid-room = omega (arith, z .order, z .all, grid-tested, grid-all, is)
+
+      pub grid-left : t .checks - r ≡ checksOf f xs table
+      grid-left = omega (arith, z .all, grid-all, is)
 
 pub grid-ready : (f : Frame) (xs : List ℕ) → plainOf f ≡ false → Framed f xs → length xs / 3 ≤ 16384 → (e : Scene) → Ready (record { count = 0; checks = 0 }) (length (pairsOf (gridOf f) (atomsBy f xs)))
 grid-ready f xs p framed few e = binned-ready e (gridOf f) (good-grid f p) (length xs / 3) (cellAt f xs) (placed f xs framed) few
@@ -129,9 +127,9 @@ module _ {f : Frame} {g : Grid} {xs : List ℕ} (w : Gridded f g) (framed : Fram
   sweep-ready e = rw (w .is) (grid-ready f xs (w .wide) framed few e)
 
   pub sweep-ended : (table old : List ℕ) (t : Tally) (m : List ℕ) → record { tally = t; mem = m } ≡ listOf (sceneBy f xs table) (fresh old) (pairsOf g (atomsBy f xs))
-      → Ended (sceneBy f xs table) old (pairsOf (gridOf f) (atomsBy f xs)) t m
+      → Ended (lookedBy f xs table) old (pairsOf (gridOf f) (atomsBy f xs)) t m
   sweep-ended table old t m q =
-      ended (sceneBy f xs table) old (pairsOf (gridOf f) (atomsBy f xs)) t m (rw (w .is) at q) (grid-ready f xs (w .wide) framed few (sceneBy f xs table))
+      ended (lookedBy f xs table) old (pairsOf (gridOf f) (atomsBy f xs)) t m (rw (w .is) at q) (grid-ready f xs (w .wide) framed few (sceneBy f xs table))
 
 -- ---- what a plan shows
 impossible : {A : Type 0} → _≡_ {A = ℕ} 0 1 → A

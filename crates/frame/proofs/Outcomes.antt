@@ -1,4 +1,4 @@
--- The outcome of a build by its cases, and what an answered one lists. Assumes nothing.
+-- The outcome of a build by its cases, what an answered one lists, and that the lent pairs stay as long as they were. Assumes nothing.
 use Prim.Native.Nat.{ℕ, zero, suc, _/_, _%_, _≤_, _<_}
 use mathlib.Core.Path.{_≡_, refl, sym, ap, _∙_}
 use mathlib.Core.Bool.{Bool, true, false, cond, not, _||_}
@@ -15,7 +15,7 @@ use Rattle.answer.specs.Seen.{answered, refusedBy}
 use Rattle.lists.specs.Lists.{allPairs, numbers, inside, withEach, howMany, rows}
 use Rattle.lists.proofs.Cases.{by-test, or-neither}
 use Rattle.bins.specs.Listing.{laidOf}
-use Rattle.bins.proofs.Laid.{laid-rows}
+use Rattle.bins.proofs.Laid.{laid-rows, laid-length}
 use Rattle.exclusions.specs.Table.{isTable}
 use Rattle.frame.specs.declared.Frame.{Frame}
 use Rattle.frame.specs.declared.Built.{Built}
@@ -136,18 +136,20 @@ few-lists i c h e =
       checks = rw (no-pairs (length (i .coordinates) / 3) h);
     })
 
-after-lists : (i : Given) → Framed (i .frame) (i .coordinates) → (c : Counts) → afterOf i Answered .answer ≡ answered c → Listed i c (afterOf i Answered .pairs)
+-- what holds of each outcome of a build whose tests have passed holds of the one that it has
+after-cases : (i : Given) (P : Outcome → Type 0)
+    → (ltb (length (i .coordinates) / 3) 2 ≡ true → P (stays i (answered (record { pairs = 0; checks = 0; fallback = false }))))
+    → P (runOf i (i .starts) (i .items) true)
+    → P (stays i (refusedBy Cells))
+    → P (runOf i (startsLaid (i .frame) (i .coordinates) (i .starts)) (itemsLaid (i .frame) (i .coordinates) (i .items)) false)
+    → P (afterOf i Answered)
 unfolding afterOf
-after-lists i framed c =
-    by-test (λ t. Says (below t)) (ltb (length (i .coordinates) / 3) 2) (λ e q. few-lists i c (ltb-true (length (i .coordinates) / 3) 2 e) (cc))
-    (λ e.
-    by-test (λ t. Says (flat t)) (plainOf (i .frame)) (λ _. run-lists i framed c true (i .starts) (i .items))
+after-cases i P few plain crowd grid =
+    by-test (λ t. P (below t)) (ltb (length (i .coordinates) / 3) 2) few
     (λ _.
-    by-test (λ t. Says (full t)) (crowded (i .frame) (length (i .starts))) (λ _ q. impossible (cc)) (λ _. run-lists i framed c false _ _)))
+    by-test (λ t. P (flat t)) (plainOf (i .frame)) (λ _. plain)
+    (λ _. by-test (λ t. P (full t)) (crowded (i .frame) (length (i .starts))) (λ _. crowd) (λ _. grid)))
   where
-    Says : Outcome → Type 0
-    Says o = o .answer ≡ answered c → Listed i c (o .pairs)
-
     full : Bool → Outcome
     full t = cond t (stays i (refusedBy Cells)) (runOf i (startsLaid (i .frame) (i .coordinates) (i .starts)) (itemsLaid (i .frame) (i .coordinates) (i .items)) false)
 
@@ -156,6 +158,14 @@ after-lists i framed c =
 
     below : Bool → Outcome
     below t = cond t (stays i (answered (record { pairs = 0; checks = 0; fallback = false }))) (flat (plainOf (i .frame)))
+
+after-lists : (i : Given) → Framed (i .frame) (i .coordinates) → (c : Counts) → afterOf i Answered .answer ≡ answered c → Listed i c (afterOf i Answered .pairs)
+after-lists i framed c =
+    after-cases i (λ o. o .answer ≡ answered c → Listed i c (o .pairs))
+    (λ e q. few-lists i c (ltb-true (length (i .coordinates) / 3) 2 e) (cc))
+    (run-lists i framed c true (i .starts) (i .items))
+    (λ q. impossible (cc))
+    (run-lists i framed c false _ _)
 
 -- whatever the tests say
 asked-lists : (i : Given) (a : Done) → askedOf (i .frame) (i .coordinates) (i .exclusions) (length (i .items)) ≡ a → (c : Counts) → afterOf i a .answer ≡ answered c → Listed i c (afterOf i a .pairs)
@@ -170,3 +180,18 @@ build-lists i r pairs starts items h c q =
     let a = askedOf (i .frame) (i .coordinates) (i .exclusions) (length (i .items)) in
     let answer : afterOf i a .answer ≡ answered c = sym (ap (λ (o : Outcome). o .answer) h) ∙ q in
     rw (ap (λ (o : Outcome). o .pairs) h) (asked-lists i a refl c answer)
+
+-- ---- the lent pairs stay as long as they were
+run-kept : (i : Given) (starts items : List ℕ) (fallback : Bool) → length (runOf i starts items fallback .pairs) ≡ length (i .pairs)
+unfolding runOf
+run-kept i starts items fallback = laid-length (i .pairs) (nearPairs (i .frame) (i .coordinates) (i .exclusions))
+
+after-kept : (i : Given) (a : Done) → length (afterOf i a .pairs) ≡ length (i .pairs)
+unfolding afterOf
+after-kept i (Refused r) = refl
+after-kept i Answered =
+    after-cases i (λ o. length (o .pairs) ≡ length (i .pairs)) (λ _. refl) (run-kept i (i .starts) (i .items) true) refl (run-kept i _ _ false)
+
+pub pairs-kept : (i : Given) → length (buildOf i .pairs) ≡ length (i .pairs)
+unfolding buildOf
+pairs-kept i = after-kept i (askedOf (i .frame) (i .coordinates) (i .exclusions) (length (i .items)))

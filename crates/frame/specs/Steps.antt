@@ -1,7 +1,7 @@
 -- What the private functions ask and say of themselves: nobody has to believe it. Definitions only.
 use Prim.Native.Nat.{ℕ, _/_, _≤_, _<_}
 use mathlib.Core.Path.{_≡_}
-use mathlib.Core.Bool.{Bool, false, cond}
+use mathlib.Core.Bool.{false, cond}
 use mathlib.Core.List.{List}
 use lib.ListN.{length}
 use Rattle.bins.specs.declared.Grid.{Grid}
@@ -12,6 +12,7 @@ use Rattle.bins.specs.Traversal.{bin}
 use Rattle.bins.specs.declared.Tally.{Tally}
 use Rattle.bins.specs.Listing.{Scene, listOf}
 use Rattle.exclusions.specs.Table.{lookedUp}
+use Rattle.checks.specs.Checks.{lazy}
 use Rattle.frame.specs.declared.Frame.{Frame}
 use Rattle.frame.specs.declared.Spot.{Spot}
 use Rattle.frame.specs.declared.laying.Plan.{Plan}
@@ -47,13 +48,13 @@ pub record Gridded (f : Frame) (g : Grid) : Type 0 where
   pub wide : plainOf f ≡ false
   pub few : cells g ≤ 32768
 
--- what is excluded and what is near, as the loops find it
-unfoldable pub sceneBy : Frame → List ℕ → List ℕ → Scene
-sceneBy f xs table = record { excluded = lookedUp table; near = λ low high. nearOf f (spotOf xs low) (spotOf xs high) }
+-- what is excluded and what is near, by the lookup
+unfoldable pub lookedBy : Frame → List ℕ → List ℕ → Scene
+lookedBy f xs table = record { excluded = lookedUp table; near = λ low high. nearOf f (spotOf xs low) (spotOf xs high) }
 
--- the same, where it is known whether the pair is near
-unfoldable pub judged : List ℕ → Bool → Scene
-judged table near = record { excluded = lookedUp table; near = λ low high. near }
+-- the same as the loops find it: the near test first, and each candidate counted
+abbrev pub sceneBy : Frame → List ℕ → List ℕ → Scene
+sceneBy f xs table = lazy (lookedBy f xs table)
 
 -- from a tally t and a memory, the candidates lead to the tally r and the new memory
 abbrev pub Lists : Frame → List ℕ → List ℕ → Tally → List ℕ → List (ℕ × ℕ) → Tally → List ℕ → Type 0

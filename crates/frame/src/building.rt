@@ -11,7 +11,7 @@ use bins::Grid;
 use bins::Tally;
 ghost use mathlib.Core.Path.{_≡_};
 ghost use mathlib.Core.Bool.{true, false};
-ghost use Prim.Native.Nat.{_/_, _≤_, _<_};
+ghost use Prim.Native.Nat.{_+_, _-_, _/_, _≤_, _<_};
 ghost use lib.ListN.{length};
 ghost use Rattle.answer.specs.declared.Done.the-variants.{Answered as fine};
 ghost use Rattle.lists.specs.Lists.{rows};
@@ -22,12 +22,13 @@ ghost use Rattle.frame.specs.Laying.{plainOf};
 ghost use Rattle.frame.specs.Build.{seenBuilt, nearPairs, checksOf, shownOf, startsLaid, itemsLaid, given, afterOf};
 ghost use Rattle.frame.specs.Steps.{Framed, Gridded};
 
-fn finish(t: Tally, room: usize, fallback: bool) -> Built
-    requires { ⌜ (t .count ≤ t .checks) × (t .checks < 4294967296) ⌝ }
-    ensures { λ r. ⌜ seenBuilt r ≡ shownOf (t .count) (t .checks) room fallback ⌝ }
+// What a run has found: the checks are the candidates, which it has counted, less the exclusion rows among them.
+fn finish(t: Tally, excluded: u64, room: usize, fallback: bool) -> Built
+    requires { ⌜ (t .count + excluded ≤ t .checks) × (t .checks < 4294967296) ⌝ }
+    ensures { λ r. ⌜ seenBuilt r ≡ shownOf (t .count) (t .checks - excluded) room fallback ⌝ }
 {
     let count = t.count;
-    let checks = t.checks;
+    let checks = t.checks - excluded as usize;
     if count <= room {
         return Built::Answered {
             pairs: count as u32,
@@ -56,7 +57,8 @@ fn run_plain(f: Frame, xs: &[u32], table: &[u32], pairs: &mut [u32]) -> Built
         },
         n,
     );
-    finish(t, pairs.len() / 2, true)
+    let excluded = checks::kernel::rows_below(table, n as usize);
+    finish(t, excluded, pairs.len() / 2, true)
 }
 
 fn run_grid(
@@ -76,7 +78,7 @@ fn run_grid(
     ensures { λ _. ⌜ now (starts .exit) ≡ startsLaid f (now (xs .entry)) (now (starts .entry)) ⌝ }
     ensures { λ _. ⌜ now (items .exit) ≡ itemsLaid f (now (xs .entry)) (now (items .entry)) ⌝ }
 {
-    lay(f, g, xs, starts, items);
+    let excluded = lay(f, g, xs, table, starts, items);
     let t = sweep_all(
         f,
         g,
@@ -90,7 +92,7 @@ fn run_grid(
             checks: 0,
         },
     );
-    finish(t, pairs.len() / 2, false)
+    finish(t, excluded, pairs.len() / 2, false)
 }
 
 // A build whose tests have passed, of two atoms or more.

@@ -10,9 +10,12 @@ ghost use Prim.Native.Nat.{_+_, _*_, _/_, _≤_, _<_};
 ghost use lib.ListN.{length};
 ghost use Rattle.bins.specs.Edge.{binsOn, binOn};
 ghost use Rattle.bins.specs.Stencil.{flatten, cells};
+ghost use Rattle.bins.specs.Sort.{startsAfter, itemsAfter};
+ghost use Rattle.checks.specs.Checks.{cellIn, rowsTouching};
+ghost use Rattle.lists.specs.Lists.{rows};
 ghost use Rattle.lists.specs.Loops.{mapAt};
 ghost use Rattle.frame.specs.Distance.{spotOf};
-ghost use Rattle.frame.specs.Laying.{gridOf, cellOf, narrow, placeAt};
+ghost use Rattle.frame.specs.Laying.{gridOf, cellAt, cellOf, narrow, placeAt};
 ghost use Rattle.frame.specs.Build.{startsLaid, itemsLaid};
 ghost use Rattle.frame.specs.Steps.{Sized, Inside, Framed, Gridded, planOf};
 
@@ -141,16 +144,34 @@ fn blank() -> [u32; 16384]
     [0u32; 16384]
 }
 
-// The atoms sorted by their cells into the lent tables.
-pub(crate) fn lay(f: Frame, g: Grid, xs: &[u32], starts: &mut [u32], items: &mut [u32])
+// The atoms sorted by their places into the lent tables; and the exclusion rows whose atoms' cells touch.
+fn sort_in(g: Grid, places: &[u32], table: &[u32], starts: &mut [u32], items: &mut [u32]) -> u64
+    ensures { λ r. ⌜ r ≡ rowsTouching g (length (now (places .entry))) (cellIn g (now (places .entry))) (rows (now (table .entry))) ⌝ }
+    ensures { λ _. ⌜ now (starts .exit) ≡ startsAfter (now (places .entry)) (cells g) (now (starts .entry)) (now (items .entry)) ⌝ }
+    ensures { λ _. ⌜ now (items .exit) ≡ itemsAfter (now (places .entry)) (cells g) (now (starts .entry)) (now (items .entry)) ⌝ }
+{
+    let count = bins::kernel::cell_count(g) as usize;
+    bins::kernel::sort(places, count, starts, items);
+    checks::kernel::rows_touching(g, places, table)
+}
+
+// The atoms sorted by their cells into the lent tables; and the exclusion rows whose atoms' cells touch: only here are the atoms' places at hand.
+pub(crate) fn lay(
+    f: Frame,
+    g: Grid,
+    xs: &[u32],
+    table: &[u32],
+    starts: &mut [u32],
+    items: &mut [u32],
+) -> u64
     requires { ⌜ Framed f (now xs) × Gridded f g ⌝ }
     requires { ⌜ (length (now xs) / 3 ≤ 16384) × (cells g < length (now starts)) × (length (now xs) / 3 ≤ length (now items)) ⌝ }
+    ensures { λ r. ⌜ r ≡ rowsTouching (gridOf f) (length (now (xs .entry)) / 3) (cellAt f (now (xs .entry))) (rows (now (table .entry))) ⌝ }
     ensures { λ _. ⌜ now (starts .exit) ≡ startsLaid f (now (xs .entry)) (now (starts .entry)) ⌝ }
     ensures { λ _. ⌜ now (items .exit) ≡ itemsLaid f (now (xs .entry)) (now (items .entry)) ⌝ }
 {
     let n = xs.len() / 3;
     let mut places = blank();
     bin_atoms(f, g, xs, &mut places[..n]);
-    let count = bins::kernel::cell_count(g) as usize;
-    bins::kernel::sort(&places[..n], count, starts, items);
+    sort_in(g, &places[..n], table, starts, items)
 }

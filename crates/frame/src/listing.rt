@@ -1,4 +1,5 @@
-// The pairs of candidates, listed: what is not excluded is a check, and what is near is stored where there is room.
+// The pairs of candidates, listed: each is counted, and what is near and not excluded is stored where there is room. Only a near pair is looked up in
+// the exclusion table: the checks are the candidates less the rows among them, which are counted apart (crate checks).
 use crate::Frame;
 use crate::Spot;
 use crate::distance::is_near;
@@ -9,28 +10,32 @@ ghost use Prim.Native.Nat.{_+_, _-_, _/_, _≤_, _<_};
 ghost use lib.ListN.{length};
 ghost use Rattle.lists.specs.Lists.{numbers, ordered, withEach, inside, across, allPairs};
 ghost use Rattle.bins.specs.Listing.{considerOf, Ready, Below};
+ghost use Rattle.checks.specs.Steps.{judged};
 ghost use Rattle.frame.specs.Distance.{spotOf};
-ghost use Rattle.frame.specs.Steps.{Framed, judged, sceneBy, Lists};
+ghost use Rattle.frame.specs.Steps.{Framed, sceneBy, Lists};
 
 // A candidate pair, low atom first, of which it is known whether it is near.
 fn settle(table: &[u32], pairs: &mut [u32], t: Tally, low: u32, high: u32, near: bool) -> Tally
     requires { ⌜ Ready t 1 ⌝ }
     ensures { λ r. ⌜ record { tally = r; mem = now (pairs .exit) } ≡ considerOf (judged (now (table .entry)) near) (record { tally = t; mem = now (pairs .entry) }) (low, high) ⌝ }
 {
-    if exclusions::kernel::excluded(table, low, high) {
-        return t;
-    }
     let checks = t.checks + 1;
     let count = t.count;
-    if near {
-        bins::kernel::push(pairs, count, low, high);
+    if !near {
         return Tally {
-            count: count + 1,
+            count: count,
             checks: checks,
         };
     }
+    if exclusions::kernel::excluded(table, low, high) {
+        return Tally {
+            count: count,
+            checks: checks,
+        };
+    }
+    bins::kernel::push(pairs, count, low, high);
     Tally {
-        count: count,
+        count: count + 1,
         checks: checks,
     }
 }

@@ -13,4 +13,11 @@ unfolding shownOf
 returns-2 c = simp (lt-leb _ _ (c .if1 .left))
 
 pub finish-spec : {M : Type 1} → statement M
-finish-spec = tie.close (tie.spec (λ c. search needs) (λ c. search needs) returns returns-2)
+finish-spec =
+    tie.close
+    (tie.spec
+    (λ c. search needs)
+    (λ c. search needs)
+    (λ c. search needs)
+    returns
+    returns-2)

@@ -1,7 +1,8 @@
 use Prim.Native.Nat.{ℕ, _/_}
 use Rattle.bins.proofs.Found.{plain-ready}
-use Rattle.frame.proofs.Builds.{ended, plain-count, plain-mem, plain-tested, shown-is}
-use Rattle.frame.specs.Steps.{sceneBy}
+use Rattle.frame.proofs.Builds.{plain-count, plain-mem, plain-room, plain-left, shown-is}
+use Rattle.checks.proofs.Runs.{ended}
+use Rattle.frame.specs.Steps.{lookedBy, sceneBy}
 use Rattle.lists.specs.Lists.{allPairs}
 use borrow.Author.Needs.{needs}
 use lib.ListN.{length}
@@ -12,13 +13,13 @@ use Rattle.frame.proofs.building.run_plain.Statement.{statement}
 use Rattle.frame.proofs.building.run_plain.Tie as tie
 
 consider-all-requires : tie.Need-consider-all-requires
-consider-all-requires c κs = (c .before .before .before .before .pre .0 .0, (omega arith, plain-ready (sceneBy (c .before .before .before .before .args .f) (c .before .before .before .before .args .xs .now) (c .before .before .before .before .args .table .now)) (length (c .before .before .before .before .args .xs .now) / 3) (c .before .before .before .before .pre .1 .0)))
+consider-all-requires c κs = let x = c .before .before .before .before in let n = length (x .args .xs .now) / 3 in (x .pre .0 .0, (omega arith, plain-ready (sceneBy (x .args .f) (x .args .xs .now) (x .args .table .now)) n (x .pre .1 .0)))
 
 finish-requires : tie.Need-finish-requires
-finish-requires c κs = let x = c .before .before .before .before .before .before .before in let e = sceneBy (x .args .f) (x .args .xs .now) (x .args .table .now) in let n = length (x .args .xs .now) / 3 in let z = ended e (x .args .pairs .now) (allPairs n) _ _ (c .before .before .consider-all .ensures) (plain-ready e n (x .pre .1 .0)) in (z .order, z .few)
+finish-requires c κs = let x = c .before .before .before .before .before .before .before .before in let n = length (x .args .xs .now) / 3 in let z = ended (lookedBy (x .args .f) (x .args .xs .now) (x .args .table .now)) (x .args .pairs .now) (allPairs n) _ _ (c .before .before .before .consider-all .ensures) (plain-ready (sceneBy (x .args .f) (x .args .xs .now) (x .args .table .now)) n (x .pre .1 .0)) in (plain-room (x .args .f) (x .args .xs .now) (x .args .table .now) (x .pre .0 .1) (x .args .pairs .now) (x .pre .1 .1) z (c .rows-below .ensures), z .few)
 
 returns : tie.Need-returns
-returns c = let x = c .before .before .before .before .before .before .before .before in let e = sceneBy (x .args .f) (x .args .xs .now) (x .args .table .now) in let n = length (x .args .xs .now) / 3 in let z = ended e (x .args .pairs .now) (allPairs n) _ _ (c .before .before .before .consider-all .ensures) (plain-ready e n (x .pre .1 .0)) in (shown-is true (c .finish .ensures) (plain-count (x .args .f) (x .args .xs .now) (x .args .table .now) (x .pre .0 .1) (x .args .pairs .now) (x .pre .1 .1) z) (plain-tested (x .args .f) (x .args .xs .now) (x .args .table .now) (x .pre .0 .1) (x .args .pairs .now) (x .pre .1 .1) z) (ap (λ (l : ℕ). l / 2) (z .same)), plain-mem (x .args .f) (x .args .xs .now) (x .args .table .now) (x .pre .0 .1) (x .args .pairs .now) (x .pre .1 .1) z)
+returns c = let x = c .before .before .before .before .before .before .before .before .before in let n = length (x .args .xs .now) / 3 in let z = ended (lookedBy (x .args .f) (x .args .xs .now) (x .args .table .now)) (x .args .pairs .now) (allPairs n) _ _ (c .before .before .before .before .consider-all .ensures) (plain-ready (sceneBy (x .args .f) (x .args .xs .now) (x .args .table .now)) n (x .pre .1 .0)) in (shown-is true (c .finish .ensures) (plain-count (x .args .f) (x .args .xs .now) (x .args .table .now) (x .pre .0 .1) (x .args .pairs .now) (x .pre .1 .1) z) (plain-left (x .args .f) (x .args .xs .now) (x .args .table .now) (x .pre .0 .1) (x .args .pairs .now) (x .pre .1 .1) z (c .before .rows-below .ensures)) (ap (λ (l : ℕ). l / 2) (z .same)), plain-mem (x .args .f) (x .args .xs .now) (x .args .table .now) (x .pre .0 .1) (x .args .pairs .now) (x .pre .1 .1) z)
 
 pub run-plain-spec : {M : Type 1} → statement M
 run-plain-spec =
@@ -26,6 +27,8 @@ run-plain-spec =
     (tie.spec
     (λ c. search needs)
     consider-all-requires
+    (λ c. search needs)
+    (λ c κs. search needs)
     finish-requires
     (λ c. search needs)
     returns)

@@ -1,6 +1,6 @@
 use Prim.Native.Nat.{_/_}
 use Rattle.bins.specs.Stencil.{cells}
-use Rattle.frame.proofs.Tables.{room-front, done-within, done-part, laid-starts, laid-items}
+use Rattle.frame.proofs.Tables.{room-front, done-within, done-part, laid-starts, laid-items, laid-rows}
 use borrow.Author.Needs.{needs}
 use lib.ListN.{length}
 use mathlib.Core.Path.{_∙_, sym, ap}
@@ -9,19 +9,19 @@ use Rattle.frame.proofs.laying.lay.Statement.{statement}
 use Rattle.frame.proofs.laying.lay.Tie as tie
 
 slice-aggregate-bin-atoms : tie.Need-slice-aggregate-bin-atoms
-slice-aggregate-bin-atoms c = let x = c .before .before .before .before .before in sym (room-front (c .before .blank .result) (length (x .args .xs .now) / 3) (c .before .blank .ensures) (x .pre .1 .0))
+slice-aggregate-bin-atoms c = let x = c .before .before .before .before .before .before in sym (room-front (c .before .blank .result) (length (x .args .xs .now) / 3) (c .before .blank .ensures) (x .pre .1 .0))
 
 bin-atoms-requires : tie.Need-bin-atoms-requires
-bin-atoms-requires c κs = let x = c .before .before .before .before .before in (x .pre .0, omega (arith, room-front (c .before .blank .result) (length (x .args .xs .now) / 3) (c .before .blank .ensures) (x .pre .1 .0)))
+bin-atoms-requires c κs = let x = c .before .before .before .before .before .before in (x .pre .0, omega (arith, room-front (c .before .blank .result) (length (x .args .xs .now) / 3) (c .before .blank .ensures) (x .pre .1 .0)))
 
 array-share-prefix-places : tie.Need-array-share-prefix-places
-array-share-prefix-places c = let x = c .before .before .before .before .before .before .before .before in done-within (x .args .f) (x .args .xs .now) (x .pre .0 .0) (c .before .before .before .before .blank .result) (c .before .before .bin-atoms .last .1 .1 .1 .0) (c .before .before .before .before .blank .ensures) (x .pre .1 .0) (c .before .before .bin-atoms .ensures)
+array-share-prefix-places c = let x = c .before .before .before .before .before .before .before .before in done-within (x .args .f) (x .args .xs .now) (x .pre .0 .0) (c .before .before .before .blank .result) (c .before .bin-atoms .last .1 .1 .1 .0) (c .before .before .before .blank .ensures) (x .pre .1 .0) (c .before .bin-atoms .ensures)
 
-slice-aggregate-sort : tie.Need-slice-aggregate-sort
-slice-aggregate-sort c = let x = c .before .before .before .before .before .before .before .before .before in done-part (x .args .f) (x .args .xs .now) (x .pre .0 .0) (c .before .before .before .before .before .blank .result) (c .before .before .before .bin-atoms .last .1 .1 .1 .0) (c .before .before .before .before .before .blank .ensures) (x .pre .1 .0) (c .before .before .before .bin-atoms .ensures)
+slice-aggregate-sort-in : tie.Need-slice-aggregate-sort-in
+slice-aggregate-sort-in c = let x = c .before .before .before .before .before .before .before .before .before in done-part (x .args .f) (x .args .xs .now) (x .pre .0 .0) (c .before .before .before .before .blank .result) (c .before .before .bin-atoms .last .1 .1 .1 .0) (c .before .before .before .before .blank .ensures) (x .pre .1 .0) (c .before .before .bin-atoms .ensures)
 
 returns : tie.Need-returns
-returns c = let x = c .before .before .before .before .before .before .before .before .before .before .before .before .before .before .before .before in (c .before .before .before .before .sort .ensures .1 .0 ∙ laid-starts (x .args .f) (x .args .xs .now) (x .pre .0 .0) (c .before .before .before .before .before .before .before .before .before .before .before .before .blank .result) (c .before .before .before .before .before .before .before .before .before .before .bin-atoms .last .1 .1 .1 .0) (c .before .before .before .before .before .before .before .before .before .before .before .before .blank .ensures) (x .pre .1 .0) (c .before .before .before .before .before .before .before .before .before .before .bin-atoms .ensures) (x .args .starts .now) (x .args .items .now) _ (c .before .before .before .before .before .before .before .before .cell-count .ensures ∙ ap cells (x .pre .0 .1 .is)) (omega (arith, x .pre .1 .1, c .before .before .before .before .before .before .before .before .cell-count .ensures)) (x .pre .1 .2), c .before .before .before .before .sort .ensures .1 .1 ∙ laid-items (x .args .f) (x .args .xs .now) (x .pre .0 .0) (c .before .before .before .before .before .before .before .before .before .before .before .before .blank .result) (c .before .before .before .before .before .before .before .before .before .before .bin-atoms .last .1 .1 .1 .0) (c .before .before .before .before .before .before .before .before .before .before .before .before .blank .ensures) (x .pre .1 .0) (c .before .before .before .before .before .before .before .before .before .before .bin-atoms .ensures) (x .args .starts .now) (x .args .items .now) _ (c .before .before .before .before .before .before .before .before .cell-count .ensures ∙ ap cells (x .pre .0 .1 .is)) (omega (arith, x .pre .1 .1, c .before .before .before .before .before .before .before .before .cell-count .ensures)) (x .pre .1 .2))
+returns c = let x = c .before .before .before .before .before .before .before .before .before .before .before .before .before .before .before .before in (c .before .before .before .before .sort-in .ensures .0 ∙ laid-rows (x .args .f) (x .args .xs .now) (x .pre .0 .0) (c .before .before .before .before .before .before .before .before .before .before .before .blank .result) (c .before .before .before .before .before .before .before .before .before .bin-atoms .last .1 .1 .1 .0) (c .before .before .before .before .before .before .before .before .before .before .before .blank .ensures) (x .pre .1 .0) (c .before .before .before .before .before .before .before .before .before .bin-atoms .ensures) (x .pre .0 .1 .is) _, (c .before .before .before .before .sort-in .ensures .1 .0 ∙ laid-starts (x .args .f) (x .args .xs .now) (x .pre .0 .0) (c .before .before .before .before .before .before .before .before .before .before .before .blank .result) (c .before .before .before .before .before .before .before .before .before .bin-atoms .last .1 .1 .1 .0) (c .before .before .before .before .before .before .before .before .before .before .before .blank .ensures) (x .pre .1 .0) (c .before .before .before .before .before .before .before .before .before .bin-atoms .ensures) (x .args .starts .now) (x .args .items .now) _ (ap cells (x .pre .0 .1 .is)) (x .pre .1 .1) (x .pre .1 .2), c .before .before .before .before .sort-in .ensures .1 .1 ∙ laid-items (x .args .f) (x .args .xs .now) (x .pre .0 .0) (c .before .before .before .before .before .before .before .before .before .before .before .blank .result) (c .before .before .before .before .before .before .before .before .before .bin-atoms .last .1 .1 .1 .0) (c .before .before .before .before .before .before .before .before .before .before .before .blank .ensures) (x .pre .1 .0) (c .before .before .before .before .before .before .before .before .before .bin-atoms .ensures) (x .args .starts .now) (x .args .items .now) _ (ap cells (x .pre .0 .1 .is)) (x .pre .1 .1) (x .pre .1 .2)))
 
 pub lay-spec : {M : Type 1} → statement M
 lay-spec =
@@ -31,9 +31,8 @@ lay-spec =
     (λ c. search needs)
     slice-aggregate-bin-atoms
     bin-atoms-requires
-    (λ c κs. search needs)
     array-share-prefix-places
-    slice-aggregate-sort
+    slice-aggregate-sort-in
     (λ c κs. search needs)
     (λ c. search needs)
     (λ c. search needs)

@@ -1,7 +1,7 @@
 use Prim.Native.Nat.{_-_, _≤_}
 use Rattle.bins.proofs.Runs.{Run}
 use Rattle.bins.specs.Traversal.{pairsOf}
-use Rattle.frame.proofs.Listings.{cells-begin, cellsFrom, cell-turn, cell-ready, cells-end, cell-in}
+use Rattle.bins.proofs.Sweeps.{cells-begin, cellsFrom, cell-turn, cell-ready, cells-end, cell-in}
 use Rattle.frame.specs.Steps.{atomsBy, sceneBy}
 use borrow.Author.Needs.{needs}
 use lib.ListN.{length}

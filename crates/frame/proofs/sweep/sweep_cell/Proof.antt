@@ -1,7 +1,7 @@
 use Prim.Native.Nat.{_-_, _≤_}
 use Rattle.bins.proofs.Runs.{Run, run-each, run-each-end, ready-each}
 use Rattle.bins.specs.Traversal.{visit, cellPairs}
-use Rattle.frame.proofs.Listings.{rows-begin, rowsFrom}
+use Rattle.bins.proofs.Sweeps.{rows-begin, rowsFrom}
 use Rattle.frame.specs.Steps.{atomsBy, sceneBy}
 use lib.ListN.{length}
 use mathlib.Core.Path.{_≡_, refl, _∙_}

@@ -1,6 +1,7 @@
 use Prim.Native.Nat.{ℕ}
 use Rattle.bins.specs.declared.Cell.{Cell}
-use Rattle.frame.proofs.Listings.{row-none, row-other, row-home, row-cross, part-is, part-below}
+use Rattle.bins.proofs.Sweeps.{row-none, row-other, row-home, row-cross}
+use Rattle.frame.proofs.Listings.{part-is, part-below}
 use Rattle.frame.specs.Steps.{atomsBy}
 use borrow.Author.Needs.{needs}
 use mathlib.Core.List.{List}
