@@ -4,16 +4,10 @@ use libc::STDIN_FILENO;
 use libc::STDOUT_FILENO;
 use solve::solve;
 ghost use mathlib.Core.Path.{_≡_};
-ghost use Rattle.io.specs.Counts.{Counts};
-ghost use Rattle.solve.specs.Solve.{solveOf};
-
-// n, where the buffer has as many bytes.
-fn within(n: u64, buf: &[u8]) -> usize
-    ensures { λ r. ⌜ Counts r (now (buf .entry)) ⌝ }
-{
-    let m = n as usize;
-    if m <= buf.len() { m } else { buf.len() }
-}
+ghost use Prim.Native.Nat.{_≤_};
+ghost use lib.ListN.{length};
+ghost use lib.Seq.{sets};
+ghost use Rattle.solve.specs.Solve.{printed, solveOf};
 
 // The answer of one sheet, or its refusal's line; `out` is room to write it in.
 pub fn print(sheet: &[u8], out: &mut [u8])
@@ -22,11 +16,19 @@ pub fn print(sheet: &[u8], out: &mut [u8])
     let answer = solve(sheet, out);
     match answer {
         Whole::Answered(n) => {
-            let wrote = within(n, out);
+            let wrote = n as usize;
             io::write_all(STDOUT_FILENO, &out[..wrote]);
         }
         Whole::Refused(_) => {}
     }
+}
+
+// With room for the longest answer, every sheet's whole text is printed.
+fn print_whole(sheet: &[u8], out: &mut [u8])
+    requires { ⌜ 90133 ≤ length (now out) ⌝ }
+    ensures { λ _. ⌜ now (out .exit) ≡ sets (now (out .entry)) 0 (printed (now (sheet .entry))) ⌝ }
+{
+    print(sheet, out);
 }
 
 // Reads one byte more than a sheet may have, so that a longer one is seen to be longer.
@@ -34,5 +36,5 @@ pub fn run() {
     let mut input = [0u8; 65537];
     let mut out = [0u8; 90133];
     let got = io::read_full(STDIN_FILENO, &mut input);
-    print(&input[..got], &mut out);
+    print_whole(&input[..got], &mut out);
 }

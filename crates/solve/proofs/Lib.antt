@@ -1,3 +1,4 @@
 pub mod Telling
 pub mod AnyOrder
 pub mod Only
+pub mod Fitting

@@ -47,7 +47,7 @@ abbrev told : Seen Job → List ℕ → List ℕ → reading.Outcome
 told s co ex = record { shown = s; coordinates = co; exclusions = ex }
 
 -- the numbers handed out stand at the front of the room
-front : (xs room : List ℕ) (n : ℕ) → length xs ≡ n → n ≤ length room → take n (sets room 0 xs) ≡ xs
+pub front : (xs room : List ℕ) (n : ℕ) → length xs ≡ n → n ≤ length room → take n (sets room 0 xs) ≡ xs
 front xs room n e h =
     let s : sets room 0 xs ≡ take 0 room ++ xs ++ drop (0 + length xs) room = sets-eq xs room 0 (omega arith) in
     ap (λ (l : List ℕ). take n l) s ∙ take-at xs (drop (0 + length xs) room) n e

@@ -1,5 +1,5 @@
 -- What the program prints for an input, whole, and what `solve` answers and leaves: one outcome from the entry values alone. Definitions only.
-use Prim.Native.Nat.{ℕ}
+use Prim.Native.Nat.{ℕ, _≤_}
 use mathlib.Core.Path.{_≡_}
 use mathlib.Core.Bool.{cond}
 use mathlib.Core.List.{List}
@@ -70,3 +70,13 @@ solveOf s out =
 
 abbrev pub SolveSays : List ℕ → List ℕ → Whole → List ℕ → Type 0
 SolveSays s out r out′ = record { shown = seenWhole r; out = out′ } ≡ solveOf s out
+
+-- The first n bytes are the whole text, and no sheet's text is longer than 90,133 bytes: a count line of 21 and 8,192 lines of 11. So nothing is ever cut off.
+pub record Fits (s : List ℕ) (n : ℕ) (out′ : List ℕ) : Type 0 where
+  pub most : n ≤ 90133
+  pub room : n ≤ length out′
+  pub text : take n out′ ≡ printed s
+
+-- after an answered call
+abbrev pub SolveFits : List ℕ → Whole → List ℕ → Type 0
+SolveFits s r out′ = (n : ℕ) → seenWhole r ≡ answered n → Fits s n out′

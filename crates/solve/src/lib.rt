@@ -16,7 +16,7 @@ ghost use lib.ListN.{length, take};
 ghost use lib.Seq.{sets};
 ghost use Rattle.answer.specs.Seen.{numberOf, placeOf};
 ghost use Rattle.printed.specs.Printed.{refusalLine};
-ghost use Rattle.solve.specs.Solve.{frameFor, jobText, SolveSays};
+ghost use Rattle.solve.specs.Solve.{frameFor, jobText, SolveSays, SolveFits};
 
 fn frame_of(job: Job) -> Frame
     ensures { λ r. ⌜ r ≡ frameFor job ⌝ }
@@ -77,7 +77,8 @@ fn put_job(job: Job, coordinates: &[u32], exclusions: &[u32], out: &mut [u8]) ->
 // The printed answer of a sheet at the front of `out`, and how many bytes it is. 1: out is under 90,133 bytes, which is a
 // count line and 8,192 pairs.
 pub fn solve(input: &[u8], out: &mut [u8]) -> Whole
-    ensures { λ r. ⌜ SolveSays (now (input .entry)) (now (out .entry)) r (now (out .exit)) ⌝ }
+    ensures says { λ r. ⌜ SolveSays (now (input .entry)) (now (out .entry)) r (now (out .exit)) ⌝ }
+    ensures fits { λ r. ⌜ SolveFits (now (input .entry)) r (now (out .exit)) ⌝ }
 {
     if out.len() < 90133 {
         return Whole::Refused(Refusal::Lengths);
