@@ -1,0 +1,6 @@
+pub mod Tables
+pub mod Sizes
+pub mod Plans
+pub mod Loops
+pub mod Measured
+pub mod Layouts

@@ -1,0 +1,4 @@
+pub mod Considered
+pub mod Counts
+pub mod Outcomes
+pub mod Numbered

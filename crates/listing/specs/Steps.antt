@@ -1,0 +1,58 @@
+-- What the private functions ask and say of themselves: nobody has to believe it. Definitions only.
+use Prim.Native.Nat.{ℕ}
+use mathlib.Core.Path.{_≡_}
+use mathlib.Core.Bool.{Bool, false}
+use mathlib.Core.List.{List}
+use lib.Ieee.{Float, le}
+use Rattle.cell.specs.declared.Vec3.{Vec3}
+use Rattle.cell.specs.declared.Cell.{Cell as Cell′}
+use Rattle.cell.specs.Vec.{subOf, norm2Of}
+use Rattle.float.specs.Arith.{_⊗_}
+use Rattle.prepared.specs.Facts.{prepareOf, imageIn}
+use Rattle.bins.specs.declared.Cell.{Cell}
+use Rattle.bins.specs.declared.Grid.{Grid}
+use Rattle.bins.specs.declared.Tally.{Tally}
+use Rattle.bins.specs.Stencil.{InGrid, flatten}
+use Rattle.bins.specs.Sort.{atomsIn}
+use Rattle.bins.specs.Traversal.{bin}
+use Rattle.bins.specs.Listing.{Scene, listOf, Below}
+use Rattle.checks.specs.Checks.{lazy}
+use Rattle.exclusions.specs.Table.{lookedUp}
+use Rattle.grid.specs.Grid.{spotOf, atomsOf, gridOf, cellAt, plainOf}
+use Rattle.grid.specs.Layout.{touchingRows}
+use Rattle.listing.specs.declared.sight.Sight.{Sight}
+
+-- whether a low atom at a and a high one at b are near
+unfoldable pub seesOf : Sight → Vec3 → Vec3 → Bool
+seesOf s a b = le (norm2Of (imageIn (s .prepared) (subOf a b) .diff)) (s .limit)
+
+-- what is excluded and what is near, as the loops find it; and the near test first
+unfoldable pub lookedBy : Sight → List Float → List ℕ → Scene
+lookedBy s xs table = record { excluded = lookedUp table; near = λ low high. seesOf s (spotOf xs low) (spotOf xs high) }
+
+unfoldable pub sceneBy : Sight → List Float → List ℕ → Scene
+unfolding lazy lookedBy
+sceneBy s xs table = lazy (lookedBy s xs table)
+
+-- from a tally t and a memory, the candidates lead to the tally r and the new memory
+abbrev pub Lists : Sight → List Float → List ℕ → Tally → List ℕ → List (ℕ × ℕ) → Tally → List ℕ → Type 0
+Lists s xs table t old cands r new = record { tally = r; mem = new } ≡ listOf (sceneBy s xs table) (record { tally = t; mem = old }) cands
+
+-- the atoms of a cell, as the tables hand them out
+abbrev pub atomsBy : Grid → List ℕ → List ℕ → Cell → List ℕ
+atomsBy g starts items c = atomsIn (flatten g c) starts items
+
+-- and they are atoms
+pub record Swept (g : Grid) (n : ℕ) (starts items : List ℕ) : Type 0 where
+  pub below : (c : Cell) → InGrid g c → Below n (atomsBy g starts items c)
+
+-- a cell's facts and the squared radius
+unfoldable pub sightOf : Cell′ → Float → Sight
+sightOf cell r = record { prepared = prepareOf cell; limit = r ⊗ r }
+
+-- the frame's own grid, laid into the tables; `excluded` are the exclusion rows of touching cells
+pub record Gridded (cell : Cell′) (r : Float) (xs : List Float) (table : List ℕ) (g : Grid) (excluded : ℕ) (starts items : List ℕ) : Type 0 where
+  pub is : g ≡ gridOf cell r xs
+  pub wide : plainOf cell r xs ≡ false
+  pub counted : excluded ≡ touchingRows cell r xs table
+  pub part : (c : Cell) → InGrid g c → atomsBy g starts items c ≡ bin (atomsOf xs) (cellAt cell r xs) c

@@ -1,0 +1,236 @@
+-- The tests of the calls by their cases, as the code takes them, and a search over the numbers below n. Assumes nothing.
+use Prim.Native.Nat.{ℕ, _+_, _-_, _*_, _/_, _%_, _≤_, _<_}
+use native.Mathlib.Nat.{sub-zero}
+use native.Mathlib.Omega.{arith}
+use mathlib.Core.Path.{_≡_, refl, sym, ap, _∙_}
+use mathlib.Core.Bool.{Bool, true, false, cond, not, _&&_, _||_}
+use mathlib.Core.List.{List, []}
+use lib.ListN.{length, take}
+use lib.Seq.{take-all, length-take-le}
+use lib.Dec.{eqb, ltb}
+use lib.Ieee.{Float, lt, le}
+use borrow.Author.Tests.{lt-ltb, le-ltb, ltb-false, eqb-true, not-true, not-false}
+use Rattle.answer.specs.declared.Done.{Done}
+use Rattle.answer.specs.declared.Done.the-variants.{Answered, Refused}
+use Rattle.answer.specs.declared.Refusal.{Refusal}
+use Rattle.answer.specs.declared.Refusal.the-variants.{Lengths, TooMany, Range, NotThere, Order, Claims}
+use Rattle.answer.specs.Seen.{answered, refusedBy}
+use Rattle.float.specs.Arith.{_⊗_, bits}
+use Rattle.ranges.specs.Range.{within}
+use Rattle.lists.specs.Lists.{numbers, upTo, some, every, rows}
+use Rattle.lists.proofs.Cases.{or-neither}
+use Rattle.lists.proofs.Walks.{numbers-next, numbers-end}
+use Rattle.rows.specs.Rows.{absentOf}
+use Rattle.cell.specs.declared.Cell.{Cell}
+use Rattle.cell.specs.declared.Image.{Image}
+use Rattle.cell.specs.Vec.{subOf, norm2Of}
+use Rattle.cell.specs.Range.{entryLimit, cellInRange}
+use Rattle.prepared.specs.declared.Prepared.{Prepared}
+use Rattle.prepared.specs.Facts.{prepareOf}
+use Rattle.prepared.proofs.Law.{prepared-image}
+use Rattle.exclusions.specs.Table.{isTable}
+use Rattle.grid.specs.Grid.{spotOf}
+use Rattle.neighbor.specs.declared.State.{State}
+use Rattle.neighbor.specs.State.{settingsOk, skinOf}
+use Rattle.neighbor.specs.Steps.{strayed}
+use Rattle.neighbor.specs.Rebuild.{half, allowance, movedOf, needsOf, claimsMore, referencesOk, rangesOk, questionOf, needsSeen}
+use Rattle.neighbor.specs.Update.{lengthsBad, listedOf, firstOf, misnamed, keptAsked, tableAsked, andThen, askedOf}
+
+impossible : {A : Type 0} → _≡_ {A = ℕ} 0 1 → A
+impossible e = absurd (omega arith)
+
+-- a test that was passed
+pub pass : (t : Bool) (r : Refusal) (rest : Done) → cond t (Refused r) rest ≡ Answered → (t ≡ false) × (rest ≡ Answered)
+pass true r rest q = impossible (cc)
+pass false r rest q = (refl, q)
+
+-- ---- a search of the numbers below n, one after the other: what is left decides
+pub record Searching (p : ℕ → Bool) (n i : ℕ) : Type 0 where
+  pub within : i ≤ n
+  pub same : some p (numbers i (n - i)) ≡ some p (upTo n)
+
+module _ (p : ℕ → Bool) (n : ℕ) where
+  pub searching-begin : Searching p n 0
+  searching-begin = record { within = omega arith; same = rw sub-zero refl }
+
+  module _ {i : ℕ} (u : Searching p n i) where
+    module _ (l : i < n) where
+      pub searching-turn : p i ≡ false → Searching p n (i + 1)
+      unfolding some
+      searching-turn h = record { within = omega arith; same = rw (numbers-next n i l, h) at (u .same) }
+
+      pub searching-finds : p i ≡ true → true ≡ some p (upTo n)
+      unfolding some
+      searching-finds h = rw (numbers-next n i l, h) at (u .same)
+
+    pub searching-end : n ≤ i → false ≡ some p (upTo n)
+    unfolding some
+    searching-end l = rw (numbers-end n i l) at (u .same)
+
+-- ---- 1, 2, 6, 3 of `needs_rebuild`
+module _ (s : State) (cell : Cell) (xs refs : List Float) where
+  pub question-lengths : (not (eqb (length xs % 3) 0) || ltb (length refs) (length xs)) ≡ true → Refused Lengths ≡ questionOf s cell xs refs
+  unfolding questionOf
+  question-lengths h = rw h
+
+  module _ (h : (not (eqb (length xs % 3) 0) || ltb (length refs) (length xs)) ≡ false) where
+    pub question-many : 16384 < length xs / 3 → Refused (TooMany (length xs / 3)) ≡ questionOf s cell xs refs
+    unfolding questionOf
+    question-many k = rw (h, lt-ltb 16384 (length xs / 3) k)
+
+    module _ (k : length xs / 3 ≤ 16384) {c : Bool} (is : c ≡ claimsMore 0 0 (s .references) (length refs / 3)) where
+      pub question-claims : c ≡ true → Refused Claims ≡ questionOf s cell xs refs
+      unfolding questionOf
+      question-claims e = rw (h, le-ltb 16384 (length xs / 3) k, ← is, e)
+
+      module _ (e : c ≡ false) {a b : Bool} (ia : a ≡ rangesOk s cell xs) (ib : b ≡ referencesOk s (length xs / 3) refs) where
+        pub question-range : not (a && b) ≡ true → Refused Range ≡ questionOf s cell xs refs
+        unfolding questionOf
+        question-range f = rw (h, le-ltb 16384 (length xs / 3) k, ← is, e, ← ia, ← ib, f)
+
+        pub question-fine : not (a && b) ≡ false → Answered ≡ questionOf s cell xs refs
+        unfolding questionOf
+        question-fine f = rw (h, le-ltb 16384 (length xs / 3) k, ← is, e, ← ia, ← ib, f)
+
+-- ---- 1, 2, 6, 3 of a build
+module _ (s : State) (cell : Cell) (xs : List Float) (table pairs refs items : ℕ) {b : Bool} (ib : b ≡ lengthsBad (length xs) table refs items) where
+  pub first-lengths : b ≡ true → Refused Lengths ≡ firstOf s cell xs table pairs refs items
+  unfolding firstOf
+  first-lengths h = rw (← ib, h)
+
+  module _ (h : b ≡ false) where
+    pub first-many : 16384 < length xs / 3 → Refused (TooMany (length xs / 3)) ≡ firstOf s cell xs table pairs refs items
+    unfolding firstOf
+    first-many k = rw (← ib, h, lt-ltb 16384 (length xs / 3) k)
+
+    module _ (k : length xs / 3 ≤ 16384) {c : Bool} (is : c ≡ claimsMore (s .pairs) (pairs / 2) (s .references) (refs / 3)) where
+      pub first-claims : c ≡ true → Refused Claims ≡ firstOf s cell xs table pairs refs items
+      unfolding firstOf
+      first-claims e = rw (← ib, h, le-ltb 16384 (length xs / 3) k, ← is, e)
+
+      module _ (e : c ≡ false) {a : Bool} (ia : a ≡ rangesOk s cell xs) where
+        pub first-range : not a ≡ true → Refused Range ≡ firstOf s cell xs table pairs refs items
+        unfolding firstOf
+        first-range f = rw (← ib, h, le-ltb 16384 (length xs / 3) k, ← is, e, ← ia, f)
+
+        pub first-fine : not a ≡ false → Answered ≡ firstOf s cell xs table pairs refs items
+        unfolding firstOf
+        first-fine f = rw (← ib, h, le-ltb 16384 (length xs / 3) k, ← is, e, ← ia, f)
+
+-- ---- 3 and 4 of a list that may be kept
+module _ (s : State) (n : ℕ) (pairs : List ℕ) (refs : List Float) {a : Bool} (ia : a ≡ referencesOk s n refs) where
+  pub kept-range : not a ≡ true → Refused Range ≡ keptAsked s n pairs refs
+  unfolding keptAsked
+  kept-range h = rw (← ia, h)
+
+  module _ (h : not a ≡ false) {part : List ℕ} (ip : part ≡ listedOf s pairs) {row : ℕ} (ir : row ≡ absentOf n (rows part)) {b : Bool} (ib : b ≡ eqb (s .references) n) where
+    test-is : b && ltb row (length part / 2) ≡ misnamed s n pairs
+    unfolding misnamed
+    test-is = rw (ib, ir, ip)
+
+    pub kept-bad : b && ltb row (length part / 2) ≡ true → Refused (NotThere row) ≡ keptAsked s n pairs refs
+    unfolding keptAsked
+    kept-bad f = let q : misnamed s n pairs ≡ true = sym test-is ∙ f in rw (← ia, h, q, ir, ip)
+
+    pub kept-fine : b && ltb row (length part / 2) ≡ false → Answered ≡ keptAsked s n pairs refs
+    unfolding keptAsked
+    kept-fine f = let q : misnamed s n pairs ≡ false = sym test-is ∙ f in rw (← ia, h, q)
+
+-- ---- the tests in turn
+module _ {d : Done} (e : Done) where
+  pub then-refused : {r : Refusal} → d ≡ Refused r → Refused r ≡ andThen d e
+  unfolding andThen
+  then-refused q = rw q
+
+  pub then-on : d ≡ Answered → e ≡ andThen d e
+  unfolding andThen
+  then-on q = rw q
+
+module _ (table : List ℕ) {t : Bool} (is : t ≡ isTable (rows table)) where
+  pub table-fine : t ≡ true → Answered ≡ tableAsked table
+  unfolding tableAsked
+  table-fine h = rw (← is, h)
+
+  pub table-bad : t ≡ false → Refused Order ≡ tableAsked table
+  unfolding tableAsked
+  table-bad h = rw (← is, h)
+
+module _ (may : Bool) (s : State) (cell : Cell) (xs : List Float) (table pairs : List ℕ) (refs : List Float) (items : ℕ) {d : Done} (is : d ≡ firstOf s cell xs (length table) (length pairs) (length refs) items) where
+  pub asked-refused : {r : Refusal} → d ≡ Refused r → Refused r ≡ askedOf may s cell xs table pairs refs items
+  unfolding askedOf andThen
+  asked-refused q = rw (← is, q)
+
+  pub asked-on : d ≡ Answered → {e : Done} → e ≡ andThen (cond may (keptAsked s (length xs / 3) pairs refs) Answered) (tableAsked table) → e ≡ askedOf may s cell xs table pairs refs items
+  unfolding askedOf andThen
+  asked-on q p = rw (← is, q) p
+
+-- ---- single tests
+pub references-same : (s : State) (n : ℕ) (refs : List Float) {b : Bool} → b ≡ eqb (s .references) n → not b ≡ false → {r : Bool}
+    → r ≡ every (within entryLimit) (take (3 * s .references) refs) → r ≡ referencesOk s n refs
+unfolding referencesOk
+references-same s n refs {b} is h p =
+    let e : b ≡ true = not-false b h in
+    let q : s .references ≡ n = eqb-true (s .references) n (sym is ∙ e) in
+    rw (← is, e, ← q) p
+
+module _ (s : State) (cell : Cell) (xs : List Float) {a b : Bool} (ia : a ≡ settingsOk (s .cutoff) (s .skin)) (ib : b ≡ cellInRange cell) where
+  pub ranges-out : not (a && b) ≡ true → false ≡ rangesOk s cell xs
+  unfolding rangesOk
+  ranges-out h = rw (← ia, ← ib, not-true (a && b) h)
+
+  pub ranges-in : not (a && b) ≡ false → {r : Bool} → r ≡ every (within entryLimit) xs → r ≡ rangesOk s cell xs
+  unfolding rangesOk
+  ranges-in h e = rw (← ia, ← ib, not-false (a && b) h) e
+
+-- ---- the question
+module _ (s : State) (cell : Cell) (xs refs : List Float) {b : Bool} (ib : b ≡ eqb (s .references) (length xs / 3)) where
+  pub needs-other : not b ≡ true → true ≡ needsOf s cell xs refs
+  unfolding needsOf
+  needs-other h = rw (← ib, not-true b h)
+
+  module _ (h : not b ≡ false) {skin : Float} (is : skin ≡ skinOf s) where
+    pub needs-none : le skin (bits 0) ≡ true → true ≡ needsOf s cell xs refs
+    unfolding needsOf
+    needs-none e = rw (← ib, not-false b h, ← is, e)
+
+    moved-at : {p : Prepared} → p ≡ prepareOf cell → (k : ℕ) → strayed p ((half ⊗ skin) ⊗ (half ⊗ skin)) (spotOf xs k) (spotOf refs k) ≡ movedOf s cell xs refs k
+    unfolding movedOf allowance strayed
+    moved-at ip k =
+        rw (ip, is) (ap (λ (v : Image). lt ((half ⊗ skinOf s) ⊗ (half ⊗ skinOf s)) (norm2Of (v .diff))) (prepared-image cell (subOf (spotOf xs k) (spotOf refs k))))
+
+    pub needs-moved : le skin (bits 0) ≡ false → {r : Bool} {p : Prepared} → p ≡ prepareOf cell
+        → r ≡ some (λ k. strayed p ((half ⊗ skin) ⊗ (half ⊗ skin)) (spotOf xs k) (spotOf refs k)) (upTo (length xs / 3)) → r ≡ needsOf s cell xs refs
+    unfolding needsOf
+    needs-moved e ip q = rw (← ib, not-false b h, ← is, e) (q ∙ (λ i. some (λ k. moved-at ip k i) (upTo (length xs / 3))))
+
+-- ---- what is lent is long enough where the tests have passed
+pub question-room : (s : State) (cell : Cell) (xs refs : List Float) → questionOf s cell xs refs ≡ Answered → length xs ≤ length refs
+unfolding questionOf
+question-room s cell xs refs h =
+    ltb-false (length refs) (length xs)
+    (or-neither (not (eqb (length xs % 3) 0)) (ltb (length refs) (length xs)) (pass (not (eqb (length xs % 3) 0) || ltb (length refs) (length xs)) Lengths _ h .0) .1)
+
+module _ (s : State) (cell : Cell) (xs refs : List Float) {d : Done} (is : d ≡ questionOf s cell xs refs) where
+  pub needs-refused : {r : Refusal} → d ≡ Refused r → refusedBy r ≡ needsSeen s cell xs refs (questionOf s cell xs refs)
+  unfolding needsSeen
+  needs-refused e = rw (← is, e)
+
+  pub needs-answered : d ≡ Answered → {b : Bool} → b ≡ needsOf s cell xs refs → answered b ≡ needsSeen s cell xs refs (questionOf s cell xs refs)
+  unfolding needsSeen
+  needs-answered e q = rw (← is, e, q)
+
+-- ---- the listed part
+pub listed-none : (s : State) (pairs : List ℕ) → length pairs / 2 < s .pairs → [] ≡ listedOf s pairs
+unfolding listedOf
+listed-none s pairs h = rw (lt-ltb (length pairs / 2) (s .pairs) h)
+
+pub listed-some : (s : State) (pairs : List ℕ) → s .pairs ≤ length pairs / 2 → take (2 * s .pairs) pairs ≡ listedOf s pairs
+unfolding listedOf
+listed-some s pairs h = rw (le-ltb (length pairs / 2) (s .pairs) h)
+
+-- ---- the part that is tested
+pub first-all : (p : Float → Bool) (m : ℕ) (refs : List Float) {r : Bool} → length refs < m → r ≡ every p refs → r ≡ every p (take m refs)
+first-all p m refs h e = rw (take-all m refs (omega arith)) e
+
+pub part-long : {A : Type 0} (m : ℕ) (l : List A) → m ≤ length l → m ≡ length (take m l)
+part-long m l h = sym (length-take-le m l h)

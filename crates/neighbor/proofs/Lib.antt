@@ -1,0 +1,4 @@
+pub mod Asking
+pub mod Updates
+pub mod Demands
+pub mod Only

@@ -1,0 +1,5 @@
+pub mod State
+pub mod Rebuild
+pub mod Update
+pub mod Listed
+pub mod Steps

@@ -1,0 +1,66 @@
+-- When a list must be built anew: neighbor.rs, `needs_rebuild` (131-144); 01: "Rebuild when the counts differ, skin <= 0, or some squared displacement exceeds
+-- (0.5 × skin)²; equality does not". And what the call `needs_rebuild` answers. Definitions only.
+use Prim.Native.Nat.{ℕ, _/_, _%_, _*_}
+use mathlib.Core.Path.{_≡_}
+use mathlib.Core.Bool.{Bool, true, cond, not, _&&_, _||_}
+use mathlib.Core.List.{List}
+use lib.ListN.{length, take}
+use lib.Dec.{eqb, ltb}
+use lib.Ieee.{Float, lt, le}
+use Rattle.float.specs.Arith.{_⊗_, bits}
+use Rattle.lists.specs.Lists.{upTo, some, every}
+use Rattle.ranges.specs.Range.{within}
+use Rattle.answer.specs.declared.Done.{Done}
+use Rattle.answer.specs.declared.Done.the-variants.{Answered, Refused}
+use Rattle.answer.specs.declared.Refusal.the-variants.{Lengths, TooMany, Range, Claims}
+use Rattle.answer.specs.declared.YesNo.{YesNo}
+use Rattle.answer.specs.Seen.{Seen, answered, refusedBy, seenYesNo}
+use Rattle.cell.specs.declared.Cell.{Cell}
+use Rattle.cell.specs.Vec.{subOf, norm2Of}
+use Rattle.cell.specs.Cell.{imageOf}
+use Rattle.cell.specs.Range.{entryLimit, cellInRange}
+use Rattle.grid.specs.Grid.{spotOf, atomsOf}
+use Rattle.neighbor.specs.declared.State.{State}
+use Rattle.neighbor.specs.State.{settingsOk, skinOf}
+
+-- `limit * limit` of `0.5 * self.skin` (138-139)
+abbrev pub half : Float
+half = bits 0x3fe0_0000_0000_0000
+
+unfoldable pub allowance : State → Float
+allowance s = (half ⊗ skinOf s) ⊗ (half ⊗ skinOf s)
+
+-- an atom's squared displacement exceeds it (141-142)
+unfoldable pub movedOf : State → Cell → List Float → List Float → ℕ → Bool
+movedOf s cell xs refs k = lt (allowance s) (norm2Of (imageOf (subOf (spotOf xs k) (spotOf refs k)) cell .diff))
+
+unfoldable pub needsOf : State → Cell → List Float → List Float → Bool
+needsOf s cell xs refs = not (eqb (s .references) (atomsOf xs)) || (le (skinOf s) (bits 0) || some (movedOf s cell xs refs) (upTo (atomsOf xs)))
+
+-- ---- the tests
+-- 6: "list state claims more pairs or references than the lent room"
+unfoldable pub claimsMore : ℕ → ℕ → ℕ → ℕ → Bool
+claimsMore pairs rows references spots = ltb rows pairs || ltb spots references
+
+-- 3: the references that the state claims, "only where the state's references equal n"
+unfoldable pub referencesOk : State → ℕ → List Float → Bool
+referencesOk s n refs = not (eqb (s .references) n) || every (within entryLimit) (take (3 * n) refs)
+
+-- 3: the state, the cell, the positions
+unfoldable pub rangesOk : State → Cell → List Float → Bool
+rangesOk s cell xs = settingsOk (s .cutoff) (s .skin) && cellInRange cell && every (within entryLimit) xs
+
+-- 1 (positions no multiple of 3, references shorter than positions), 2, 6, 3
+unfoldable pub questionOf : State → Cell → List Float → List Float → Done
+questionOf s cell xs refs =
+    cond (not (eqb (length xs % 3) 0) || ltb (length refs) (length xs)) (Refused Lengths)
+    (cond (ltb 16384 (atomsOf xs)) (Refused (TooMany (atomsOf xs)))
+    (cond (claimsMore 0 0 (s .references) (length refs / 3)) (Refused Claims)
+    (cond (not (rangesOk s cell xs && referencesOk s (atomsOf xs) refs)) (Refused Range) Answered)))
+
+unfoldable pub needsSeen : State → Cell → List Float → List Float → Done → Seen Bool
+needsSeen s cell xs refs (Refused r) = refusedBy r
+needsSeen s cell xs refs Answered = answered (needsOf s cell xs refs)
+
+abbrev pub NeedsSays : State → Cell → List Float → List Float → YesNo → Type 0
+NeedsSays s cell xs refs r = seenYesNo r ≡ needsSeen s cell xs refs (questionOf s cell xs refs)
