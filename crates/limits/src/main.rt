@@ -1,9 +1,13 @@
-// What a line of the replay can't reach: 16,384 atoms and one more, 32,768 cells and one more, one start too few. It makes its own inputs by whole-number
+// What a line of the replay can't reach: 16,384 atoms and one more, 32,768 cells and one more, one start too few, of the whole-number frame and of the
+// pair list. It makes its own inputs by whole-number
 // arithmetic and writes, a line a build: the refusal's number and place, then the pairs, the checks, the fallback and a digest of each lent memory.
 use frame::Built;
 use frame::Frame;
 use frame::Side;
 use libc::STDOUT_FILENO;
+
+mod lists;
+
 ghost use Prim.Native.Nat.{_<_};
 
 // Atom k in its cell of 32 by 32 by 16, ten wide, at an offset of 0 to 6 that goes round by k.
@@ -23,7 +27,7 @@ fn spot(cell: usize, offset: usize) -> u32 {
 }
 
 // Numbers that a build is not to leave where it writes.
-fn mark(xs: &mut [u32]) {
+pub(crate) fn mark(xs: &mut [u32]) {
     let mut k = 0;
     while k < xs.len() {
         xs[k] = 4242424242;
@@ -31,13 +35,13 @@ fn mark(xs: &mut [u32]) {
     }
 }
 
-fn step(h: u64, x: u32) -> u64
+pub(crate) fn step(h: u64, x: u32) -> u64
     ensures { λ r. ⌜ r < 4294967291 ⌝ }
 {
     (h % 4294967291 * 31 + x as u64) % 4294967291
 }
 
-fn digest(xs: &[u32]) -> u64 {
+pub(crate) fn digest(xs: &[u32]) -> u64 {
     let mut h: u64 = 7;
     let mut k = 0;
     while k < xs.len() {
@@ -47,7 +51,7 @@ fn digest(xs: &[u32]) -> u64 {
     h
 }
 
-fn put(n: u64) {
+pub(crate) fn put(n: u64) {
     io::print_decimal(STDOUT_FILENO, n);
     io::write_all(STDOUT_FILENO, b" ");
 }
@@ -129,4 +133,5 @@ fn main() {
         &mut starts,
         &mut items,
     );
+    lists::run();
 }
