@@ -1,0 +1,56 @@
+-- A public call's outcome by its two ways, refused and answered; and that an answered call's species ascend, so that its lookup is the one by membership. Assumes nothing.
+use mathlib.Core.Path.{_≡_, refl, sym, ap, _∙_}
+use mathlib.Core.Bool.{Bool, true, false, cond}
+use mathlib.Core.List.{List}
+use Prim.Native.Nat.{ℕ}
+use native.Mathlib.Omega.{arith}
+use lib.Dec.{ltb}
+use lib.Ieee.{Float}
+use Rattle.answer.specs.declared.Done.{Done}
+use Rattle.answer.specs.declared.Done.the-variants.{Answered, Refused}
+use Rattle.answer.specs.declared.Refusal.{Refusal}
+use Rattle.answer.specs.declared.Refusal.the-variants.{Lengths, TooMany, Range, NotThere, Order}
+use Rattle.cell.specs.declared.Cell.{Cell}
+use Rattle.virial.specs.declared.Sum.{Sum}
+use Rattle.virial.specs.declared.Summed.the-variants as Summed·cases
+use Rattle.virial.specs.Calls.{fewAtoms}
+use Rattle.pulls.specs.declared.Lj.{Lj}
+use Rattle.pulls.specs.declared.Mixed.{Mixed}
+use Rattle.pulls.specs.Pull.{held, Total}
+use Rattle.pulls.specs.Species.{lookBy, lookOf, rising}
+use Rattle.pulls.proofs.Lookup.{looks-all}
+use Rattle.potentials.specs.Terms.{ljOver}
+use Rattle.potentials.specs.Calls.{askedBy, ljAsked, outcomeOf, left}
+
+module _ {asked done : Done} (A : done ≡ asked) (t : Total) (forces : List Float) where
+  pub call-refused : {why : Refusal} → done ≡ Refused why → left (Summed·cases.Refused why) forces ≡ outcomeOf asked t forces
+  call-refused R = rw (← A, R)
+
+  pub call-answered : {sum : Sum} {after : List Float} → done ≡ Answered → held sum after ≡ t → left (Summed·cases.Answered sum) after ≡ outcomeOf asked t forces
+  call-answered R e = rw (← A, R, ← e)
+
+-- ---- where every test passes
+differ : (r : Refusal) → Refused r ≡ Answered → ⊥
+differ r e = let z : _≡_ {A = ℕ} 0 1 = cc in omega arith
+
+passed : (b : Bool) {d : Done} (r : Refusal) → cond b d (Refused r) ≡ Answered → (b ≡ true) × (d ≡ Answered)
+passed true r e = (refl, e)
+passed false r e = absurd (differ r e)
+
+clear-of : (b : Bool) {d : Done} (r : Refusal) → cond b (Refused r) d ≡ Answered → d ≡ Answered
+clear-of true r e = absurd (differ r e)
+clear-of false r e = e
+
+asked-order : (fits : Bool) (atoms : ℕ) (inRange : Bool) (count absent : ℕ) (ordered : Bool) → askedBy fits atoms inRange count absent ordered ≡ Answered → ordered ≡ true
+unfolding askedBy
+asked-order fits atoms inRange count absent ordered e =
+    passed ordered Order (clear-of (ltb absent count) (NotThere absent) (passed inRange Range (passed (fewAtoms atoms) (TooMany atoms) (passed fits Lengths e .1) .1) .1)) .0
+
+module _ (lj : Lj) (cell : Cell) (ids : List ℕ) (params : List Float) (species : ℕ) (xs : List Float) (forces pairs absent : ℕ) {done : Done} where
+  ids-rising : done ≡ ljAsked lj cell ids params species xs forces pairs absent → done ≡ Answered → rising ids ≡ true
+  unfolding ljAsked
+  ids-rising A e = asked-order _ _ _ _ _ _ (sym A ∙ e)
+
+  pub lj-looked : done ≡ ljAsked lj cell ids params species xs forces pairs absent → done ≡ Answered → (of : List ℕ) (room : ℕ) (l : List (ℕ × ℕ)) {r : Total}
+      → r ≡ ljOver (lookBy ids params lj) lj cell of xs room l → r ≡ ljOver (lookOf ids params lj) lj cell of xs room l
+  lj-looked A e of room l h = h ∙ ap (λ (look : ℕ → Mixed). ljOver look lj cell of xs room l) (looks-all ids params lj (ids-rising A e))

@@ -1,0 +1,157 @@
+-- What each public call answers, and what it leaves in the lent forces: one relation a call. Tests in 01's order, 1 to 5; a refusal leaves the forces as they came. Definitions only.
+use mathlib.Core.Path.{_≡_}
+use mathlib.Core.Bool.{Bool, true, cond, _&&_}
+use mathlib.Core.List.{List}
+use Prim.Native.Nat.{ℕ, _/_, _%_}
+use lib.Dec.{eqb, ltb}
+use lib.Ieee.{Float}
+use lib.ListN.{length}
+use Rattle.answer.specs.Seen.{Seen, answered, refusedBy}
+use Rattle.answer.specs.declared.Done.{Done}
+use Rattle.answer.specs.declared.Done.the-variants as Done·cases
+use Rattle.answer.specs.declared.Refusal.the-variants.{Lengths, TooMany, Range, NotThere, Order}
+use Rattle.float.specs.Arith.{_⊗_, bits}
+use Rattle.lists.specs.Lists.{every, rows, allPairs}
+use Rattle.cell.specs.declared.Cell.{Cell}
+use Rattle.cell.specs.Calls.{when}
+use Rattle.cell.specs.Range.{cellInRange}
+use Rattle.virial.specs.declared.Sum.{Sum}
+use Rattle.virial.specs.declared.Summed.{Summed}
+use Rattle.virial.specs.declared.Units.{Units}
+use Rattle.virial.specs.Calls.{seenSummed, fewAtoms}
+use Rattle.virial.specs.Limits.{unitsInRange}
+use Rattle.virial.specs.Virial.{atomsOf}
+use Rattle.rows.specs.Rows.{absentOf}
+use Rattle.pulls.specs.declared.Lj.{Lj}
+use Rattle.pulls.specs.Pull.{Total}
+use Rattle.pulls.specs.Species.{rising, lookOf}
+use Rattle.potentials.specs.declared.Bond.{Bond}
+use Rattle.potentials.specs.declared.LjAnswer as LjAnswer
+use Rattle.potentials.specs.declared.LjAnswer.the-variants as LjAnswer·cases
+use Rattle.potentials.specs.declared.BondAnswer as BondAnswer
+use Rattle.potentials.specs.declared.BondAnswer.the-variants as BondAnswer·cases
+use Rattle.potentials.specs.Limits.{coordinate, depth, cutoffOk, charge, ljInRange, bondInRange}
+use Rattle.potentials.specs.Terms.{ljOver, coulombOver, bondsOver}
+
+-- ---- terms made of their numbers
+
+abbrev pub seenLj : LjAnswer.LjAnswer → Seen Lj
+seenLj (LjAnswer·cases.Answered lj) = answered lj
+seenLj (LjAnswer·cases.Refused r) = refusedBy r
+
+abbrev pub seenBond : BondAnswer.BondAnswer → Seen Bond
+seenBond (BondAnswer·cases.Answered bond) = answered bond
+seenBond (BondAnswer·cases.Refused r) = refusedBy r
+
+-- `monatomic`, lines 103 to 108
+unfoldable pub monatomicOf : Float → Float → Float → Lj
+monatomicOf epsilon sigma cutoff = record { epsilon = epsilon; sigma = sigma; cutoff = cutoff; shift = true }
+
+abbrev pub MonatomicSays : (epsilon sigma cutoff : Float) → LjAnswer.LjAnswer → Type 0
+MonatomicSays epsilon sigma cutoff r = seenLj r ≡ when (ljInRange (monatomicOf epsilon sigma cutoff)) (monatomicOf epsilon sigma cutoff)
+
+-- `argon`, line 113: 0.0103, 3.4 and 2.5 * 3.4
+unfoldable pub argonOf : Lj
+argonOf = monatomicOf (bits 0x3f85_182a_9930_be0e) (bits 0x400b_3333_3333_3333) (bits 0x4004_0000_0000_0000 ⊗ bits 0x400b_3333_3333_3333)
+
+-- `uniform`, lines 241 to 246
+abbrev pub bondOf : Float → Float → Bond
+bondOf k r0 = record { k = k; r0 = r0 }
+
+abbrev pub UniformSays : (k r0 : Float) → BondAnswer.BondAnswer → Type 0
+UniformSays k r0 r = seenBond r ≡ when (bondInRange (bondOf k r0)) (bondOf k r0)
+
+-- ---- the tests, in 01's order: 1, 2, 3, 4 with the first of so many rows that names an atom not there, 5
+unfoldable pub askedBy : (fits : Bool) (atoms : ℕ) (inRange : Bool) (count absent : ℕ) (ordered : Bool) → Done
+askedBy fits atoms inRange count absent ordered =
+    cond fits
+    (cond (fewAtoms atoms)
+    (cond inRange
+    (cond (ltb absent count) (Done·cases.Refused (NotThere absent))
+    (cond ordered Done·cases.Answered
+    (Done·cases.Refused Order)))
+    (Done·cases.Refused Range))
+    (Done·cases.Refused (TooMany atoms)))
+    (Done·cases.Refused Lengths)
+
+-- 1: three floats an atom, two floats an id, a species an atom, two atoms a row, forces as long as positions. The arguments are lengths
+unfoldable pub ljFits : (ids params species xs pairs forces : ℕ) → Bool
+ljFits ids params species xs pairs forces =
+    eqb (xs % 3) 0 && eqb (params / 2) ids && eqb (params % 2) 0 && eqb species (xs / 3) && eqb (pairs % 2) 0 && eqb forces xs
+
+unfoldable pub coulombFits : (charges xs pairs forces : ℕ) → Bool
+coulombFits charges xs pairs forces = eqb (xs % 3) 0 && eqb charges (xs / 3) && eqb (pairs % 2) 0 && eqb forces xs
+
+unfoldable pub bondsFit : (xs bonds forces : ℕ) → Bool
+bondsFit xs bonds forces = eqb (xs % 3) 0 && eqb (bonds % 2) 0 && eqb forces xs
+
+-- 3
+unfoldable pub ljRanges : Lj → Cell → List Float → List Float → Bool
+ljRanges lj cell params xs = ljInRange lj && cellInRange cell && every depth params && every coordinate xs
+
+unfoldable pub coulombRanges : Units → Float → Cell → List Float → List Float → Bool
+coulombRanges units cutoff cell charges xs = unitsInRange units && cutoffOk cutoff && cellInRange cell && every charge charges && every coordinate xs
+
+unfoldable pub bondsRanges : Bond → Cell → List Float → List Float → List Float → Bool
+bondsRanges bond cell perBond perBondK xs =
+    bondInRange bond && cellInRange cell && every coordinate perBond && every coordinate perBondK && every coordinate xs
+
+-- species, forces and pairs are lengths; absent is the first bad row of the pairs
+unfoldable pub ljAsked : Lj → Cell → List ℕ → List Float → (species : ℕ) → List Float → (forces pairs absent : ℕ) → Done
+ljAsked lj cell ids params species xs forces pairs absent =
+    askedBy (ljFits (length ids) (length params) species (length xs) pairs forces) (atomsOf xs) (ljRanges lj cell params xs)
+    (pairs / 2) absent (rising ids)
+
+unfoldable pub coulombAsked : Units → Float → Cell → List Float → List Float → (forces pairs absent : ℕ) → Done
+coulombAsked units cutoff cell charges xs forces pairs absent =
+    askedBy (coulombFits (length charges) (length xs) pairs forces) (atomsOf xs) (coulombRanges units cutoff cell charges xs)
+    (pairs / 2) absent true
+
+unfoldable pub bondsAsked : Bond → Cell → (bonds : ℕ) → List Float → List Float → List Float → (forces absent : ℕ) → Done
+bondsAsked bond cell bonds perBond perBondK xs forces absent =
+    askedBy (bondsFit (length xs) bonds forces) (atomsOf xs) (bondsRanges bond cell perBond perBondK xs) (bonds / 2) absent true
+
+-- ---- the outcome: what is seen, and the forces at exit
+
+pub record Outcome : Type 0 where
+  pub answer : Seen Sum
+  pub forces : List Float
+
+-- answered, the forces are the term's own; refused, as they came
+abbrev pub outcomeOf : Done → Total → List Float → Outcome
+outcomeOf Done·cases.Answered t forces = record { answer = answered (t .sum); forces = t .forces }
+outcomeOf (Done·cases.Refused r) t forces = record { answer = refusedBy r; forces = forces }
+
+abbrev pub left : Summed → List Float → Outcome
+left r after = record { answer = seenSummed r; forces = after }
+
+abbrev pub LjPairsSays : (lj : Lj) (cell : Cell) (ids : List ℕ) (params : List Float) (species : List ℕ) (positions : List Float) (pairs : List ℕ) (forces : List Float) → Summed → (after : List Float) → Type 0
+LjPairsSays lj cell ids params species xs pairs forces r after =
+    left r after
+    ≡ outcomeOf (ljAsked lj cell ids params (length species) xs (length forces) (length pairs) (absentOf (atomsOf xs) (rows pairs)))
+    (ljOver (lookOf ids params lj) lj cell species xs (length forces) (rows pairs)) forces
+
+-- without listed pairs 4 has no row
+abbrev pub LjAllSays : (lj : Lj) (cell : Cell) (ids : List ℕ) (params : List Float) (species : List ℕ) (positions forces : List Float) → Summed → (after : List Float) → Type 0
+LjAllSays lj cell ids params species xs forces r after =
+    left r after
+    ≡ outcomeOf (ljAsked lj cell ids params (length species) xs (length forces) 0 0)
+    (ljOver (lookOf ids params lj) lj cell species xs (length forces) (allPairs (atomsOf xs))) forces
+
+abbrev pub CoulombPairsSays : (units : Units) (cutoff : Float) (cell : Cell) (charges positions : List Float) (pairs : List ℕ) (forces : List Float) → Summed → (after : List Float) → Type 0
+CoulombPairsSays units cutoff cell charges xs pairs forces r after =
+    left r after
+    ≡ outcomeOf (coulombAsked units cutoff cell charges xs (length forces) (length pairs) (absentOf (atomsOf xs) (rows pairs)))
+    (coulombOver (units .«ke_coulomb») cutoff cell charges xs (length forces) (rows pairs)) forces
+
+abbrev pub CoulombAllSays : (units : Units) (cutoff : Float) (cell : Cell) (charges positions forces : List Float) → Summed → (after : List Float) → Type 0
+CoulombAllSays units cutoff cell charges xs forces r after =
+    left r after
+    ≡ outcomeOf (coulombAsked units cutoff cell charges xs (length forces) 0 0)
+    (coulombOver (units .«ke_coulomb») cutoff cell charges xs (length forces) (allPairs (atomsOf xs))) forces
+
+abbrev pub BondsAllSays : (bond : Bond) (cell : Cell) (bonds : List ℕ) (perBond perBondK positions forces : List Float) → Summed → (after : List Float) → Type 0
+BondsAllSays bond cell bonds perBond perBondK xs forces r after =
+    left r after
+    ≡ outcomeOf (bondsAsked bond cell (length bonds) perBond perBondK xs (length forces) (absentOf (atomsOf xs) (rows bonds)))
+    (bondsOver bond cell bonds perBond perBondK xs (length forces)) forces

@@ -1,0 +1,122 @@
+// The work for the crates above: total on every number, index and length, no range is tested, and a pair that names no atom is passed over. The forces are
+// overwritten with the term's own, from zero. No public call.
+ghost use mathlib.Core.Path.{_≡_};
+ghost use lib.ListN.{length};
+ghost use Rattle.lists.specs.Lists.{rows, allPairs};
+ghost use Rattle.virial.specs.Virial.{atomsOf};
+ghost use Rattle.pulls.specs.Species.{lookBy};
+ghost use Rattle.pulls.specs.Pull.{held};
+ghost use Rattle.potentials.specs.Terms.{ljOver, coulombOver, bondsOver};
+ghost use Rattle.potentials.specs.Calls.{monatomicOf};
+use crate::Bond;
+use cell::Cell;
+use pulls::Lj;
+use virial::Sum;
+use virial::Units;
+
+pub fn monatomic(epsilon: f64, sigma: f64, cutoff: f64) -> Lj
+    ensures { λ r. ⌜ r ≡ monatomicOf epsilon sigma cutoff ⌝ }
+{
+    Lj {
+        epsilon: epsilon,
+        sigma: sigma,
+        cutoff: cutoff,
+        shift: true,
+    }
+}
+
+// The lookup is by halving: over ascending ids it is `lookOf` (pulls, `looks-all`).
+pub fn lj_pairs(
+    lj: Lj,
+    cell: Cell,
+    ids: &[u32],
+    params: &[f64],
+    species: &[u32],
+    positions: &[f64],
+    pairs: &[u32],
+    forces: &mut [f64],
+) -> Sum
+    ensures { λ r. ⌜ held r (now (forces .exit)) ≡ ljOver (lookBy (now (ids .entry)) (now (params .entry)) lj) lj cell (now (species .entry)) (now (positions .entry)) (length (now (forces .entry))) (rows (now (pairs .entry))) ⌝ }
+{
+    virial::kernel::clear(forces);
+    let p = prepared::prepare(cell);
+    let sum = virial::kernel::zero();
+    crate::lennard_jones::over(lj, p, ids, params, species, positions, pairs, forces, sum)
+}
+
+pub fn lj_all(
+    lj: Lj,
+    cell: Cell,
+    ids: &[u32],
+    params: &[f64],
+    species: &[u32],
+    positions: &[f64],
+    forces: &mut [f64],
+) -> Sum
+    ensures { λ r. ⌜ held r (now (forces .exit)) ≡ ljOver (lookBy (now (ids .entry)) (now (params .entry)) lj) lj cell (now (species .entry)) (now (positions .entry)) (length (now (forces .entry))) (allPairs (atomsOf (now (positions .entry)))) ⌝ }
+{
+    virial::kernel::clear(forces);
+    let p = prepared::prepare(cell);
+    let sum = virial::kernel::zero();
+    crate::lennard_jones::all(lj, p, ids, params, species, positions, forces, sum)
+}
+
+pub fn coulomb_pairs(
+    units: Units,
+    cutoff: f64,
+    cell: Cell,
+    charges: &[f64],
+    positions: &[f64],
+    pairs: &[u32],
+    forces: &mut [f64],
+) -> Sum
+    ensures { λ r. ⌜ held r (now (forces .exit)) ≡ coulombOver (units .«ke_coulomb») cutoff cell (now (charges .entry)) (now (positions .entry)) (length (now (forces .entry))) (rows (now (pairs .entry))) ⌝ }
+{
+    virial::kernel::clear(forces);
+    let p = prepared::prepare(cell);
+    let sum = virial::kernel::zero();
+    crate::coulomb::over(
+        units.ke_coulomb,
+        cutoff,
+        p,
+        charges,
+        positions,
+        pairs,
+        forces,
+        sum,
+    )
+}
+
+pub fn coulomb_all(
+    units: Units,
+    cutoff: f64,
+    cell: Cell,
+    charges: &[f64],
+    positions: &[f64],
+    forces: &mut [f64],
+) -> Sum
+    ensures { λ r. ⌜ held r (now (forces .exit)) ≡ coulombOver (units .«ke_coulomb») cutoff cell (now (charges .entry)) (now (positions .entry)) (length (now (forces .entry))) (allPairs (atomsOf (now (positions .entry)))) ⌝ }
+{
+    virial::kernel::clear(forces);
+    let p = prepared::prepare(cell);
+    let sum = virial::kernel::zero();
+    crate::coulomb::all(units.ke_coulomb, cutoff, p, charges, positions, forces, sum)
+}
+
+// `lengths` is the Rust's per_bond, `ks` its per_bond_k.
+pub fn bonds_all(
+    bond: Bond,
+    cell: Cell,
+    bonds: &[u32],
+    lengths: &[f64],
+    ks: &[f64],
+    positions: &[f64],
+    forces: &mut [f64],
+) -> Sum
+    ensures { λ r. ⌜ held r (now (forces .exit)) ≡ bondsOver bond cell (now (bonds .entry)) (now (lengths .entry)) (now (ks .entry)) (now (positions .entry)) (length (now (forces .entry))) ⌝ }
+{
+    virial::kernel::clear(forces);
+    let p = prepared::prepare(cell);
+    let sum = virial::kernel::zero();
+    crate::bonds::over(bond, p, bonds, lengths, ks, positions, forces, sum)
+}

@@ -1,0 +1,214 @@
+// Lennard-Jones, harmonic bonds and the direct Coulomb sum over a list of pairs (potentials.rs): the terms and the public calls. Every call tests its
+// arguments; specs/Calls.antt says what each answers and leaves. The work without tests, for the crates above: `kernel`, and the range tests in `ranged`.
+ghost use mathlib.Core.Path.{_≡_};
+ghost use Rattle.potentials.specs.Calls.{MonatomicSays, UniformSays, argonOf, LjPairsSays, LjAllSays, CoulombPairsSays, CoulombAllSays, BondsAllSays};
+use answer::Done;
+use answer::Refusal;
+use cell::Cell;
+use pulls::Lj;
+use virial::Summed;
+use virial::Units;
+
+mod bonds;
+mod coulomb;
+pub mod kernel;
+mod lennard_jones;
+mod pairs;
+pub mod ranged;
+mod tests;
+
+// A force constant, and a length at rest. (The Rust's `HarmonicBonds`; its tables are lent.)
+pub struct Bond {
+    pub k: f64,
+    pub r0: f64,
+}
+
+pub enum LjTerm {
+    Absent,
+    Present(Lj),
+}
+
+// The Rust's `Coulomb`.
+pub enum CoulombTerm {
+    Absent,
+    Present { cutoff: f64 },
+}
+
+pub enum BondTerm {
+    Absent,
+    Present(Bond),
+}
+
+pub enum LjAnswer {
+    Answered(Lj),
+    Refused(Refusal),
+}
+
+pub enum BondAnswer {
+    Answered(Bond),
+    Refused(Refusal),
+}
+
+// A single species.
+pub fn monatomic(epsilon: f64, sigma: f64, cutoff: f64) -> LjAnswer
+    ensures { λ r. ⌜ MonatomicSays epsilon sigma cutoff r ⌝ }
+{
+    let lj = kernel::monatomic(epsilon, sigma, cutoff);
+    if ranged::lj_in_range(lj) {
+        return LjAnswer::Answered(lj);
+    }
+    LjAnswer::Refused(Refusal::Range)
+}
+
+pub fn argon() -> Lj
+    ensures { λ r. ⌜ r ≡ argonOf ⌝ }
+{
+    kernel::monatomic(0.0103, 3.4, 2.5 * 3.4)
+}
+
+// The same for each bond.
+pub fn uniform(k: f64, r0: f64) -> BondAnswer
+    ensures { λ r. ⌜ UniformSays k r0 r ⌝ }
+{
+    let bond = Bond { k: k, r0: r0 };
+    if ranged::bond_in_range(bond) {
+        return BondAnswer::Answered(bond);
+    }
+    BondAnswer::Refused(Refusal::Range)
+}
+
+// Lennard-Jones over the listed pairs. `ids` are the species that `params` has epsilon and sigma of; `species` an id an atom.
+pub fn lj_pairs(
+    lj: Lj,
+    cell: Cell,
+    ids: &[u32],
+    params: &[f64],
+    species: &[u32],
+    positions: &[f64],
+    pairs: &[u32],
+    forces: &mut [f64],
+) -> Summed
+    ensures { λ r. ⌜ LjPairsSays lj cell (now (ids .entry)) (now (params .entry)) (now (species .entry)) (now (positions .entry)) (now (pairs .entry)) (now (forces .entry)) r (now (forces .exit)) ⌝ }
+{
+    let absent = rows::first_absent(pairs, positions.len() / 3);
+    let a = tests::lj_asked(
+        lj,
+        cell,
+        ids,
+        params,
+        species.len(),
+        positions,
+        forces.len(),
+        pairs.len(),
+        absent,
+    );
+    if let Done::Refused(why) = a {
+        return Summed::Refused(why);
+    }
+    Summed::Answered(kernel::lj_pairs(lj, cell, ids, params, species, positions, pairs, forces))
+}
+
+// The same over every pair, i, then j, rising.
+pub fn lj_all(
+    lj: Lj,
+    cell: Cell,
+    ids: &[u32],
+    params: &[f64],
+    species: &[u32],
+    positions: &[f64],
+    forces: &mut [f64],
+) -> Summed
+    ensures { λ r. ⌜ LjAllSays lj cell (now (ids .entry)) (now (params .entry)) (now (species .entry)) (now (positions .entry)) (now (forces .entry)) r (now (forces .exit)) ⌝ }
+{
+    let a = tests::lj_asked(
+        lj,
+        cell,
+        ids,
+        params,
+        species.len(),
+        positions,
+        forces.len(),
+        0,
+        0,
+    );
+    if let Done::Refused(why) = a {
+        return Summed::Refused(why);
+    }
+    Summed::Answered(kernel::lj_all(lj, cell, ids, params, species, positions, forces))
+}
+
+// Coulomb over the listed pairs.
+pub fn coulomb_pairs(
+    units: Units,
+    cutoff: f64,
+    cell: Cell,
+    charges: &[f64],
+    positions: &[f64],
+    pairs: &[u32],
+    forces: &mut [f64],
+) -> Summed
+    ensures { λ r. ⌜ CoulombPairsSays units cutoff cell (now (charges .entry)) (now (positions .entry)) (now (pairs .entry)) (now (forces .entry)) r (now (forces .exit)) ⌝ }
+{
+    let absent = rows::first_absent(pairs, positions.len() / 3);
+    let a = tests::coulomb_asked(
+        units,
+        cutoff,
+        cell,
+        charges,
+        positions,
+        forces.len(),
+        pairs.len(),
+        absent,
+    );
+    if let Done::Refused(why) = a {
+        return Summed::Refused(why);
+    }
+    Summed::Answered(kernel::coulomb_pairs(units, cutoff, cell, charges, positions, pairs, forces))
+}
+
+// The same over every pair, i, then j, rising.
+pub fn coulomb_all(
+    units: Units,
+    cutoff: f64,
+    cell: Cell,
+    charges: &[f64],
+    positions: &[f64],
+    forces: &mut [f64],
+) -> Summed
+    ensures { λ r. ⌜ CoulombAllSays units cutoff cell (now (charges .entry)) (now (positions .entry)) (now (forces .entry)) r (now (forces .exit)) ⌝ }
+{
+    let a = tests::coulomb_asked(units, cutoff, cell, charges, positions, forces.len(), 0, 0);
+    if let Done::Refused(why) = a {
+        return Summed::Refused(why);
+    }
+    Summed::Answered(kernel::coulomb_all(units, cutoff, cell, charges, positions, forces))
+}
+
+// Harmonic bonds, two atoms a row; a bond past the end of a table takes `bond`'s own number.
+pub fn bonds_all(
+    bond: Bond,
+    cell: Cell,
+    bonds: &[u32],
+    per_bond: &[f64],
+    per_bond_k: &[f64],
+    positions: &[f64],
+    forces: &mut [f64],
+) -> Summed
+    ensures { λ r. ⌜ BondsAllSays bond cell (now (bonds .entry)) (now («per_bond» .entry)) (now («per_bond_k» .entry)) (now (positions .entry)) (now (forces .entry)) r (now (forces .exit)) ⌝ }
+{
+    let absent = rows::first_absent(bonds, positions.len() / 3);
+    let a = tests::bonds_asked(
+        bond,
+        cell,
+        bonds.len(),
+        per_bond,
+        per_bond_k,
+        positions,
+        forces.len(),
+        absent,
+    );
+    if let Done::Refused(why) = a {
+        return Summed::Refused(why);
+    }
+    Summed::Answered(kernel::bonds_all(bond, cell, bonds, per_bond, per_bond_k, positions, forces))
+}

@@ -1,0 +1,52 @@
+// A pair of atoms: its row in a lent table, whether both are there, and how they lie to each other.
+ghost use mathlib.Core.Path.{_≡_};
+ghost use Prim.Native.Nat.{_+_, _*_, _/_, _<_};
+ghost use lib.ListN.{length, getD};
+ghost use Rattle.rows.specs.Rows.{isAbsent};
+ghost use Rattle.prepared.specs.Facts.{imageIn};
+ghost use Rattle.virial.specs.Virial.{atomsOf};
+ghost use Rattle.potentials.specs.Terms.{placeAt, displaced};
+use cell::Vec3;
+use prepared::Prepared;
+
+// The two atoms of row k.
+pub(crate) fn first_of(pairs: &[u32], k: usize) -> usize
+    requires { ⌜ k < length (now pairs) / 2 ⌝ }
+    ensures { λ r. ⌜ r ≡ getD (now (pairs .entry)) (2 * k) 0 ⌝ }
+{
+    pairs[2 * k] as usize
+}
+
+pub(crate) fn second_of(pairs: &[u32], k: usize) -> usize
+    requires { ⌜ k < length (now pairs) / 2 ⌝ }
+    ensures { λ r. ⌜ r ≡ getD (now (pairs .entry)) (2 * k + 1) 0 ⌝ }
+{
+    pairs[2 * k + 1] as usize
+}
+
+pub(crate) fn is_absent(n: usize, i: usize, j: usize) -> bool
+    ensures { λ r. ⌜ r ≡ isAbsent n (i, j) ⌝ }
+{
+    !((i < n) & (j < n))
+}
+
+fn place(xs: &[f64], i: usize) -> Vec3
+    requires { ⌜ i < atomsOf (now xs) ⌝ }
+    ensures { λ r. ⌜ r ≡ placeAt (now (xs .entry)) i ⌝ }
+{
+    let k = 3 * i;
+    Vec3 {
+        x: xs[k],
+        y: xs[k + 1],
+        z: xs[k + 2],
+    }
+}
+
+// From atom j to atom i, by the minimum image.
+pub(crate) fn displacement(p: Prepared, xs: &[f64], i: usize, j: usize) -> Vec3
+    requires { ⌜ (i < atomsOf (now xs)) × (j < atomsOf (now xs)) ⌝ }
+    ensures { λ r. ⌜ r ≡ displaced (λ d. imageIn p d) (now (xs .entry)) (i, j) ⌝ }
+{
+    let d = cell::vectors::sub(place(xs, i), place(xs, j));
+    prepared::image_in(p, d).diff
+}

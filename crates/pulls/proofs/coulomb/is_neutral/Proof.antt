@@ -1,0 +1,10 @@
+use Rattle.pulls.specs.Coulomb.{neutral}
+use mathlib.Core.Path.{refl}
+use Rattle.pulls.proofs.coulomb.is_neutral.Statement.{statement}
+use Rattle.pulls.proofs.coulomb.is_neutral.Tie as tie
+
+returns : tie.Need-returns
+returns c = unfold neutral in refl
+
+pub is-neutral-spec : {M : Type 1} → statement M
+is-neutral-spec = tie.close (tie.spec returns)

@@ -1,0 +1,28 @@
+// What one pair of atoms adds: the kernels of potentials.rs over a difference and its numbers, the species table, and one `apply`. Total, and no public call.
+use cell::Vec3;
+
+pub mod bonds;
+pub mod coulomb;
+pub mod kernel;
+pub mod lennard_jones;
+pub mod species;
+
+// Nothing, or an energy and a force f on the first atom, d apart.
+pub enum Pull {
+    Skip,
+    Add { energy: f64, d: Vec3, f: Vec3 },
+}
+
+// The Lennard-Jones numbers of a species, or of two that are mixed.
+pub struct Mixed {
+    pub epsilon: f64,
+    pub sigma: f64,
+}
+
+// A Lennard-Jones term; epsilon and sigma are those of a species that its table lacks. (The Rust's `LennardJones`; its `params` are a lent table.)
+pub struct Lj {
+    pub epsilon: f64,
+    pub sigma: f64,
+    pub cutoff: f64,
+    pub shift: bool,
+}
