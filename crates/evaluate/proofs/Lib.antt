@@ -1,0 +1,3 @@
+pub mod Folding
+pub mod Settling
+pub mod Only

@@ -1,0 +1,76 @@
+-- What is asked before an evaluation: refusals 1, 2, 6, 3, 4, 5, in this order, of everything lent, also of tables whose term is absent. Definitions only.
+use Prim.Native.Nat.{ℕ, _/_, _%_}
+use mathlib.Core.Bool.{Bool, true, cond, _&&_}
+use mathlib.Core.List.{List}
+use lib.Dec.{eqb, ltb}
+use lib.Ieee.{Float}
+use lib.ListN.{length}
+use Rattle.answer.specs.declared.Done.{Done}
+use Rattle.answer.specs.declared.Done.the-variants.{Answered, Refused}
+use Rattle.answer.specs.declared.Refusal.the-variants.{Lengths, Range, NotThere, Order}
+use Rattle.lists.specs.Lists.{every, rows}
+use Rattle.rows.specs.Rows.{absentOf}
+use Rattle.virial.specs.declared.Units.{Units}
+use Rattle.virial.specs.Limits.{unitsInRange}
+use Rattle.virial.specs.Virial.{atomsOf}
+use Rattle.pulls.specs.Species.{rising}
+use Rattle.potentials.specs.declared.LjTerm as LjTerm
+use Rattle.potentials.specs.declared.LjTerm.the-variants as LjTerm·cases
+use Rattle.potentials.specs.declared.CoulombTerm as CoulombTerm
+use Rattle.potentials.specs.declared.CoulombTerm.the-variants as CoulombTerm·cases
+use Rattle.potentials.specs.declared.BondTerm as BondTerm
+use Rattle.potentials.specs.declared.BondTerm.the-variants as BondTerm·cases
+use Rattle.potentials.specs.Limits.{coordinate, depth, cutoffOk, charge, ljInRange, bondInRange}
+use Rattle.neighbor.specs.Update.{Given, firstOf, keptAsked, tableAsked, andThen}
+use Rattle.evaluate.specs.Terms.{Terms}
+
+-- 1 of the terms' tables: "rows not two an id; species, charges not n; bonds .. half a row; forces not as long as positions". The arguments are lengths
+unfoldable pub termsFit : (ids params species charges bonds xs forces : ℕ) → Bool
+termsFit ids params species charges bonds xs forces =
+    eqb (params / 2) ids && eqb (params % 2) 0 && eqb species (xs / 3) && eqb charges (xs / 3) && eqb (bonds % 2) 0 && eqb forces xs
+
+-- 3 of the present terms' numbers
+unfoldable pub ljOk : LjTerm.LjTerm → Bool
+ljOk LjTerm·cases.Absent = true
+ljOk (LjTerm·cases.Present lj) = ljInRange lj
+
+unfoldable pub coulombOk : CoulombTerm.CoulombTerm → Bool
+coulombOk CoulombTerm·cases.Absent = true
+coulombOk (CoulombTerm·cases.Present cutoff) = cutoffOk cutoff
+
+unfoldable pub bondOk : BondTerm.BondTerm → Bool
+bondOk BondTerm·cases.Absent = true
+bondOk (BondTerm·cases.Present bond) = bondInRange bond
+
+-- 3 of the terms and of their tables
+unfoldable pub numbersOk : LjTerm.LjTerm → CoulombTerm.CoulombTerm → BondTerm.BondTerm → Units → (params charges lengths ks : List Float) → Bool
+numbersOk lj coulomb bond units params charges lengths ks =
+    ljOk lj && coulombOk coulomb && bondOk bond && unitsInRange units
+    && every depth params && every charge charges && every coordinate lengths && every coordinate ks
+
+-- 4: "a pair, then a bond, names an atom not there"
+unfoldable pub bondsAsked : ℕ → List ℕ → Done
+bondsAsked n bonds = cond (ltb (absentOf n (rows bonds)) (length bonds / 2)) (Refused (NotThere (absentOf n (rows bonds)))) Answered
+
+-- 5: the species
+unfoldable pub idsAsked : List ℕ → Done
+idsAsked ids = cond (rising ids) Answered (Refused Order)
+
+-- a bond's 4, then 5 of the exclusions, then 5 of the species
+unfoldable pub namesAsked : ℕ → (bonds table ids : List ℕ) → Done
+namesAsked n bonds table ids = andThen (bondsAsked n bonds) (andThen (tableAsked table) (idsAsked ids))
+
+-- one test after the other: 1, then the list's 1, 2, 6, 3, then 3, then 3 and 4 of the old list, then what is asked of names
+unfoldable pub inTurn : (fits : Bool) (first : Done) (inRange : Bool) (kept names : Done) → Done
+inTurn fits first inRange kept names =
+    andThen (cond fits Answered (Refused Lengths)) (andThen first (andThen (cond inRange Answered (Refused Range)) (andThen kept names)))
+
+-- The tests. `fits` and `inRange` are what a step asks besides, at 1 and at 3; an evaluation asks nothing besides
+unfoldable pub askedOf : (fits inRange : Bool) → Terms → Given → (forces : ℕ) → Done
+askedOf fits inRange t g forces =
+    inTurn
+    (fits && termsFit (length (t .ids)) (length (t .params)) (length (t .species)) (length (t .charges)) (length (t .bonds)) (length (g .positions)) forces)
+    (firstOf (g .state) (g .cell) (g .positions) (length (g .exclusions)) (length (g .pairs)) (length (g .references)) (length (g .items)))
+    (inRange && numbersOk (t .lj) (t .coulomb) (t .bond) (t .units) (t .params) (t .charges) (t .lengths) (t .ks))
+    (keptAsked (g .state) (atomsOf (g .positions)) (g .pairs) (g .references))
+    (namesAsked (atomsOf (g .positions)) (t .bonds) (g .exclusions) (t .ids))

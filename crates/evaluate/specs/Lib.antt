@@ -1,0 +1,4 @@
+pub mod Asked
+pub mod Calls
+pub mod Steps
+pub mod Terms

@@ -1,0 +1,188 @@
+// The evaluation without tests, for the crates above: total. No public call.
+use crate::Evaluated;
+use crate::merging;
+use answer::Done;
+use cell::Cell;
+use neighbor::State;
+use neighbor::Updated;
+use potentials::BondTerm;
+use potentials::CoulombTerm;
+use potentials::LjTerm;
+use virial::Sum;
+use virial::Units;
+ghost use mathlib.Core.Path.{_≡_};
+ghost use Prim.Native.Nat.{min};
+ghost use lib.ListN.{length};
+ghost use Rattle.lists.specs.Lists.{rows};
+ghost use Rattle.pulls.specs.Species.{lookBy};
+ghost use Rattle.pulls.specs.Pull.{held};
+ghost use Rattle.neighbor.specs.Update.{given};
+ghost use Rattle.evaluate.specs.Terms.{terms, contributions, mergedAll};
+ghost use Rattle.evaluate.specs.Calls.{job, shown};
+ghost use Rattle.evaluate.specs.Steps.{scratchLength, settledIn, evaluatedFrom, totalAfter};
+
+// Three floats for each of the most atoms.
+fn scratch() -> [f64; 49152]
+    ensures { λ r. ⌜ length r ≡ scratchLength ⌝ }
+{
+    [0.0; 49152]
+}
+
+// The terms over listed pairs, in a scratch as long as the forces.
+fn combine(
+    lj: LjTerm,
+    coulomb: CoulombTerm,
+    bond: BondTerm,
+    units: Units,
+    cell: Cell,
+    ids: &[u32],
+    params: &[f64],
+    species: &[u32],
+    charges: &[f64],
+    bonds: &[u32],
+    lengths: &[f64],
+    ks: &[f64],
+    xs: &[f64],
+    pairs: &[u32],
+    forces: &mut [f64],
+) -> Sum
+    ensures { λ r. ⌜ held r (now (forces .exit)) ≡ mergedAll (length (now (forces .entry))) (contributions lookBy (terms lj coulomb bond units (now (ids .entry)) (now (params .entry)) (now (species .entry)) (now (charges .entry)) (now (bonds .entry)) (now (lengths .entry)) (now (ks .entry))) cell (now (xs .entry)) (min (length (now (forces .entry))) scratchLength) (rows (now (pairs .entry)))) ⌝ }
+{
+    let n = virial::ranged::shorter(forces.len(), 49152);
+    let mut room = scratch();
+    merging::all(
+        &mut room[..n],
+        lj,
+        coulomb,
+        bond,
+        units,
+        cell,
+        ids,
+        params,
+        species,
+        charges,
+        bonds,
+        lengths,
+        ks,
+        xs,
+        pairs,
+        forces,
+    )
+}
+
+// What became of the list, with a sum.
+fn with_sum(u: Updated, sum: Sum) -> Evaluated
+    ensures { λ r. ⌜ r ≡ evaluatedFrom u sum ⌝ }
+{
+    let done = u.done;
+    let state = u.state;
+    Evaluated {
+        done,
+        rebuilt: u.rebuilt,
+        state,
+        sum,
+    }
+}
+
+// After the list: the terms over what is listed. Where the list is refused (7, 8) the forces stay, and the sum is zero.
+fn after_list(
+    forces: &mut [f64],
+    u: Updated,
+    lj: LjTerm,
+    coulomb: CoulombTerm,
+    bond: BondTerm,
+    units: Units,
+    cell: Cell,
+    ids: &[u32],
+    params: &[f64],
+    species: &[u32],
+    charges: &[f64],
+    bonds: &[u32],
+    lengths: &[f64],
+    ks: &[f64],
+    xs: &[f64],
+    pairs: &[u32],
+) -> Evaluated
+    ensures { λ r. ⌜ (held (r .sum) (now (forces .exit)) ≡ totalAfter (terms lj coulomb bond units (now (ids .entry)) (now (params .entry)) (now (species .entry)) (now (charges .entry)) (now (bonds .entry)) (now (lengths .entry)) (now (ks .entry))) cell (now (xs .entry)) (now (pairs .entry)) (now (forces .entry)) (u .done) (u .state)) × (r ≡ evaluatedFrom u (r .sum)) ⌝ }
+{
+    let done = u.done;
+    if let Done::Refused(_) = done {
+        return with_sum(u, virial::kernel::zero());
+    }
+    let state = u.state;
+    let part = neighbor::listed(state, pairs);
+    let sum = combine(
+        lj,
+        coulomb,
+        bond,
+        units,
+        cell,
+        ids,
+        params,
+        species,
+        charges,
+        bonds,
+        lengths,
+        ks,
+        xs,
+        part,
+        forces,
+    );
+    with_sum(u, sum)
+}
+
+// The list brought up to date, then the terms.
+pub fn settle(
+    lj: LjTerm,
+    coulomb: CoulombTerm,
+    bond: BondTerm,
+    units: Units,
+    s: State,
+    cell: Cell,
+    ids: &[u32],
+    params: &[f64],
+    species: &[u32],
+    charges: &[f64],
+    bonds: &[u32],
+    lengths: &[f64],
+    ks: &[f64],
+    positions: &[f64],
+    exclusions: &[u32],
+    pairs: &mut [u32],
+    references: &mut [f64],
+    starts: &mut [u32],
+    items: &mut [u32],
+    forces: &mut [f64],
+) -> Evaluated
+    ensures { λ r. ⌜ shown r (now (pairs .exit)) (now (references .exit)) (now (starts .exit)) (now (items .exit)) (now (forces .exit)) ≡ settledIn (job (terms lj coulomb bond units (now (ids .entry)) (now (params .entry)) (now (species .entry)) (now (charges .entry)) (now (bonds .entry)) (now (lengths .entry)) (now (ks .entry))) (given s cell (now (positions .entry)) (now (exclusions .entry)) (now (pairs .entry)) (now (references .entry)) (now (starts .entry)) (now (items .entry))) (now (forces .entry))) ⌝ }
+{
+    let u = neighbor::kernel::update(
+        true,
+        s,
+        cell,
+        positions,
+        exclusions,
+        pairs,
+        references,
+        starts,
+        items,
+    );
+    after_list(
+        forces,
+        u,
+        lj,
+        coulomb,
+        bond,
+        units,
+        cell,
+        ids,
+        params,
+        species,
+        charges,
+        bonds,
+        lengths,
+        ks,
+        positions,
+        pairs,
+    )
+}

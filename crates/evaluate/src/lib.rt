@@ -1,0 +1,120 @@
+// The evaluator, which replaces the Rust's closure: the pair list brought up to date, then each present term, Lennard-Jones, Coulomb, bonds, from zero and
+// merged in this order. specs/Calls.antt says what it answers and leaves; `kernel` has the work and `tests` the tests, for the crates above.
+use answer::Done;
+use answer::Refusal;
+use cell::Cell;
+use neighbor::State;
+use potentials::BondTerm;
+use potentials::CoulombTerm;
+use potentials::LjTerm;
+use virial::Sum;
+use virial::Units;
+
+pub mod kernel;
+mod merging;
+pub mod tests;
+
+ghost use mathlib.Core.Path.{_≡_};
+ghost use mathlib.Core.Bool.{false};
+ghost use Rattle.answer.specs.declared.Done.the-variants.{Refused};
+ghost use Rattle.virial.specs.Virial.{zeroSum};
+ghost use Rattle.neighbor.specs.Update.{given};
+ghost use Rattle.evaluate.specs.Calls.{job, EvaluateSays};
+ghost use Rattle.evaluate.specs.Terms.{terms};
+
+// Energy, forces and virial, or why not; whether the list was built anew; its state, which comes back in every case; and the sum, zero where refused. The
+// forces stand in what the caller lends.
+pub struct Evaluated {
+    pub done: Done,
+    pub rebuilt: bool,
+    pub state: State,
+    pub sum: Sum,
+}
+
+// A refusal that leaves the state as it came.
+fn refused(s: State, why: Refusal) -> Evaluated
+    ensures { λ r. ⌜ r ≡ record { done = Refused why; rebuilt = false; state = s; sum = zeroSum } ⌝ }
+{
+    Evaluated {
+        done: Done::Refused(why),
+        rebuilt: false,
+        state: s,
+        sum: virial::kernel::zero(),
+    }
+}
+
+// The terms over the list brought up to date; refusals 1, 2, 6, 3, 4, 5, 7, 8. `ids` are the species that `params` has epsilon and sigma of; `lengths` is the
+// Rust's per_bond, `ks` its per_bond_k.
+pub fn evaluate(
+    lj: LjTerm,
+    coulomb: CoulombTerm,
+    bond: BondTerm,
+    units: Units,
+    s: State,
+    cell: Cell,
+    ids: &[u32],
+    params: &[f64],
+    species: &[u32],
+    charges: &[f64],
+    bonds: &[u32],
+    lengths: &[f64],
+    ks: &[f64],
+    positions: &[f64],
+    exclusions: &[u32],
+    pairs: &mut [u32],
+    references: &mut [f64],
+    starts: &mut [u32],
+    items: &mut [u32],
+    forces: &mut [f64],
+) -> Evaluated
+    ensures { λ r. ⌜ EvaluateSays (job (terms lj coulomb bond units (now (ids .entry)) (now (params .entry)) (now (species .entry)) (now (charges .entry)) (now (bonds .entry)) (now (lengths .entry)) (now (ks .entry))) (given s cell (now (positions .entry)) (now (exclusions .entry)) (now (pairs .entry)) (now (references .entry)) (now (starts .entry)) (now (items .entry))) (now (forces .entry))) r (now (pairs .exit)) (now (references .exit)) (now (starts .exit)) (now (items .exit)) (now (forces .exit)) ⌝ }
+{
+    let a = tests::asked(
+        true,
+        true,
+        lj,
+        coulomb,
+        bond,
+        units,
+        s,
+        cell,
+        ids,
+        params,
+        species.len(),
+        charges,
+        bonds,
+        lengths,
+        ks,
+        positions,
+        exclusions,
+        pairs,
+        references,
+        items.len(),
+        forces.len(),
+    );
+    if let Done::Refused(why) = a {
+        return refused(s, why);
+    }
+    kernel::settle(
+        lj,
+        coulomb,
+        bond,
+        units,
+        s,
+        cell,
+        ids,
+        params,
+        species,
+        charges,
+        bonds,
+        lengths,
+        ks,
+        positions,
+        exclusions,
+        pairs,
+        references,
+        starts,
+        items,
+        forces,
+    )
+}

@@ -1,0 +1,121 @@
+// One term after the other: each from zero in the scratch, then merged. An absent term is not merged, so that it adds not even +0.
+use cell::Cell;
+use potentials::BondTerm;
+use potentials::CoulombTerm;
+use potentials::LjTerm;
+use virial::Sum;
+use virial::Units;
+ghost use mathlib.Core.Path.{_≡_};
+ghost use lib.ListN.{length};
+ghost use Rattle.lists.specs.Lists.{rows};
+ghost use Rattle.pulls.specs.Species.{lookBy};
+ghost use Rattle.pulls.specs.Pull.{held};
+ghost use Rattle.evaluate.specs.Terms.{terms, ljGives, coulombGives, bondGives, contributions, merged, mergedInto, mergedAll};
+
+// A term's own sum and forces, added.
+fn merge(sum: Sum, forces: &mut [f64], own: Sum, added: &[f64]) -> Sum
+    ensures { λ r. ⌜ held r (now (forces .exit)) ≡ merged (held sum (now (forces .entry))) (held own (now (added .entry))) ⌝ }
+{
+    virial::kernel::merge_forces(forces, added);
+    virial::kernel::merge_sum(sum, own)
+}
+
+fn with_lj(
+    scratch: &mut [f64],
+    forces: &mut [f64],
+    sum: Sum,
+    lj: LjTerm,
+    cell: Cell,
+    ids: &[u32],
+    params: &[f64],
+    species: &[u32],
+    xs: &[f64],
+    pairs: &[u32],
+) -> Sum
+    ensures { λ r. ⌜ held r (now (forces .exit)) ≡ mergedInto (held sum (now (forces .entry))) (ljGives (lookBy (now (ids .entry)) (now (params .entry))) lj cell (now (species .entry)) (now (xs .entry)) (length (now (scratch .entry))) (rows (now (pairs .entry)))) ⌝ }
+{
+    let LjTerm::Present(t) = lj else {
+        return sum;
+    };
+    let own = potentials::kernel::lj_pairs(t, cell, ids, params, species, xs, pairs, scratch);
+    merge(sum, forces, own, scratch)
+}
+
+fn with_coulomb(
+    scratch: &mut [f64],
+    forces: &mut [f64],
+    sum: Sum,
+    coulomb: CoulombTerm,
+    units: Units,
+    cell: Cell,
+    charges: &[f64],
+    xs: &[f64],
+    pairs: &[u32],
+) -> Sum
+    ensures { λ r. ⌜ held r (now (forces .exit)) ≡ mergedInto (held sum (now (forces .entry))) (coulombGives coulomb (units .«ke_coulomb») cell (now (charges .entry)) (now (xs .entry)) (length (now (scratch .entry))) (rows (now (pairs .entry)))) ⌝ }
+{
+    let CoulombTerm::Present { cutoff } = coulomb else {
+        return sum;
+    };
+    let own = potentials::kernel::coulomb_pairs(units, cutoff, cell, charges, xs, pairs, scratch);
+    merge(sum, forces, own, scratch)
+}
+
+fn with_bonds(
+    scratch: &mut [f64],
+    forces: &mut [f64],
+    sum: Sum,
+    bond: BondTerm,
+    cell: Cell,
+    bonds: &[u32],
+    lengths: &[f64],
+    ks: &[f64],
+    xs: &[f64],
+) -> Sum
+    ensures { λ r. ⌜ held r (now (forces .exit)) ≡ mergedInto (held sum (now (forces .entry))) (bondGives bond cell (now (bonds .entry)) (now (lengths .entry)) (now (ks .entry)) (now (xs .entry)) (length (now (scratch .entry)))) ⌝ }
+{
+    let BondTerm::Present(t) = bond else {
+        return sum;
+    };
+    let own = potentials::kernel::bonds_all(t, cell, bonds, lengths, ks, xs, scratch);
+    merge(sum, forces, own, scratch)
+}
+
+// The present terms, merged in order into zero.
+pub(crate) fn all(
+    scratch: &mut [f64],
+    lj: LjTerm,
+    coulomb: CoulombTerm,
+    bond: BondTerm,
+    units: Units,
+    cell: Cell,
+    ids: &[u32],
+    params: &[f64],
+    species: &[u32],
+    charges: &[f64],
+    bonds: &[u32],
+    lengths: &[f64],
+    ks: &[f64],
+    xs: &[f64],
+    pairs: &[u32],
+    forces: &mut [f64],
+) -> Sum
+    ensures { λ r. ⌜ held r (now (forces .exit)) ≡ mergedAll (length (now (forces .entry))) (contributions lookBy (terms lj coulomb bond units (now (ids .entry)) (now (params .entry)) (now (species .entry)) (now (charges .entry)) (now (bonds .entry)) (now (lengths .entry)) (now (ks .entry))) cell (now (xs .entry)) (length (now (scratch .entry))) (rows (now (pairs .entry)))) ⌝ }
+{
+    virial::kernel::clear(forces);
+    let zero = virial::kernel::zero();
+    let a = with_lj(
+        scratch,
+        forces,
+        zero,
+        lj,
+        cell,
+        ids,
+        params,
+        species,
+        xs,
+        pairs,
+    );
+    let b = with_coulomb(scratch, forces, a, coulomb, units, cell, charges, xs, pairs);
+    with_bonds(scratch, forces, b, bond, cell, bonds, lengths, ks, xs)
+}
