@@ -1,0 +1,5 @@
+pub mod Fused
+pub mod Only
+pub mod Sizes
+pub mod Speeds
+pub mod Steps

@@ -1,0 +1,4 @@
+pub mod Calls
+pub mod Limits
+pub mod Parts
+pub mod Verlet
