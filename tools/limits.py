@@ -1,6 +1,8 @@
-"""What the program limits must write (crates/limits/stdout): a plain model of the whole-number frame, which shares nothing with the library."""
-def spread(n):
-    return [((k%32)*10+k%7, (k//32%32)*10+k%5, (k//1024%16)*10+k%3) for k in range(n)]
+"""What the program limits must write (crates/limits/stdout): a plain model of the whole-number frame, which shares nothing with the library. It serves the
+pair list too: whole places, edges and radius powers of two, so that no operation of the list rounds."""
+import struct
+def spread(n,wide=10):
+    return [((k%32)*wide+k%7, (k//32%32)*wide+k%5, (k//1024%16)*wide+k%3) for k in range(n)]
 M=4242424242
 def digest(xs):
     h=7
@@ -51,3 +53,25 @@ line(build((320,320,320),10,p[:16384],200000,32769,16390))
 line(build((320,320,320),10,p[:16384],200000,32768,16390))
 line(build((320,320,320),10,p,200000,32769,16390))
 line(build((3,3,3641),1,[(1,1,1),(1,1,1)],200000,32769,16390))
+
+# ---- the pair list: the state (pairs, references, checks, fallback, builds) and the references besides
+def halves(xs):
+    for x in xs:
+        b=struct.unpack('>Q',struct.pack('>d',x))[0]
+        yield b>>32
+        yield b&0xffffffff
+def update(state,edges,radius,p,refs,nstarts,npairs=200000,nitems=16390):
+    r,pairs,starts,items=build(edges,radius,p,npairs,nstarts,nitems)
+    if r[0]==0:
+        refs=[float(x) for q in p for x in q]+refs[3*len(p):]
+        state=[r[2],len(p),r[3],r[4],(state[4]+1)%2**32]
+    print(r[0],r[1],int(r[0]==0),*state,digest(pairs),digest(halves(refs)),digest(starts),digest(items))
+    return state,refs
+p=spread(16385,8)
+new=[0,0,0,0,0]
+after,refs=update(new,(256,256,256),8,p[:16384],[0.0]*49155,32769)
+print(0,0,0,'')
+update(after,(256,256,256),8,p[:16384],refs,32768)
+update(after,(256,256,256),8,p,refs,32769)
+print(2,16385,'')
+update(new,(3,3,3641),1,[(1,1,1),(1,1,1)],[0.0]*6,32771,2,2)

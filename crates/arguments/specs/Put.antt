@@ -6,10 +6,13 @@ use lib.Ieee.{Float, nan}
 use Rattle.words.specs.Put.{wordOf, floatWord, flagWord}
 use Rattle.answer.specs.Seen.{numberOf, placeOf}
 use Rattle.answer.specs.declared.Refusal.{Refusal}
+use Rattle.answer.specs.declared.Whole.{Whole}
+use Rattle.answer.specs.declared.Whole.the-variants as Whole·cases
 use Rattle.cell.specs.declared.Vec3.{Vec3}
 use Rattle.cell.specs.declared.Lattice.{Lattice}
 use Rattle.cell.specs.declared.Rows.{Rows}
 use Rattle.virial.specs.declared.Sum.{Sum}
+use Rattle.neighbor.specs.declared.State.{State}
 
 -- number 0, place 0
 abbrev pub answeredWords : List ℕ
@@ -18,6 +21,11 @@ answeredWords = wordOf 0 ++ wordOf 0
 -- a refusal's number and place
 abbrev pub refusalWords : Refusal → List ℕ
 refusalWords why = wordOf (numberOf why) ++ wordOf (placeOf why)
+
+-- a whole number, or the refusal
+unfoldable pub wholeWords : Whole → List ℕ
+wholeWords (Whole·cases.Answered n) = answeredWords ++ wordOf n
+wholeWords (Whole·cases.Refused why) = refusalWords why
 
 abbrev pub vecWords : Vec3 → List ℕ
 vecWords v = floatWord (v .x) ++ (floatWord (v .y) ++ floatWord (v .z))
@@ -39,3 +47,10 @@ sumWords s =
     floatWord (s .energy)
     ++ ((floatWord (s .xx) ++ (floatWord (s .xy) ++ floatWord (s .xz)))
     ++ ((floatWord (s .yx) ++ (floatWord (s .yy) ++ floatWord (s .yz))) ++ (floatWord (s .zx) ++ (floatWord (s .zy) ++ floatWord (s .zz)))))
+
+-- the state of a list: cutoff, skin, pairs, references, checks, fallback, builds
+unfoldable pub claimsWords : State → List ℕ
+claimsWords s = wordOf (s .pairs) ++ (wordOf (s .references) ++ wordOf (s .checks))
+
+unfoldable pub stateWords : State → List ℕ
+stateWords s = floatWord (s .cutoff) ++ (floatWord (s .skin) ++ (claimsWords s ++ (flagWord (s .fallback) ++ wordOf (s .builds))))

@@ -11,6 +11,7 @@ use Rattle.cell.specs.declared.Cell.{Cell}
 use Rattle.cell.specs.declared.Cell.the-variants.{Absent, Present}
 use Rattle.virial.specs.declared.Sum.{Sum}
 use Rattle.virial.specs.declared.Units.{Units}
+use Rattle.neighbor.specs.declared.State.{State}
 
 -- three floats
 unfoldable pub vecAt : List ℕ → ℕ → Vec3
@@ -75,3 +76,32 @@ unitsAt ws at =
 
 unfoldable pub afterUnits : List ℕ → ℕ → ℕ
 afterUnits ws at = after ws (after ws (after ws (after ws at)))
+
+-- a u32
+abbrev pub u32At : List ℕ → ℕ → ℕ
+u32At = smallAt 4294967296
+
+abbrev pub afterU32 : List ℕ → ℕ → ℕ
+afterU32 = afterBelow 4294967296
+
+-- the state of a list: two floats; pairs, references, checks; a flag; the builds
+unfoldable pub claimsOf : List ℕ → ℕ → ℕ
+claimsOf ws at = after ws (after ws at)
+
+unfoldable pub flagOf : List ℕ → ℕ → ℕ
+flagOf ws at = afterU32 ws (afterU32 ws (afterU32 ws (claimsOf ws at)))
+
+unfoldable pub stateAt : List ℕ → ℕ → State
+stateAt ws at =
+    record {
+      cutoff = floatAt ws at;
+      skin = floatAt ws (after ws at);
+      pairs = u32At ws (claimsOf ws at);
+      references = u32At ws (afterU32 ws (claimsOf ws at));
+      checks = u32At ws (afterU32 ws (afterU32 ws (claimsOf ws at)));
+      fallback = flagAt ws (flagOf ws at);
+      builds = u32At ws (afterFlag ws (flagOf ws at));
+    }
+
+unfoldable pub afterState : List ℕ → ℕ → ℕ
+afterState ws at = afterU32 ws (afterFlag ws (flagOf ws at))

@@ -2,6 +2,7 @@
 use cell::Cell;
 use cell::Lattice;
 use cell::Vec3;
+use neighbor::State;
 use virial::Sum;
 use virial::Units;
 
@@ -13,11 +14,14 @@ pub use put::put_answered;
 pub use put::put_lattice;
 pub use put::put_refusal;
 pub use put::put_rows;
+pub use put::put_state;
 pub use put::put_sum;
 pub use put::put_vec3;
+pub use put::put_whole;
 pub use take::take_cell;
 pub use take::take_floats;
 pub use take::take_lattice;
+pub use take::take_state;
 pub use take::take_sum;
 pub use take::take_u32s;
 pub use take::take_units;
@@ -46,5 +50,10 @@ pub struct SumArg {
 
 pub struct UnitsArg {
     pub value: Units,
+    pub next: usize,
+}
+
+pub struct StateArg {
+    pub value: State,
     pub next: usize,
 }

@@ -3,11 +3,13 @@ ghost use mathlib.Core.Path.{_≡_};
 ghost use Prim.Native.Nat.{min};
 ghost use lib.ListN.{length};
 ghost use Rattle.words.specs.Put.{Put};
-ghost use Rattle.arguments.specs.Put.{answeredWords, refusalWords, vecWords, rowWords, rowsWords, latticeWords, sumWords};
+ghost use Rattle.arguments.specs.Put.{answeredWords, refusalWords, vecWords, rowWords, rowsWords, latticeWords, sumWords, claimsWords, stateWords, wholeWords};
 use answer::Refusal;
+use answer::Whole;
 use cell::Lattice;
 use cell::Rows;
 use cell::Vec3;
+use neighbor::State;
 use virial::Sum;
 
 // Number 0, place 0.
@@ -25,6 +27,19 @@ pub fn put_refusal(out: &mut [u64], why: Refusal) -> usize
     let place = why.place();
     let at = words::put_word(out, 0, number);
     words::put_word(out, at, place)
+}
+
+// A whole number, or the refusal.
+pub fn put_whole(out: &mut [u64], answer: Whole) -> usize
+    ensures { λ r. ⌜ Put (now (out .entry)) 0 (wholeWords answer) (now (out .exit)) r ⌝ }
+{
+    match answer {
+        Whole::Answered(n) => {
+            let at = put_answered(out);
+            words::put_word(out, at, n)
+        }
+        Whole::Refused(why) => put_refusal(out, why),
+    }
 }
 
 pub fn put_vec3(out: &mut [u64], at: usize, v: Vec3) -> usize
@@ -96,6 +111,25 @@ pub fn put_sum(out: &mut [u64], at: usize, s: Sum) -> usize
             z: s.zz,
         },
     )
+}
+
+// The pairs, references and checks of a state.
+fn put_claims(out: &mut [u64], at: usize, s: State) -> usize
+    ensures { λ r. ⌜ Put (now (out .entry)) at (claimsWords s) (now (out .exit)) r ⌝ }
+{
+    let pairs = words::put_word(out, at, s.pairs as u64);
+    let references = words::put_word(out, pairs, s.references as u64);
+    words::put_word(out, references, s.checks as u64)
+}
+
+pub fn put_state(out: &mut [u64], at: usize, s: State) -> usize
+    ensures { λ r. ⌜ Put (now (out .entry)) at (stateWords s) (now (out .exit)) r ⌝ }
+{
+    let cutoff = words::put_float(out, at, s.cutoff);
+    let skin = words::put_float(out, cutoff, s.skin);
+    let claims = put_claims(out, skin, s);
+    let fallback = words::put_bool(out, claims, s.fallback);
+    words::put_word(out, fallback, s.builds as u64)
 }
 
 // How many words of an answer the room holds.

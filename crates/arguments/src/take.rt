@@ -1,12 +1,14 @@
 // A case's arguments, one after the other.
 use crate::CellArg;
 use crate::LatticeArg;
+use crate::StateArg;
 use crate::SumArg;
 use crate::UnitsArg;
 use crate::VecArg;
 use cell::Cell;
 use cell::Lattice;
 use cell::Vec3;
+use neighbor::State;
 use virial::Sum;
 use virial::Units;
 use words::Table;
@@ -14,7 +16,7 @@ ghost use mathlib.Core.Path.{_≡_};
 ghost use Prim.Native.Nat.{_≤_};
 ghost use lib.ListN.{length};
 ghost use lib.Ieee.{binary64};
-ghost use Rattle.arguments.specs.Taken.{vecAt, afterVec, latticeAt, afterLattice, cellAt, afterCell, sumOf, sumAt, afterSum, unitsAt, afterUnits};
+ghost use Rattle.arguments.specs.Taken.{vecAt, afterVec, latticeAt, afterLattice, cellAt, afterCell, sumOf, sumAt, afterSum, unitsAt, afterUnits, stateAt, afterState};
 
 pub fn take_vec3(ws: &[u64], at: usize) -> VecArg
     ensures { λ r. ⌜ (r .value ≡ vecAt (now (ws .entry)) at) × (r .next ≡ afterVec (now (ws .entry)) at) ⌝ }
@@ -122,6 +124,31 @@ pub fn take_units(ws: &[u64], at: usize) -> UnitsArg
             ev_per_a3_to_gpa: gpa.value,
         },
         next: gpa.next,
+    }
+}
+
+// The settings of a list and what it claims.
+pub fn take_state(ws: &[u64], at: usize) -> StateArg
+    ensures { λ r. ⌜ (r .value ≡ stateAt (now (ws .entry)) at) × (r .next ≡ afterState (now (ws .entry)) at) ⌝ }
+{
+    let cutoff = words::take_float(ws, at);
+    let skin = words::take_float(ws, cutoff.next);
+    let pairs = words::take_u32(ws, skin.next);
+    let references = words::take_u32(ws, pairs.next);
+    let checks = words::take_u32(ws, references.next);
+    let fallback = words::take_bool(ws, checks.next);
+    let builds = words::take_u32(ws, fallback.next);
+    StateArg {
+        value: State {
+            cutoff: cutoff.value,
+            skin: skin.value,
+            pairs: pairs.value,
+            references: references.value,
+            checks: checks.value,
+            fallback: fallback.value,
+            builds: builds.value,
+        },
+        next: builds.next,
     }
 }
 

@@ -25,5 +25,20 @@ pub fn compared_answer(call: u64, ws: &[u64], out: &mut [u64]) -> usize
     if call < 48 {
         return replay_virial::answer(call, ws, out);
     }
-    replay_bins::answer(call, ws, out)
+    if call == 50 || call == 51 {
+        return replay_bins::answer(call, ws, out);
+    }
+    if call < 64 {
+        return replay_neighbor::answer(call, ws, out);
+    }
+    if call < 80 {
+        return replay_frame::answer(call, ws, out);
+    }
+    if call < 85 {
+        return replay_potentials::answer(call, ws, out);
+    }
+    if call < 96 {
+        return replay_evaluate::answer(call, ws, out);
+    }
+    replay_verlet::answer(call, ws, out)
 }

@@ -3,19 +3,9 @@ ghost use Prim.Native.Nat.{_≤_};
 ghost use lib.ListN.{length};
 use answer::Whole;
 
-fn tell_whole(out: &mut [u64], answer: Whole) -> usize {
-    match answer {
-        Whole::Answered(n) => {
-            let at = arguments::put_answered(out);
-            words::put_word(out, at, n)
-        }
-        Whole::Refused(why) => arguments::put_refusal(out, why),
-    }
-}
-
 // The answer, then the table, whatever became of it.
 fn tell_whole_table(out: &mut [u64], answer: Whole, table: &[u32]) -> usize {
-    let at = tell_whole(out, answer);
+    let at = arguments::put_whole(out, answer);
     words::put_u32s(out, at, table)
 }
 

@@ -10,7 +10,7 @@ use virial::Summed;
 
 // ---- answers as words
 
-fn tell_number(out: &mut [u64], answer: Number) -> usize {
+pub fn tell_number(out: &mut [u64], answer: Number) -> usize {
     match answer {
         Number::Answered(x) => {
             let at = arguments::put_answered(out);
@@ -43,7 +43,7 @@ fn tell_sum(out: &mut [u64], answer: Summed) -> usize {
 }
 
 // The answer, then the forces, whatever became of them.
-fn tell_sum_forces(out: &mut [u64], answer: Summed, forces: &[f64]) -> usize {
+pub fn tell_sum_forces(out: &mut [u64], answer: Summed, forces: &[f64]) -> usize {
     let at = tell_sum(out, answer);
     words::put_floats(out, at, forces)
 }

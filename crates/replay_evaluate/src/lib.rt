@@ -1,0 +1,352 @@
+// The call of `evaluate`, 55, as a case of the replay program. What is no case has no answer. No table is longer than 8,192. The tables are read in three
+// turns, each function lending its own to the next.
+ghost use Prim.Native.Nat.{_≤_};
+ghost use lib.ListN.{length};
+use answer::Done;
+use cell::Cell;
+use evaluate::Evaluated;
+use neighbor::State;
+use potentials::Bond;
+use potentials::BondTerm;
+use potentials::CoulombTerm;
+use potentials::LjTerm;
+use virial::Sum;
+use virial::Units;
+
+// ---- the terms: 0, or 1 and the term's numbers
+
+struct LjTermArg {
+    value: LjTerm,
+    next: usize,
+}
+
+struct CoulombTermArg {
+    value: CoulombTerm,
+    next: usize,
+}
+
+struct BondTermArg {
+    value: BondTerm,
+    next: usize,
+}
+
+fn take_lj_term(ws: &[u64], at: usize) -> LjTermArg {
+    let there = words::take_bool(ws, at);
+    if there.value {
+        let lj = replay_potentials::take_lj(ws, there.next);
+        let value = lj.value;
+        return LjTermArg {
+            value: LjTerm::Present(value),
+            next: lj.next,
+        };
+    }
+    LjTermArg {
+        value: LjTerm::Absent,
+        next: there.next,
+    }
+}
+
+fn take_coulomb_term(ws: &[u64], at: usize) -> CoulombTermArg {
+    let there = words::take_bool(ws, at);
+    if there.value {
+        let cutoff = words::take_float(ws, there.next);
+        let value = cutoff.value;
+        return CoulombTermArg {
+            value: CoulombTerm::Present { cutoff: value },
+            next: cutoff.next,
+        };
+    }
+    CoulombTermArg {
+        value: CoulombTerm::Absent,
+        next: there.next,
+    }
+}
+
+fn take_bond_term(ws: &[u64], at: usize) -> BondTermArg {
+    let there = words::take_bool(ws, at);
+    if there.value {
+        let k = words::take_float(ws, there.next);
+        let r0 = words::take_float(ws, k.next);
+        let bond = Bond {
+            k: k.value,
+            r0: r0.value,
+        };
+        return BondTermArg {
+            value: BondTerm::Present(bond),
+            next: r0.next,
+        };
+    }
+    BondTermArg {
+        value: BondTerm::Absent,
+        next: there.next,
+    }
+}
+
+// What is no table: the terms, the units, the list's state, the cell.
+struct Fixed {
+    lj: LjTerm,
+    coulomb: CoulombTerm,
+    bond: BondTerm,
+    units: Units,
+    state: State,
+    cell: Cell,
+    next: usize,
+}
+
+fn take_fixed(ws: &[u64]) -> Fixed {
+    let a = take_lj_term(ws, 0);
+    let b = take_coulomb_term(ws, a.next);
+    let c = take_bond_term(ws, b.next);
+    let d = arguments::take_units(ws, c.next);
+    let e = arguments::take_state(ws, d.next);
+    let f = arguments::take_cell(ws, e.next);
+    let lj = a.value;
+    let coulomb = b.value;
+    let bond = c.value;
+    let units = d.value;
+    let state = e.value;
+    let cell = f.value;
+    Fixed {
+        lj,
+        coulomb,
+        bond,
+        units,
+        state,
+        cell,
+        next: f.next,
+    }
+}
+
+// ---- the answer
+
+fn tell_done(out: &mut [u64], answer: Done) -> usize {
+    match answer {
+        Done::Answered => arguments::put_answered(out),
+        Done::Refused(why) => arguments::put_refusal(out, why),
+    }
+}
+
+// The sum, where there is one.
+fn tell_sum(out: &mut [u64], at: usize, answer: Done, sum: Sum) -> usize {
+    match answer {
+        Done::Answered => arguments::put_sum(out, at, sum),
+        Done::Refused(_) => at,
+    }
+}
+
+fn tell_values(out: &mut [u64], r: Evaluated) -> usize {
+    let done = r.done;
+    let state = r.state;
+    let sum = r.sum;
+    let head = tell_done(out, done);
+    let asked = words::put_bool(out, head, r.rebuilt);
+    let at = arguments::put_state(out, asked, state);
+    tell_sum(out, at, done, sum)
+}
+
+// The five rooms, whatever became of them.
+fn tell_rooms(
+    out: &mut [u64],
+    at: usize,
+    pairs: &[u32],
+    references: &[f64],
+    starts: &[u32],
+    items: &[u32],
+    forces: &[f64],
+) -> usize {
+    let listed = words::put_u32s(out, at, pairs);
+    let referred = words::put_floats(out, listed, references);
+    let laid = words::put_u32s(out, referred, starts);
+    let sorted = words::put_u32s(out, laid, items);
+    words::put_floats(out, sorted, forces)
+}
+
+// ---- the call
+
+fn told(
+    fixed: Fixed,
+    ids: &[u32],
+    params: &[f64],
+    species: &[u32],
+    charges: &[f64],
+    bonds: &[u32],
+    lengths: &[f64],
+    ks: &[f64],
+    positions: &[f64],
+    exclusions: &[u32],
+    pairs: &mut [u32],
+    references: &mut [f64],
+    starts: &mut [u32],
+    items: &mut [u32],
+    forces: &mut [f64],
+    out: &mut [u64],
+) -> usize {
+    let lj = fixed.lj;
+    let coulomb = fixed.coulomb;
+    let bond = fixed.bond;
+    let units = fixed.units;
+    let state = fixed.state;
+    let cell = fixed.cell;
+    let r = evaluate::evaluate(
+        lj,
+        coulomb,
+        bond,
+        units,
+        state,
+        cell,
+        ids,
+        params,
+        species,
+        charges,
+        bonds,
+        lengths,
+        ks,
+        positions,
+        exclusions,
+        pairs,
+        references,
+        starts,
+        items,
+        forces,
+    );
+    let at = tell_values(out, r);
+    tell_rooms(out, at, pairs, references, starts, items, forces)
+}
+
+// The rooms.
+fn with_rooms(
+    ws: &[u64],
+    next: usize,
+    fixed: Fixed,
+    ids: &[u32],
+    params: &[f64],
+    species: &[u32],
+    charges: &[f64],
+    bonds: &[u32],
+    lengths: &[f64],
+    ks: &[f64],
+    positions: &[f64],
+    exclusions: &[u32],
+    out: &mut [u64],
+) -> usize {
+    let mut pairs = [0u32; 8192];
+    let mut references = [0.0; 8192];
+    let mut starts = [0u32; 8192];
+    let mut items = [0u32; 8192];
+    let mut forces = [0.0; 8192];
+    let a = arguments::take_u32s(ws, next, &mut pairs);
+    let b = arguments::take_floats(ws, a.next, &mut references);
+    let c = arguments::take_u32s(ws, b.next, &mut starts);
+    let d = arguments::take_u32s(ws, c.next, &mut items);
+    let e = arguments::take_floats(ws, d.next, &mut forces);
+    if e.next != ws.len() {
+        return 0;
+    }
+    let na = a.count;
+    let nb = b.count;
+    let nc = c.count;
+    let nd = d.count;
+    let ne = e.count;
+    told(
+        fixed,
+        ids,
+        params,
+        species,
+        charges,
+        bonds,
+        lengths,
+        ks,
+        positions,
+        exclusions,
+        &mut pairs[..na],
+        &mut references[..nb],
+        &mut starts[..nc],
+        &mut items[..nd],
+        &mut forces[..ne],
+        out,
+    )
+}
+
+// The bonds, their tables, the positions and the exclusions.
+fn with_places(
+    ws: &[u64],
+    next: usize,
+    fixed: Fixed,
+    ids: &[u32],
+    params: &[f64],
+    species: &[u32],
+    charges: &[f64],
+    out: &mut [u64],
+) -> usize {
+    let mut bonds = [0u32; 8192];
+    let mut lengths = [0.0; 8192];
+    let mut ks = [0.0; 8192];
+    let mut positions = [0.0; 8192];
+    let mut exclusions = [0u32; 8192];
+    let a = arguments::take_u32s(ws, next, &mut bonds);
+    let b = arguments::take_floats(ws, a.next, &mut lengths);
+    let c = arguments::take_floats(ws, b.next, &mut ks);
+    let d = arguments::take_floats(ws, c.next, &mut positions);
+    let e = arguments::take_u32s(ws, d.next, &mut exclusions);
+    let na = a.count;
+    let nb = b.count;
+    let nc = c.count;
+    let nd = d.count;
+    let ne = e.count;
+    with_rooms(
+        ws,
+        e.next,
+        fixed,
+        ids,
+        params,
+        species,
+        charges,
+        &bonds[..na],
+        &lengths[..nb],
+        &ks[..nc],
+        &positions[..nd],
+        &exclusions[..ne],
+        out,
+    )
+}
+
+fn evaluate_case(ws: &[u64], out: &mut [u64]) -> usize {
+    let mut ids = [0u32; 8192];
+    let mut params = [0.0; 8192];
+    let mut species = [0u32; 8192];
+    let mut charges = [0.0; 8192];
+    let fixed = take_fixed(ws);
+    let a = arguments::take_u32s(ws, fixed.next, &mut ids);
+    let b = arguments::take_floats(ws, a.next, &mut params);
+    let c = arguments::take_u32s(ws, b.next, &mut species);
+    let d = arguments::take_floats(ws, c.next, &mut charges);
+    let na = a.count;
+    let nb = b.count;
+    let nc = c.count;
+    let nd = d.count;
+    with_places(
+        ws,
+        d.next,
+        fixed,
+        &ids[..na],
+        &params[..nb],
+        &species[..nc],
+        &charges[..nd],
+        out,
+    )
+}
+
+fn picked(call: u64, ws: &[u64], out: &mut [u64]) -> usize {
+    if call == 85 {
+        return evaluate_case(ws, out);
+    }
+    0
+}
+
+// The answer's words, and how many there are: 0 where the call is none of these or the words are not its arguments.
+pub fn answer(call: u64, ws: &[u64], out: &mut [u64]) -> usize
+    ensures { λ r. ⌜ r ≤ length (now (out .exit)) ⌝ }
+{
+    let count = picked(call, ws, out);
+    arguments::held(out, count)
+}
