@@ -8,10 +8,14 @@ use Rattle.answer.specs.Seen.{numberOf, placeOf}
 use Rattle.answer.specs.declared.Refusal.{Refusal}
 use Rattle.answer.specs.declared.Whole.{Whole}
 use Rattle.answer.specs.declared.Whole.the-variants as Whole·cases
+use Rattle.answer.specs.declared.Number.{Number}
+use Rattle.answer.specs.declared.Number.the-variants as Number·cases
 use Rattle.cell.specs.declared.Vec3.{Vec3}
 use Rattle.cell.specs.declared.Lattice.{Lattice}
 use Rattle.cell.specs.declared.Rows.{Rows}
 use Rattle.virial.specs.declared.Sum.{Sum}
+use Rattle.virial.specs.declared.Summed.{Summed}
+use Rattle.virial.specs.declared.Summed.the-variants as Summed·cases
 use Rattle.neighbor.specs.declared.State.{State}
 
 -- number 0, place 0
@@ -26,6 +30,11 @@ refusalWords why = wordOf (numberOf why) ++ wordOf (placeOf why)
 unfoldable pub wholeWords : Whole → List ℕ
 wholeWords (Whole·cases.Answered n) = answeredWords ++ wordOf n
 wholeWords (Whole·cases.Refused why) = refusalWords why
+
+-- a float, or the refusal
+unfoldable pub numberWords : Number → List ℕ
+numberWords (Number·cases.Answered x) = answeredWords ++ floatWord x
+numberWords (Number·cases.Refused why) = refusalWords why
 
 abbrev pub vecWords : Vec3 → List ℕ
 vecWords v = floatWord (v .x) ++ (floatWord (v .y) ++ floatWord (v .z))
@@ -47,6 +56,12 @@ sumWords s =
     floatWord (s .energy)
     ++ ((floatWord (s .xx) ++ (floatWord (s .xy) ++ floatWord (s .xz)))
     ++ ((floatWord (s .yx) ++ (floatWord (s .yy) ++ floatWord (s .yz))) ++ (floatWord (s .zx) ++ (floatWord (s .zy) ++ floatWord (s .zz)))))
+
+-- a sum, or the refusal
+unfoldable pub summedWords : Summed → List ℕ
+unfolding sumWords
+summedWords (Summed·cases.Answered s) = answeredWords ++ sumWords s
+summedWords (Summed·cases.Refused why) = refusalWords why
 
 -- the state of a list: cutoff, skin, pairs, references, checks, fallback, builds
 unfoldable pub claimsWords : State → List ℕ

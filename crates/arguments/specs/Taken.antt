@@ -9,6 +9,7 @@ use Rattle.cell.specs.declared.Vec3.{Vec3}
 use Rattle.cell.specs.declared.Lattice.{Lattice}
 use Rattle.cell.specs.declared.Cell.{Cell}
 use Rattle.cell.specs.declared.Cell.the-variants.{Absent, Present}
+use Rattle.pulls.specs.declared.Lj.{Lj}
 use Rattle.virial.specs.declared.Sum.{Sum}
 use Rattle.virial.specs.declared.Units.{Units}
 use Rattle.neighbor.specs.declared.State.{State}
@@ -76,6 +77,19 @@ unitsAt ws at =
 
 unfoldable pub afterUnits : List ℕ → ℕ → ℕ
 afterUnits ws at = after ws (after ws (after ws (after ws at)))
+
+-- the Lennard-Jones numbers: three floats and a flag
+unfoldable pub ljAt : List ℕ → ℕ → Lj
+ljAt ws at =
+    record {
+      epsilon = floatAt ws at;
+      sigma = floatAt ws (after ws at);
+      cutoff = floatAt ws (after ws (after ws at));
+      shift = flagAt ws (after ws (after ws (after ws at)));
+    }
+
+unfoldable pub afterLj : List ℕ → ℕ → ℕ
+afterLj ws at = afterFlag ws (after ws (after ws (after ws at)))
 
 -- a u32
 abbrev pub u32At : List ℕ → ℕ → ℕ

@@ -3,6 +3,7 @@ use cell::Cell;
 use cell::Lattice;
 use cell::Vec3;
 use neighbor::State;
+use pulls::Lj;
 use virial::Sum;
 use virial::Units;
 
@@ -12,15 +13,19 @@ mod take;
 pub use put::held;
 pub use put::put_answered;
 pub use put::put_lattice;
+pub use put::put_number;
 pub use put::put_refusal;
 pub use put::put_rows;
 pub use put::put_state;
 pub use put::put_sum;
+pub use put::put_summed;
+pub use put::put_summed_forces;
 pub use put::put_vec3;
 pub use put::put_whole;
 pub use take::take_cell;
 pub use take::take_floats;
 pub use take::take_lattice;
+pub use take::take_lj;
 pub use take::take_state;
 pub use take::take_sum;
 pub use take::take_u32s;
@@ -55,5 +60,10 @@ pub struct UnitsArg {
 
 pub struct StateArg {
     pub value: State,
+    pub next: usize,
+}
+
+pub struct LjArg {
+    pub value: Lj,
     pub next: usize,
 }

@@ -2,8 +2,10 @@
 ghost use mathlib.Core.Path.{_≡_};
 ghost use Prim.Native.Nat.{min};
 ghost use lib.ListN.{length};
-ghost use Rattle.words.specs.Put.{Put};
-ghost use Rattle.arguments.specs.Put.{answeredWords, refusalWords, vecWords, rowWords, rowsWords, latticeWords, sumWords, claimsWords, stateWords, wholeWords};
+ghost use mathlib.Core.List.{_++_};
+ghost use Rattle.words.specs.Put.{Put, floatsWords};
+ghost use Rattle.arguments.specs.Put.{answeredWords, refusalWords, vecWords, rowWords, rowsWords, latticeWords, sumWords, claimsWords, stateWords, numberWords, summedWords, wholeWords};
+use answer::Number;
 use answer::Refusal;
 use answer::Whole;
 use cell::Lattice;
@@ -11,6 +13,7 @@ use cell::Rows;
 use cell::Vec3;
 use neighbor::State;
 use virial::Sum;
+use virial::Summed;
 
 // Number 0, place 0.
 pub fn put_answered(out: &mut [u64]) -> usize
@@ -40,6 +43,40 @@ pub fn put_whole(out: &mut [u64], answer: Whole) -> usize
         }
         Whole::Refused(why) => put_refusal(out, why),
     }
+}
+
+// A float, or the refusal.
+pub fn put_number(out: &mut [u64], answer: Number) -> usize
+    ensures { λ r. ⌜ Put (now (out .entry)) 0 (numberWords answer) (now (out .exit)) r ⌝ }
+{
+    match answer {
+        Number::Answered(x) => {
+            let at = put_answered(out);
+            words::put_float(out, at, x)
+        }
+        Number::Refused(why) => put_refusal(out, why),
+    }
+}
+
+// A sum, or the refusal.
+pub fn put_summed(out: &mut [u64], answer: Summed) -> usize
+    ensures { λ r. ⌜ Put (now (out .entry)) 0 (summedWords answer) (now (out .exit)) r ⌝ }
+{
+    match answer {
+        Summed::Answered(sum) => {
+            let at = put_answered(out);
+            put_sum(out, at, sum)
+        }
+        Summed::Refused(why) => put_refusal(out, why),
+    }
+}
+
+// A sum or the refusal, then the forces, whatever became of them.
+pub fn put_summed_forces(out: &mut [u64], answer: Summed, forces: &[f64]) -> usize
+    ensures { λ r. ⌜ Put (now (out .entry)) 0 (summedWords answer ++ floatsWords (now (forces .entry))) (now (out .exit)) r ⌝ }
+{
+    let at = put_summed(out, answer);
+    words::put_floats(out, at, forces)
 }
 
 pub fn put_vec3(out: &mut [u64], at: usize, v: Vec3) -> usize

@@ -1,6 +1,7 @@
 // A case's arguments, one after the other.
 use crate::CellArg;
 use crate::LatticeArg;
+use crate::LjArg;
 use crate::StateArg;
 use crate::SumArg;
 use crate::UnitsArg;
@@ -9,6 +10,7 @@ use cell::Cell;
 use cell::Lattice;
 use cell::Vec3;
 use neighbor::State;
+use pulls::Lj;
 use virial::Sum;
 use virial::Units;
 use words::Table;
@@ -16,7 +18,7 @@ ghost use mathlib.Core.Path.{_≡_};
 ghost use Prim.Native.Nat.{_≤_};
 ghost use lib.ListN.{length};
 ghost use lib.Ieee.{binary64};
-ghost use Rattle.arguments.specs.Taken.{vecAt, afterVec, latticeAt, afterLattice, cellAt, afterCell, sumOf, sumAt, afterSum, unitsAt, afterUnits, stateAt, afterState};
+ghost use Rattle.arguments.specs.Taken.{vecAt, afterVec, latticeAt, afterLattice, cellAt, afterCell, sumOf, sumAt, afterSum, unitsAt, afterUnits, stateAt, afterState, ljAt, afterLj};
 
 pub fn take_vec3(ws: &[u64], at: usize) -> VecArg
     ensures { λ r. ⌜ (r .value ≡ vecAt (now (ws .entry)) at) × (r .next ≡ afterVec (now (ws .entry)) at) ⌝ }
@@ -124,6 +126,25 @@ pub fn take_units(ws: &[u64], at: usize) -> UnitsArg
             ev_per_a3_to_gpa: gpa.value,
         },
         next: gpa.next,
+    }
+}
+
+// Epsilon, sigma, cutoff, shift.
+pub fn take_lj(ws: &[u64], at: usize) -> LjArg
+    ensures { λ r. ⌜ (r .value ≡ ljAt (now (ws .entry)) at) × (r .next ≡ afterLj (now (ws .entry)) at) ⌝ }
+{
+    let epsilon = words::take_float(ws, at);
+    let sigma = words::take_float(ws, epsilon.next);
+    let cutoff = words::take_float(ws, sigma.next);
+    let shift = words::take_bool(ws, cutoff.next);
+    LjArg {
+        value: Lj {
+            epsilon: epsilon.value,
+            sigma: sigma.value,
+            cutoff: cutoff.value,
+            shift: shift.value,
+        },
+        next: shift.next,
     }
 }
 

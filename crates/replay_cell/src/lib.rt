@@ -2,7 +2,6 @@
 ghost use Prim.Native.Nat.{_≤_};
 ghost use lib.ListN.{length};
 use answer::Done;
-use answer::Number;
 use answer::YesNo;
 use cell::ImageAnswer;
 use cell::InverseAnswer;
@@ -50,16 +49,6 @@ fn tell_bool(out: &mut [u64], answer: YesNo) -> usize {
             words::put_bool(out, at, yes)
         }
         YesNo::Refused(why) => arguments::put_refusal(out, why),
-    }
-}
-
-fn tell_number(out: &mut [u64], answer: Number) -> usize {
-    match answer {
-        Number::Answered(x) => {
-            let at = arguments::put_answered(out);
-            words::put_float(out, at, x)
-        }
-        Number::Refused(why) => arguments::put_refusal(out, why),
     }
 }
 
@@ -133,7 +122,7 @@ fn volume_case(ws: &[u64], out: &mut [u64]) -> usize {
     if l.next != ws.len() {
         return 0;
     }
-    tell_number(out, cell::volume(l.value))
+    arguments::put_number(out, cell::volume(l.value))
 }
 
 fn inverse_case(ws: &[u64], out: &mut [u64]) -> usize {

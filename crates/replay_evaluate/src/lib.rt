@@ -33,7 +33,7 @@ struct BondTermArg {
 fn take_lj_term(ws: &[u64], at: usize) -> LjTermArg {
     let there = words::take_bool(ws, at);
     if there.value {
-        let lj = replay_potentials::take_lj(ws, there.next);
+        let lj = arguments::take_lj(ws, there.next);
         let value = lj.value;
         return LjTermArg {
             value: LjTerm::Present(value),

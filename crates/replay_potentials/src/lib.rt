@@ -6,29 +6,6 @@ use potentials::Bond;
 use pulls::Lj;
 use virial::Units;
 
-// An argument, and the place after it.
-pub struct LjArg {
-    pub value: Lj,
-    pub next: usize,
-}
-
-// Epsilon, sigma, cutoff, shift.
-pub fn take_lj(ws: &[u64], at: usize) -> LjArg {
-    let epsilon = words::take_float(ws, at);
-    let sigma = words::take_float(ws, epsilon.next);
-    let cutoff = words::take_float(ws, sigma.next);
-    let shift = words::take_bool(ws, cutoff.next);
-    LjArg {
-        value: Lj {
-            epsilon: epsilon.value,
-            sigma: sigma.value,
-            cutoff: cutoff.value,
-            shift: shift.value,
-        },
-        next: shift.next,
-    }
-}
-
 // ---- the calls, and their answers
 
 fn lj_listed(
@@ -43,7 +20,7 @@ fn lj_listed(
     out: &mut [u64],
 ) -> usize {
     let r = potentials::lj_pairs(lj, cell, ids, params, species, positions, pairs, forces);
-    replay_virial::tell_sum_forces(out, r, forces)
+    arguments::put_summed_forces(out, r, forces)
 }
 
 fn lj_each(
@@ -57,7 +34,7 @@ fn lj_each(
     out: &mut [u64],
 ) -> usize {
     let r = potentials::lj_all(lj, cell, ids, params, species, positions, forces);
-    replay_virial::tell_sum_forces(out, r, forces)
+    arguments::put_summed_forces(out, r, forces)
 }
 
 fn coulomb_listed(
@@ -71,7 +48,7 @@ fn coulomb_listed(
     out: &mut [u64],
 ) -> usize {
     let r = potentials::coulomb_pairs(units, cutoff, cell, charges, positions, pairs, forces);
-    replay_virial::tell_sum_forces(out, r, forces)
+    arguments::put_summed_forces(out, r, forces)
 }
 
 fn coulomb_each(
@@ -84,7 +61,7 @@ fn coulomb_each(
     out: &mut [u64],
 ) -> usize {
     let r = potentials::coulomb_all(units, cutoff, cell, charges, positions, forces);
-    replay_virial::tell_sum_forces(out, r, forces)
+    arguments::put_summed_forces(out, r, forces)
 }
 
 fn bonded(
@@ -98,7 +75,7 @@ fn bonded(
     out: &mut [u64],
 ) -> usize {
     let r = potentials::bonds_all(bond, cell, bonds, lengths, ks, positions, forces);
-    replay_virial::tell_sum_forces(out, r, forces)
+    arguments::put_summed_forces(out, r, forces)
 }
 
 // ---- the cases
@@ -110,7 +87,7 @@ fn lj_pairs_case(ws: &[u64], out: &mut [u64]) -> usize {
     let mut positions = [0.0; 8192];
     let mut pairs = [0u32; 8192];
     let mut forces = [0.0; 8192];
-    let lj = take_lj(ws, 0);
+    let lj = arguments::take_lj(ws, 0);
     let of = arguments::take_cell(ws, lj.next);
     let a = arguments::take_u32s(ws, of.next, &mut ids);
     let b = arguments::take_floats(ws, a.next, &mut params);
@@ -147,7 +124,7 @@ fn lj_all_case(ws: &[u64], out: &mut [u64]) -> usize {
     let mut species = [0u32; 8192];
     let mut positions = [0.0; 8192];
     let mut forces = [0.0; 8192];
-    let lj = take_lj(ws, 0);
+    let lj = arguments::take_lj(ws, 0);
     let of = arguments::take_cell(ws, lj.next);
     let a = arguments::take_u32s(ws, of.next, &mut ids);
     let b = arguments::take_floats(ws, a.next, &mut params);

@@ -16,7 +16,7 @@ fn kinetic_energy_case(ws: &[u64], out: &mut [u64]) -> usize {
     let n = vs.count;
     let m = ms.count;
     let r = verlet::kinetic_energy(units.value, &velocities[..n], &masses[..m]);
-    replay_virial::tell_number(out, r)
+    arguments::put_number(out, r)
 }
 
 fn temperature_case(ws: &[u64], out: &mut [u64]) -> usize {
@@ -32,7 +32,7 @@ fn temperature_case(ws: &[u64], out: &mut [u64]) -> usize {
     let n = vs.count;
     let m = ms.count;
     let r = verlet::temperature(units.value, dof.value, &velocities[..n], &masses[..m]);
-    replay_virial::tell_number(out, r)
+    arguments::put_number(out, r)
 }
 
 fn tell_done(out: &mut [u64], answer: Done) -> usize {

@@ -2,23 +2,11 @@
 ghost use Prim.Native.Nat.{_≤_};
 ghost use lib.ListN.{length};
 use answer::Done;
-use answer::Number;
 use cell::RowsAnswer;
 use cell::Vec3;
 use virial::Sum;
-use virial::Summed;
 
 // ---- answers as words
-
-pub fn tell_number(out: &mut [u64], answer: Number) -> usize {
-    match answer {
-        Number::Answered(x) => {
-            let at = arguments::put_answered(out);
-            words::put_float(out, at, x)
-        }
-        Number::Refused(why) => arguments::put_refusal(out, why),
-    }
-}
 
 fn tell_rows(out: &mut [u64], answer: RowsAnswer) -> usize {
     let done = answer.done;
@@ -32,22 +20,6 @@ fn tell_rows(out: &mut [u64], answer: RowsAnswer) -> usize {
     }
 }
 
-fn tell_sum(out: &mut [u64], answer: Summed) -> usize {
-    match answer {
-        Summed::Answered(sum) => {
-            let at = arguments::put_answered(out);
-            arguments::put_sum(out, at, sum)
-        }
-        Summed::Refused(why) => arguments::put_refusal(out, why),
-    }
-}
-
-// The answer, then the forces, whatever became of them.
-pub fn tell_sum_forces(out: &mut [u64], answer: Summed, forces: &[f64]) -> usize {
-    let at = tell_sum(out, answer);
-    words::put_floats(out, at, forces)
-}
-
 fn three_rows(a: Vec3, b: Vec3, c: Vec3) -> [[f64; 3]; 3] {
     [[a.x, a.y, a.z], [b.x, b.y, b.z], [c.x, c.y, c.z]]
 }
@@ -57,7 +29,7 @@ fn three_rows(a: Vec3, b: Vec3, c: Vec3) -> [[f64; 3]; 3] {
 // Each call that writes forces, and its answer.
 fn merged(sum: Sum, other: Sum, added: &[f64], forces: &mut [f64], out: &mut [u64]) -> usize {
     let r = virial::merge(sum, forces, other, added);
-    tell_sum_forces(out, r, forces)
+    arguments::put_summed_forces(out, r, forces)
 }
 
 fn pair_added(
@@ -70,12 +42,12 @@ fn pair_added(
     out: &mut [u64],
 ) -> usize {
     let r = virial::add_pair_force(sum, forces, i, j, d, f);
-    tell_sum_forces(out, r, forces)
+    arguments::put_summed_forces(out, r, forces)
 }
 
 fn cleared(forces: &mut [f64], out: &mut [u64]) -> usize {
     let r = virial::zeros(forces);
-    tell_sum_forces(out, r, forces)
+    arguments::put_summed_forces(out, r, forces)
 }
 
 fn merge_case(ws: &[u64], out: &mut [u64]) -> usize {
@@ -137,7 +109,7 @@ fn scalar_virial_case(ws: &[u64], out: &mut [u64]) -> usize {
         return 0;
     }
     let rows = three_rows(x.value, y.value, z.value);
-    tell_number(out, virial::scalar_virial(rows))
+    arguments::put_number(out, virial::scalar_virial(rows))
 }
 
 fn pressure_case(ws: &[u64], out: &mut [u64]) -> usize {
@@ -147,7 +119,7 @@ fn pressure_case(ws: &[u64], out: &mut [u64]) -> usize {
     if volume.next != ws.len() {
         return 0;
     }
-    tell_number(
+    arguments::put_number(
         out,
         virial::pressure(kinetic.value, scalar.value, volume.value),
     )
@@ -185,7 +157,7 @@ fn to_gpa_case(ws: &[u64], out: &mut [u64]) -> usize {
     if p.next != ws.len() {
         return 0;
     }
-    tell_number(out, virial::to_gpa(units.value, p.value))
+    arguments::put_number(out, virial::to_gpa(units.value, p.value))
 }
 
 fn zeros_case(ws: &[u64], out: &mut [u64]) -> usize {
