@@ -1,10 +1,12 @@
 -- One term after the other is the fold over the contributions. Assumes nothing.
-use mathlib.Core.Path.{_≡_, refl}
+use mathlib.Core.Path.{_≡_, refl, _∙_}
 use mathlib.Core.List.{List, [], _∷_, _++_, foldl-append}
 use Prim.Native.Nat.{ℕ}
 use lib.Ieee.{Float}
+use lib.ListN.{length}
 use Rattle.virial.specs.declared.Sum.{Sum}
 use Rattle.virial.specs.Virial.{zeroSum, zeroForces, mergedSum, mergedForces}
+use Rattle.virial.proofs.Forces.{merged-length, zeros-length}
 use Rattle.pulls.specs.Pull.{Total, held}
 use Rattle.potentials.specs.Terms.{zeroTotal}
 use Rattle.evaluate.specs.Terms.{merged, mergedInto, mergedAll}
@@ -32,3 +34,13 @@ pub merged-three : (room : ℕ) (a b c : List Total) {sum : Sum} {forces : List 
 unfolding mergedAll zeroTotal
 merged-three room a b c f s p q r =
     rw (joined (held zeroSum (zeroForces room)) a (b ++ c), joined (mergedInto (held zeroSum (zeroForces room)) a) b c, ← f, ← s, ← p, ← q) r
+
+-- a sum has as many forces as it began with
+into-length : (t : Total) (l : List Total) → length (mergedInto t l .forces) ≡ length (t .forces)
+unfolding mergedInto merged
+into-length t [] = refl
+into-length t (x ∷ l) = into-length (merged t x) l ∙ merged-length (t .forces) (x .forces)
+
+pub merged-room : (room : ℕ) (l : List Total) → length (mergedAll room l .forces) ≡ room
+unfolding mergedAll zeroTotal
+merged-room room l = into-length (held zeroSum (zeroForces room)) l ∙ zeros-length room

@@ -12,13 +12,14 @@ use borrow.Author.Tests.{ltb-false, eqb-true, not-false}
 use Rattle.answer.specs.declared.Done.{Done}
 use Rattle.answer.specs.declared.Done.the-variants.{Answered, Refused}
 use Rattle.answer.specs.declared.Refusal.{Refusal}
-use Rattle.answer.specs.declared.Refusal.the-variants.{Lengths, Order, TooMany}
+use Rattle.answer.specs.declared.Refusal.the-variants.{Lengths, Range, Order, TooMany}
 use Rattle.answer.specs.Seen.{Seen, answered, refused, seenDone}
 use Rattle.lists.specs.Lists.{rows}
 use Rattle.lists.proofs.Cases.{and-both, or-neither}
 use Rattle.cell.specs.declared.Cell.{Cell}
 use Rattle.virial.specs.declared.Sum.{Sum}
 use Rattle.virial.specs.Virial.{zeroSum}
+use Rattle.pulls.specs.declared.Lj.{Lj}
 use Rattle.pulls.specs.declared.Mixed.{Mixed}
 use Rattle.pulls.specs.Pull.{Total, held}
 use Rattle.pulls.specs.Species.{lookBy, lookOf, rising}
@@ -31,6 +32,7 @@ use Rattle.neighbor.specs.declared.Updated.{Updated}
 use Rattle.neighbor.specs.Update.{Given, updateOf, listedOf, lengthsBad, firstOf, tableAsked, andThen}
 use Rattle.neighbor.specs.Update as Update
 use Rattle.neighbor.proofs.Asking.{pass}
+use Rattle.evaluate.proofs.Folding.{merged-room}
 use Rattle.evaluate.specs.declared.Evaluated.{Evaluated}
 use Rattle.evaluate.specs.Terms.{Terms, ljGives, contributions, mergedAll}
 use Rattle.evaluate.specs.Asked.{termsFit, bondsAsked, idsAsked, namesAsked, inTurn, askedOf}
@@ -87,11 +89,11 @@ module _ (j : Job) where
       ∙ ap (λ (o : Update.Outcome). afterList lookBy (min (length (j .forces)) scratchLength) j (o .answer) o) e
 
 -- ---- what passed tests show
-passed : (b : Bool) (r : Refusal) → cond b Answered (Refused r) ≡ Answered → b ≡ true
+pub passed : (b : Bool) (r : Refusal) → cond b Answered (Refused r) ≡ Answered → b ≡ true
 passed true r e = refl
 passed false r e = let z : _≡_ {A = ℕ} 0 1 = cc in absurd (omega arith)
 
-both-passed : (a b : Done) → andThen a b ≡ Answered → (a ≡ Answered) × (b ≡ Answered)
+pub both-passed : (a b : Done) → andThen a b ≡ Answered → (a ≡ Answered) × (b ≡ Answered)
 unfolding andThen
 both-passed Answered b e = (refl, e)
 both-passed (Refused r) b e = let z : _≡_ {A = ℕ} 0 1 = cc in absurd (omega arith)
@@ -104,6 +106,10 @@ module _ (fits : Bool) (first : Done) (ok : Bool) (kept names : Done) (e : inTur
   turn-first : first ≡ Answered
   unfolding inTurn
   turn-first = both-passed first _ (both-passed _ _ e .1) .0
+
+  turn-inside : ok ≡ true
+  unfolding inTurn
+  turn-inside = passed ok Range (both-passed _ _ (both-passed first _ (both-passed _ _ e .1) .1) .0)
 
   turn-names : names ≡ Answered
   unfolding inTurn
@@ -118,14 +124,14 @@ unfolding termsFit
 fit-forces ids params species charges bonds xs forces e =
     eqb-true forces xs (and-both (eqb (params / 2) ids && eqb (params % 2) 0 && eqb species (xs / 3) && eqb charges (xs / 3) && eqb (bonds % 2) 0) (eqb forces xs) e .1)
 
-first-room : (s : State) (cell : Cell) (xs : List Float) (table pairs refs items : ℕ) → firstOf s cell xs table pairs refs items ≡ Answered → length xs ≤ 49152
+first-room : (s : State) (cell : Cell) (xs : List Float) (table pairs refs items : ℕ) → firstOf s cell xs table pairs refs items ≡ Answered → (length xs % 3 ≡ 0) × (length xs ≤ 49152)
 unfolding firstOf lengthsBad
 first-room s cell xs table pairs refs items e =
     let p = pass (lengthsBad (length xs) table refs items) Lengths _ e in
     let q = pass (ltb 16384 (length xs / 3)) (TooMany (length xs / 3)) _ (p .1) in
     let m : length xs / 3 ≤ 16384 = ltb-false 16384 (length xs / 3) (q .0) in
     let z : length xs % 3 ≡ 0 = eqb-true (length xs % 3) 0 (not-false (eqb (length xs % 3) 0) (or-neither (not (eqb (length xs % 3) 0)) _ (or-neither _ _ (or-neither _ _ (p .0) .0) .0) .0)) in
-    omega arith
+    (z, omega arith)
 
 -- what an evaluation, or a step, that passed its tests may count on
 module _ (fits inRange : Bool) (t : Terms) (g : Given) (forces : ℕ) (e : askedOf fits inRange t g forces ≡ Answered) where
@@ -139,7 +145,20 @@ module _ (fits inRange : Bool) (t : Terms) (g : Given) (forces : ℕ) (e : asked
 
   pub asked-few : length (g .positions) ≤ 49152
   unfolding askedOf
-  asked-few = first-room _ _ _ _ _ _ _ (turn-first _ _ _ _ _ e)
+  asked-few = first-room _ _ _ _ _ _ _ (turn-first _ _ _ _ _ e) .1
+
+  pub asked-thirds : length (g .positions) % 3 ≡ 0
+  unfolding askedOf
+  asked-thirds = first-room _ _ _ _ _ _ _ (turn-first _ _ _ _ _ e) .0
+
+  -- what a step asks besides
+  pub asked-fits : fits ≡ true
+  unfolding askedOf
+  asked-fits = and-both fits _ (turn-fits _ _ _ _ _ e) .0
+
+  pub asked-inside : inRange ≡ true
+  unfolding askedOf
+  asked-inside = and-both inRange _ (turn-inside _ _ _ _ _ e) .0
 
 -- ---- the lookup by halving is the one by membership
 lj-looked : (ids : List ℕ) (params : List Float) → rising ids ≡ true → (t : LjTerm) (cell : Cell) (species : List ℕ) (xs : List Float) (room : ℕ) (l : List (ℕ × ℕ))
@@ -164,6 +183,17 @@ unfolding settledBy
 settled-is j h l =
     let m : min (length (j .forces)) scratchLength ≡ length (j .forces) = omega arith in
     rw m (after-looked j h (length (j .forces)) _ _)
+
+-- the forces are as many as they were
+module _ (look : List ℕ → List Float → Lj → ℕ → Mixed) (room : ℕ) (j : Job) where
+  after-length : (a : Seen (Unit {0})) (o : Update.Outcome) → length (afterList look room j a o .total .forces) ≡ length (j .forces)
+  unfolding afterList totalOf
+  after-length (answered u) o = merged-room _ _
+  after-length (refused n p) o = refl
+
+  pub settled-length : length (settledBy look room j .total .forces) ≡ length (j .forces)
+  unfolding settledBy
+  settled-length = after-length _ _
 
 -- ---- the call
 module _ (j : Job) {d : Done} (is : d ≡ askedOf true true (j .terms) (j .given) (length (j .forces))) where

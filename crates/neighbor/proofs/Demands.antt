@@ -39,7 +39,7 @@ use Rattle.neighbor.specs.Listed.{Close, Listed, UpdateLists}
 
 -- ---- the listed pairs, of any frame
 module _ (cell : Cell) (r : Float) (xs : List Float) (table : List ℕ) where
-  abbrev Listable : ℕ × ℕ → Type 0
+  abbrev pub Listable : ℕ × ℕ → Type 0
   Listable p = Two (atomsOf xs) p × (isRow p (rows table) ≡ false) × (beside cell r xs p ≡ true) × (nearOf cell r xs (p .0) (p .1) ≡ true)
 
   beside-plain : plainOf cell r xs ≡ true → (p : ℕ × ℕ) → beside cell r xs p ≡ true
@@ -64,7 +64,7 @@ module _ (cell : Cell) (r : Float) (xs : List Float) (table : List ℕ) where
       (λ p u. (u .0 .0, u .1 .0, beside-grid e p ∙ u .0 .1, u .1 .1))
       (λ p u. ((u .0, sym (beside-grid e p) ∙ u .2), (u .1, u .3)))
 
-  near-exactly : Exactly Listable (nearPairs cell r xs table)
+  pub near-exactly : Exactly Listable (nearPairs cell r xs table)
   near-exactly = ⊎-elim plain-exactly grid-exactly (true-or-false (plainOf cell r xs))
 
 -- ---- an outcome, where it is a build's
