@@ -3,3 +3,5 @@ pub mod Kernels
 pub mod Lengths
 pub mod Only
 pub mod Outcomes
+pub mod Table
+pub mod Turns

@@ -1,11 +1,19 @@
--- What the loops say of themselves: a cell's facts are asked once, and species are looked up by halving. Nobody has to believe it. Definitions only.
+-- What the loops say of themselves: a cell's facts are asked once, species are looked up by halving, and the numbers of two species are remembered. Nobody has to believe it. Definitions only.
+use mathlib.Core.Path.{_≡_}
+use mathlib.Core.Bool.{cond}
 use mathlib.Core.List.{List}
-use Prim.Native.Nat.{ℕ}
+use Prim.Native.Nat.{ℕ, _+_, _*_, _/_, _%_, _^_, _<_}
+use lib.Dec.{ltb}
 use lib.Ieee.{Float}
+use lib.ListN.{length, getD}
+use Rattle.float.specs.Arith.{at}
 use Rattle.prepared.specs.declared.Prepared.{Prepared}
 use Rattle.prepared.specs.Facts.{imageIn}
 use Rattle.virial.specs.Virial.{atomsOf}
 use Rattle.pulls.specs.declared.Lj.{Lj}
+use Rattle.pulls.specs.declared.Numbers.{Numbers}
+use Rattle.pulls.specs.Lj.{mixOf}
+use Rattle.pulls.specs.Once.{numbersOf}
 use Rattle.pulls.specs.Pull.{Total}
 use Rattle.pulls.specs.Species.{lookBy}
 use Rattle.potentials.specs.Terms.{step, ljPair, coulombPair}
@@ -15,3 +23,31 @@ ljStep lj p ids params species xs = step (atomsOf xs) (ljPair (λ d. imageIn p d
 
 unfoldable pub coulombStep : Float → Float → Prepared → List Float → List Float → Total → ℕ × ℕ → Total
 coulombStep ke cutoff p charges xs = step (atomsOf xs) (coulombPair (λ d. imageIn p d) ke cutoff charges xs)
+
+-- ---- one loop for the rows of a table and for an atom's later partners
+
+-- the pair of number k: row k of a table of pairs, or i and k past the table's end
+unfoldable pub firstAt : List ℕ → ℕ → ℕ → ℕ
+firstAt table i k = cond (ltb k (length table / 2)) (getD table (2 * k) 0) i
+
+unfoldable pub secondAt : List ℕ → ℕ → ℕ
+secondAt table k = cond (ltb k (length table / 2)) (getD table (2 * k + 1) 0) k
+
+unfoldable pub ljTurn : Lj → Prepared → List ℕ → List Float → List ℕ → List Float → List ℕ → ℕ → Total → ℕ → Total
+ljTurn lj p ids params species xs table i t k = ljStep lj p ids params species xs t (firstAt table i k, secondAt table k)
+
+-- ---- the numbers of two species, remembered
+unfoldable pub numbersFor : Lj → List ℕ → List Float → ℕ → ℕ → Numbers
+numbersFor lj ids params y z = numbersOf lj (mixOf (lookBy ids params lj y) (lookBy ids params lj z))
+
+-- of a key, y * 2 ^ 32 + z
+abbrev pub numbersAt : Lj → List ℕ → List Float → ℕ → Numbers
+numbersAt lj ids params k = numbersFor lj ids params (k / 2 ^ 32) (k % 2 ^ 32)
+
+-- 16 keys, and the numbers of each
+pub record Kept (lj : Lj) (ids : List ℕ) (params : List Float) (keys : List ℕ) (depths squares shifts : List Float) : Type 0 where
+  pub keys16 : length keys ≡ 16
+  pub depths16 : length depths ≡ 16
+  pub squares16 : length squares ≡ 16
+  pub shifts16 : length shifts ≡ 16
+  pub right : (s : ℕ) → s < 16 → record { depth = at depths s; square = at squares s; shift = at shifts s } ≡ numbersAt lj ids params (getD keys s 0)

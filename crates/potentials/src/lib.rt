@@ -11,6 +11,7 @@ use virial::Units;
 
 mod bonds;
 mod coulomb;
+mod kept;
 pub mod kernel;
 mod lennard_jones;
 mod pairs;

@@ -1,2 +1,3 @@
 pub mod Lookup
 pub mod Newton
+pub mod Once

@@ -2,5 +2,6 @@ pub mod Bond
 pub mod Coulomb
 pub mod Lj
 pub mod Newton
+pub mod Once
 pub mod Pull
 pub mod Species

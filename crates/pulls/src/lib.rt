@@ -19,6 +19,13 @@ pub struct Mixed {
     pub sigma: f64,
 }
 
+// What the formulas need of two species: 4 epsilon, sigma squared, and the energy at the cutoff.
+pub struct Numbers {
+    pub depth: f64,
+    pub square: f64,
+    pub shift: f64,
+}
+
 // A Lennard-Jones term; epsilon and sigma are those of a species that its table lacks. (The Rust's `LennardJones`; its `params` are a lent table.)
 pub struct Lj {
     pub epsilon: f64,

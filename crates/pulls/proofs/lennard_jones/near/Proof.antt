@@ -1,10 +1,10 @@
-use Rattle.pulls.specs.Lj.{ljNear}
+use Rattle.pulls.specs.Once.{nearBy}
 use borrow.Author.Needs.{needs}
 use Rattle.pulls.proofs.lennard_jones.near.Statement.{statement}
 use Rattle.pulls.proofs.lennard_jones.near.Tie as tie
 
 returns : tie.Need-returns
-returns c = unfold ljNear in rw (c .before .energy .ensures, c .scale .ensures)
+returns c = unfold nearBy in rw (c .before .energy .ensures, c .scale .ensures)
 
 pub near-spec : {M : Type 1} → statement M
 near-spec = tie.close (tie.spec (λ c κs. search needs) (λ c κs. search needs) returns)
