@@ -1,8 +1,10 @@
 -- What the private functions ask and say of themselves: nobody has to believe it. Definitions only.
-use Prim.Native.Nat.{ℕ}
+use Prim.Native.Nat.{ℕ, _/_, _≤_, _<_, min, max}
 use mathlib.Core.Path.{_≡_}
-use mathlib.Core.Bool.{Bool, false}
+use mathlib.Core.Bool.{Bool, true, false}
 use mathlib.Core.List.{List}
+use lib.ListN.{length, getD, take}
+use Rattle.lists.specs.Lists.{keep}
 use lib.Ieee.{Float, le}
 use Rattle.cell.specs.declared.Vec3.{Vec3}
 use Rattle.cell.specs.declared.Cell.{Cell as Cell′}
@@ -17,7 +19,7 @@ use Rattle.bins.specs.Sort.{atomsIn}
 use Rattle.bins.specs.Traversal.{bin}
 use Rattle.bins.specs.Listing.{Scene, listOf, Below}
 use Rattle.checks.specs.Checks.{lazy}
-use Rattle.exclusions.specs.Table.{lookedUp}
+use Rattle.exclusions.specs.Table.{rowAt, lookedFrom}
 use Rattle.grid.specs.Grid.{spotOf, atomsOf, gridOf, cellAt, plainOf}
 use Rattle.grid.specs.Layout.{touchingRows}
 use Rattle.listing.specs.declared.sight.Sight.{Sight}
@@ -26,17 +28,43 @@ use Rattle.listing.specs.declared.sight.Sight.{Sight}
 unfoldable pub seesOf : Sight → Vec3 → Vec3 → Bool
 seesOf s a b = le (norm2Of (imageIn (s .prepared) (subOf a b) .diff)) (s .limit)
 
--- what is excluded and what is near, as the loops find it; and the near test first
-unfoldable pub lookedBy : Sight → List Float → List ℕ → Scene
-lookedBy s xs table = record { excluded = lookedUp table; near = λ low high. seesOf s (spotOf xs low) (spotOf xs high) }
+-- every row before k is of a low atom below a
+pub record Under (table : List ℕ) (a k : ℕ) : Type 0 where
+  pub within : k ≤ length table / 2
+  pub low : (j : ℕ) → j < k → rowAt table j .0 < a
 
-unfoldable pub sceneBy : Sight → List Float → List ℕ → Scene
+-- so it is at each atom's number; an atom past the last has row 0
+pub record Firsts (table firsts : List ℕ) : Type 0 where
+  pub at : (a : ℕ) → Under table a (getD firsts a 0)
+
+-- a pair's lookup from its low atom's row
+unfoldable pub lookedIn : List ℕ → List ℕ → ℕ → ℕ → Bool
+unfolding lookedFrom
+lookedIn firsts table low high = lookedFrom table (getD firsts low 0) low high
+
+-- what is excluded and what is near, as the loops find it; the near test first; and the scene of pairs that are near
+unfoldable pub lookedBy : Sight → List Float → List ℕ → List ℕ → Scene
+lookedBy s xs firsts table = record { excluded = lookedIn firsts table; near = λ low high. seesOf s (spotOf xs low) (spotOf xs high) }
+
+unfoldable pub sceneBy : Sight → List Float → List ℕ → List ℕ → Scene
 unfolding lazy lookedBy
-sceneBy s xs table = lazy (lookedBy s xs table)
+sceneBy s xs firsts table = lazy (lookedBy s xs firsts table)
+
+unfoldable pub chosenBy : List ℕ → List ℕ → Scene
+chosenBy firsts table = record { excluded = lookedIn firsts table; near = λ low high. true }
+
+-- whether j is near i
+unfoldable pub nearTo : Sight → List Float → ℕ → ℕ → Bool
+nearTo s xs i j = seesOf s (spotOf xs (min i j)) (spotOf xs (max i j))
+
+-- r elements at the memory's front: those of a part that pass the test
+pub record Gathered (q : ℕ → Bool) (part : List ℕ) (r : ℕ) (mem : List ℕ) : Type 0 where
+  pub few : r ≤ length part
+  pub are : take r mem ≡ keep q part
 
 -- from a tally t and a memory, the candidates lead to the tally r and the new memory
-abbrev pub Lists : Sight → List Float → List ℕ → Tally → List ℕ → List (ℕ × ℕ) → Tally → List ℕ → Type 0
-Lists s xs table t old cands r new = record { tally = r; mem = new } ≡ listOf (sceneBy s xs table) (record { tally = t; mem = old }) cands
+abbrev pub Lists : Sight → List Float → List ℕ → List ℕ → Tally → List ℕ → List (ℕ × ℕ) → Tally → List ℕ → Type 0
+Lists s xs firsts table t old cands r new = record { tally = r; mem = new } ≡ listOf (sceneBy s xs firsts table) (record { tally = t; mem = old }) cands
 
 -- the atoms of a cell, as the tables hand them out
 abbrev pub atomsBy : Grid → List ℕ → List ℕ → Cell → List ℕ

@@ -17,13 +17,6 @@ pub struct Sight {
     pub limit: f64,
 }
 
-// One of two values, without a branch.
-fn pick(test: bool, a: f64, b: f64) -> f64
-    ensures { λ r. ⌜ r ≡ cond test a b ⌝ }
-{
-    if test { a } else { b }
-}
-
 pub(crate) fn spot_at(xs: &[f64], i: usize) -> Vec3
     requires { ⌜ i < length (now xs) / 3 ⌝ }
     ensures { λ r. ⌜ r ≡ spotOf (now (xs .entry)) i ⌝ }
@@ -35,15 +28,14 @@ pub(crate) fn spot_at(xs: &[f64], i: usize) -> Vec3
     }
 }
 
-// a - b, or b - a: the low atom's place less the high one's.
+// a - b, or b - a: the low atom's place less the high one's. A branch, since the atoms of a part rise: it turns once a part.
 fn apart(rising: bool, a: Vec3, b: Vec3) -> Vec3
     ensures { λ r. ⌜ r ≡ subOf (cond rising a b) (cond rising b a) ⌝ }
 {
-    Vec3 {
-        x: pick(rising, a.x - b.x, b.x - a.x),
-        y: pick(rising, a.y - b.y, b.y - a.y),
-        z: pick(rising, a.z - b.z, b.z - a.z),
+    if rising {
+        return vectors::sub(a, b);
     }
+    vectors::sub(b, a)
 }
 
 pub(crate) fn sees(s: Sight, rising: bool, a: Vec3, b: Vec3) -> bool

@@ -19,6 +19,7 @@ fn sweep_row(
     g: Grid,
     xs: &[f64],
     table: &[u32],
+    firsts: &[u32],
     pairs: &mut [u32],
     starts: &[u32],
     items: &[u32],
@@ -29,7 +30,7 @@ fn sweep_row(
     requires { ⌜ Swept g (length (now xs) / 3) (now starts) (now items) ⌝ }
     requires { ⌜ InGrid g home ⌝ }
     requires { ⌜ Ready t (length (visit g (atomsBy g (now starts) (now items)) home row)) ⌝ }
-    ensures { λ r. ⌜ Lists s (now (xs .entry)) (now (table .entry)) t (now (pairs .entry)) (visit g (atomsBy g (now (starts .entry)) (now (items .entry))) home row) r (now (pairs .exit)) ⌝ }
+    ensures { λ r. ⌜ Lists s (now (xs .entry)) (now (firsts .entry)) (now (table .entry)) t (now (pairs .entry)) (visit g (atomsBy g (now (starts .entry)) (now (items .entry))) home row) r (now (pairs .exit)) ⌝ }
 {
     let o = bins::kernel::offset_index(g, home, row);
     let Reached::To(other) = o else {
@@ -37,10 +38,10 @@ fn sweep_row(
     };
     let mine = bins::atoms_in(bins::kernel::index(g, home) as usize, starts, items);
     if row == 0 {
-        return consider_home(s, xs, table, pairs, t, mine);
+        return consider_home(s, xs, table, firsts, pairs, t, mine);
     }
     let theirs = bins::atoms_in(bins::kernel::index(g, other) as usize, starts, items);
-    consider_cross(s, xs, table, pairs, t, mine, theirs)
+    consider_cross(s, xs, table, firsts, pairs, t, mine, theirs)
 }
 
 // A home cell and all rows.
@@ -49,6 +50,7 @@ fn sweep_cell(
     g: Grid,
     xs: &[f64],
     table: &[u32],
+    firsts: &[u32],
     pairs: &mut [u32],
     starts: &[u32],
     items: &[u32],
@@ -58,12 +60,24 @@ fn sweep_cell(
     requires { ⌜ Swept g (length (now xs) / 3) (now starts) (now items) ⌝ }
     requires { ⌜ InGrid g home ⌝ }
     requires { ⌜ Ready t (length (cellPairs g (atomsBy g (now starts) (now items)) home)) ⌝ }
-    ensures { λ r. ⌜ Lists s (now (xs .entry)) (now (table .entry)) t (now (pairs .entry)) (cellPairs g (atomsBy g (now (starts .entry)) (now (items .entry))) home) r (now (pairs .exit)) ⌝ }
+    ensures { λ r. ⌜ Lists s (now (xs .entry)) (now (firsts .entry)) (now (table .entry)) t (now (pairs .entry)) (cellPairs g (atomsBy g (now (starts .entry)) (now (items .entry))) home) r (now (pairs .exit)) ⌝ }
 {
     let mut now = t;
     let mut row = 0;
     while row < 14 {
-        now = sweep_row(s, g, xs, table, pairs, starts, items, now, home, row);
+        now = sweep_row(
+            s,
+            g,
+            xs,
+            table,
+            firsts,
+            pairs,
+            starts,
+            items,
+            now,
+            home,
+            row,
+        );
         row += 1;
     }
     now
@@ -75,6 +89,7 @@ pub(crate) fn sweep_all(
     g: Grid,
     xs: &[f64],
     table: &[u32],
+    firsts: &[u32],
     pairs: &mut [u32],
     starts: &[u32],
     items: &[u32],
@@ -82,14 +97,14 @@ pub(crate) fn sweep_all(
 ) -> Tally
     requires { ⌜ Swept g (length (now xs) / 3) (now starts) (now items) ⌝ }
     requires { ⌜ Ready t (length (pairsOf g (atomsBy g (now starts) (now items)))) ⌝ }
-    ensures { λ r. ⌜ Lists s (now (xs .entry)) (now (table .entry)) t (now (pairs .entry)) (pairsOf g (atomsBy g (now (starts .entry)) (now (items .entry)))) r (now (pairs .exit)) ⌝ }
+    ensures { λ r. ⌜ Lists s (now (xs .entry)) (now (firsts .entry)) (now (table .entry)) t (now (pairs .entry)) (pairsOf g (atomsBy g (now (starts .entry)) (now (items .entry)))) r (now (pairs .exit)) ⌝ }
 {
     let count = bins::kernel::cell_count(g);
     let mut now = t;
     let mut h = 0;
     while h < count {
         let home = bins::kernel::home_of(g, h);
-        now = sweep_cell(s, g, xs, table, pairs, starts, items, now, home);
+        now = sweep_cell(s, g, xs, table, firsts, pairs, starts, items, now, home);
         h += 1;
     }
     now

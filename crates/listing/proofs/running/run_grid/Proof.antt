@@ -1,48 +1,44 @@
 use Prim.Native.Nat.{ℕ, _/_}
 use Rattle.listing.proofs.Counts.{grid-ran, grid-ready, grid-swept, shown-is}
+use Rattle.listing.proofs.Leading.{firsts-part, firsts-within, firsts-long}
+use Rattle.listing.proofs.Numbered.{front-long}
 use borrow.Author.Needs.{needs}
 use mathlib.Core.Bool.{false}
-use mathlib.Core.Path.{ap}
+use mathlib.Core.Path.{ap, sym}
 use Rattle.listing.proofs.running.run_grid.Statement.{statement}
 use Rattle.listing.proofs.running.run_grid.Tie as tie
-use Rattle.listing.proofs.running.run_grid.Reads as reads
-use Rattle.listing.proofs.running.run_grid.Lts as lts
-use Rattle.listing.proofs.running.finish.Reads as finish-reads
-use Rattle.listing.proofs.running.none.Reads as none-reads
-use Rattle.listing.proofs.sight.sight_of.Reads as sight-of-reads
-use Rattle.listing.proofs.sweep.sweep_all.Reads as sweep-all-reads
 
--- src/running.rt:75:23
-sight-of-requires : tie.Need-sight-of-requires
-sight-of-requires c κs = search needs
+slice-aggregate-first-rows : tie.Need-slice-aggregate-first-rows
+slice-aggregate-first-rows c = sym (front-long _ _ (c .before .blank .ensures) (c .before .before .before .before .before .before .before .pre .0 .1))
 
--- src/running.rt:75:83
-none-requires : tie.Need-none-requires
-none-requires c κs = search needs
+array-share-prefix-firsts : tie.Need-array-share-prefix-firsts
+array-share-prefix-firsts c = firsts-within _ _ (c .before .before .before .before .blank .ensures) (c .before .before .before .before .before .before .before .before .before .before .pre .0 .1) (c .before .before .first-rows .ensures) (c .before .before .first-rows .kept .1 .0)
 
--- src/running.rt:75:9
+slice-aggregate-sweep-all : tie.Need-slice-aggregate-sweep-all
+slice-aggregate-sweep-all c = firsts-long _ _ (c .before .before .before .before .before .blank .ensures) (c .before .before .before .before .before .before .before .before .before .before .before .pre .0 .1) (c .before .before .before .first-rows .ensures) (c .before .before .before .first-rows .kept .1 .0)
+
 sweep-all-requires : tie.Need-sweep-all-requires
-sweep-all-requires c κs = (grid-swept (c .before .before .before .before .before .before .before .before .pre .1), rw (c .none .ensures) (grid-ready (c .before .before .before .before .before .before .before .before .pre .1) (c .before .before .before .before .before .before .before .before .pre .0 .1)))
+sweep-all-requires c κs = (grid-swept (c .before .before .before .before .before .before .before .before .before .before .before .before .before .pre .1), rw (c .none .ensures) (grid-ready (c .before .before .before .before .before .before .before .before .before .before .before .before .before .pre .1) (c .before .before .before .before .before .before .before .before .before .before .before .before .before .pre .0 .1)))
 
--- src/running.rt:76:5
 finish-requires : tie.Need-finish-requires
-finish-requires c κs = let z = grid-ran (c .before .before .before .before .before .before .before .before .before .before .before .pre .1) (c .before .before .before .before .before .before .before .before .before .before .before .pre .0 .1) (c .before .before .before .before .before .before .before .before .before .before .before .pre .0 .0) (c .before .before .before .before .before .sight-of .ensures) (c .before .before .before .before .before .before .before .before .before .before .before .args .pairs .now) (rw (c .before .before .before .none .ensures) at (c .before .before .sweep-all .ensures)) in (z .order, z .fits, z .few)
+finish-requires c κs = let z = grid-ran (c .before .before .before .before .before .before .before .before .before .before .before .before .before .before .before .before .pre .1) (c .before .before .before .before .before .before .before .before .before .before .before .before .before .before .before .before .pre .0 .1) (c .before .before .before .before .before .before .before .before .before .before .before .before .before .before .before .before .pre .0 .0) (c .before .before .before .before .before .before .sight-of .ensures) (firsts-part _ _ (c .before .before .before .before .before .before .before .before .before .before .blank .ensures) (c .before .before .before .before .before .before .before .before .before .before .before .before .before .before .before .before .pre .0 .1) (c .before .before .before .before .before .before .before .before .first-rows .ensures) (c .before .before .before .before .before .before .before .before .first-rows .kept .1 .0)) (c .before .before .before .before .before .before .before .before .before .before .before .before .before .before .before .before .args .pairs .now) (rw (c .before .before .before .none .ensures) at (c .before .before .sweep-all .ensures)) in (z .order, z .fits, z .few)
 
--- src/running.rt:59:1
-same-length : tie.Need-same-length
-same-length c = search needs
-
--- src/running.rt:59:1
 returns : tie.Need-returns
-returns c = let z = grid-ran (c .before .before .before .before .before .before .before .before .before .before .before .before .pre .1) (c .before .before .before .before .before .before .before .before .before .before .before .before .pre .0 .1) (c .before .before .before .before .before .before .before .before .before .before .before .before .pre .0 .0) (c .before .before .before .before .before .before .sight-of .ensures) (c .before .before .before .before .before .before .before .before .before .before .before .before .args .pairs .now) (rw (c .before .before .before .before .none .ensures) at (c .before .before .before .sweep-all .ensures)) in (shown-is false (c .finish .ensures) (z .count) (z .left) (ap (λ (l : ℕ). l / 2) (z .same)), z .mem)
+returns c = let z = grid-ran (c .before .before .before .before .before .before .before .before .before .before .before .before .before .before .before .before .before .pre .1) (c .before .before .before .before .before .before .before .before .before .before .before .before .before .before .before .before .before .pre .0 .1) (c .before .before .before .before .before .before .before .before .before .before .before .before .before .before .before .before .before .pre .0 .0) (c .before .before .before .before .before .before .before .sight-of .ensures) (firsts-part _ _ (c .before .before .before .before .before .before .before .before .before .before .before .blank .ensures) (c .before .before .before .before .before .before .before .before .before .before .before .before .before .before .before .before .before .pre .0 .1) (c .before .before .before .before .before .before .before .before .before .first-rows .ensures) (c .before .before .before .before .before .before .before .before .before .first-rows .kept .1 .0)) (c .before .before .before .before .before .before .before .before .before .before .before .before .before .before .before .before .before .args .pairs .now) (rw (c .before .before .before .before .none .ensures) at (c .before .before .before .sweep-all .ensures)) in (shown-is false (c .finish .ensures) (z .count) (z .left) (ap (λ (l : ℕ). l / 2) (z .same)), z .mem)
 
 pub run-grid-spec : {M : Type 1} → statement M
 run-grid-spec =
     tie.close
     (tie.spec
-    sight-of-requires
-    none-requires
+    (λ c κs. search needs)
+    (λ c. search needs)
+    slice-aggregate-first-rows
+    (λ c κs. search needs)
+    (λ c κs. search needs)
+    array-share-prefix-firsts
+    slice-aggregate-sweep-all
+    (λ c κs. search needs)
     sweep-all-requires
     finish-requires
-    same-length
+    (λ c. search needs)
     returns)
