@@ -1,11 +1,8 @@
 // Builds of the float frame at 1,000, 4,000 and 16,000 atoms, in a cubic cell, a tilted one and none, with and without exclusions, and one without a grid. It makes
 // its own positions by whole-number arithmetic and writes, a line a build: refusal and place, the pairs, the checks, the fallback, and a digest of the pairs
 // in their order. `tools/digests.rs` is the same over the Rust: crates/digests/stdout is what that one writes.
-use answer::Done;
 use cell::Cell;
-use cell::Lattice;
-use cell::Vec3;
-use libc::STDOUT_FILENO;
+use liquid::show;
 use neighbor::State;
 use neighbor::Updated;
 ghost use Prim.Native.Nat.{_<_};
@@ -58,49 +55,14 @@ fn chain(table: &mut [u32]) {
     }
 }
 
-fn step(h: u64, x: u32) -> u64
-    ensures { λ r. ⌜ r < 4294967291 ⌝ }
-{
-    (h % 4294967291 * 1000003 + x as u64) % 4294967291
-}
-
-fn digest(xs: &[u32]) -> u64 {
-    let mut h: u64 = 7;
-    let mut k = 0;
-    while k < xs.len() {
-        h = step(h, xs[k]);
-        k += 1;
-    }
-    h
-}
-
-fn put(n: u64) {
-    io::print_decimal(STDOUT_FILENO, n);
-    io::write_all(STDOUT_FILENO, b" ");
-}
-
-fn put_done(done: Done) {
-    match done {
-        Done::Answered => {
-            put(0);
-            put(0);
-        }
-        Done::Refused(why) => {
-            put(why.number());
-            put(why.place());
-        }
-    }
-}
-
 fn put_built(u: Updated, pairs: &[u32]) {
     let done = u.done;
     let s = u.state;
-    put_done(done);
-    put(s.pairs as u64);
-    put(s.checks as u64);
-    put(if s.fallback { 1 } else { 0 });
-    io::print_decimal(STDOUT_FILENO, digest(neighbor::listed(s, pairs)));
-    io::write_all(STDOUT_FILENO, b"\n");
+    show::put_done(done);
+    show::put(s.pairs as u64);
+    show::put(s.checks as u64);
+    show::put_flag(s.fallback);
+    show::end(liquid::digest(neighbor::listed(s, pairs)));
 }
 
 fn list(cutoff: f64) -> State {
@@ -113,29 +75,6 @@ fn list(cutoff: f64) -> State {
         fallback: false,
         builds: 0,
     }
-}
-
-fn tilted(edge: f64) -> Cell {
-    Cell::Present(Lattice {
-        a: Vec3 {
-            x: edge,
-            y: 0.0,
-            z: 0.0,
-        },
-        b: Vec3 {
-            x: edge / 8.0,
-            y: edge,
-            z: 0.0,
-        },
-        c: Vec3 {
-            x: edge / -16.0,
-            y: edge / 8.0,
-            z: edge,
-        },
-        px: true,
-        py: true,
-        pz: true,
-    })
 }
 
 fn build(
@@ -168,8 +107,26 @@ fn all_cells(
     chain(table);
     build(cubic, 2.5, xs, &[], pairs, refs, starts, items);
     build(cubic, 2.5, xs, table, pairs, refs, starts, items);
-    build(tilted(edge), 2.5, xs, &[], pairs, refs, starts, items);
-    build(tilted(edge), 2.5, xs, table, pairs, refs, starts, items);
+    build(
+        liquid::tilted(edge),
+        2.5,
+        xs,
+        &[],
+        pairs,
+        refs,
+        starts,
+        items,
+    );
+    build(
+        liquid::tilted(edge),
+        2.5,
+        xs,
+        table,
+        pairs,
+        refs,
+        starts,
+        items,
+    );
     build(Cell::Absent, 2.5, xs, &[], pairs, refs, starts, items);
     build(Cell::Absent, 2.5, xs, table, pairs, refs, starts, items);
 }
@@ -192,7 +149,7 @@ fn main() {
     );
     // fewer than three bins on an axis: no grid
     build(
-        tilted(20.0),
+        liquid::tilted(20.0),
         7.0,
         &small,
         &small_table,

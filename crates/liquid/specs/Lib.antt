@@ -1,0 +1,2 @@
+pub mod Liquid
+pub mod Terms
