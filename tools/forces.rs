@@ -280,7 +280,8 @@ fn main() {
             s
         };
         run.line("Coulomb", n, near_cubic.len(), theirs, ours);
-        let chain: Vec<(usize, usize)> = (1..n).map(|k| (k - 1, k)).collect();
+        let near = |&&(i, j): &&(usize, usize)| cell::vec3::norm(cell::min_image(cell::vec3::sub(xs[i], xs[j]), Some(&cubic))) < 4.0;
+        let chain: Vec<(usize, usize)> = near_cubic.iter().filter(near).copied().collect();
         let bonds = numbers(&chain);
         let term = HarmonicBonds::uniform(2.5, 1.5);
         let theirs = || term.compute_all(black_box(&chain), black_box(&xs), black_box(Some(&cubic)));
