@@ -1,28 +1,31 @@
 -- The tests of a motion, one by one; and the old list in other rooms. Assumes nothing.
-use Prim.Native.Nat.{ℕ, zero, suc, _+_, _*_, _/_, _≤_, _<_}
+use Prim.Native.Nat.{ℕ, zero, suc, _+_, _*_, _/_, _%_, _≤_, _<_}
 use native.Mathlib.Omega.{arith}
 use mathlib.Core.Path.{_≡_, refl, sym, ap, _∙_}
-use mathlib.Core.Bool.{Bool, true, false, not, _&&_}
+use mathlib.Core.Bool.{Bool, true, false, not, _&&_, _||_}
 use mathlib.Core.Logic.{⊎-elim}
 use mathlib.Core.List.{List}
-use lib.Dec.{ltb}
+use lib.Dec.{eqb, ltb}
 use lib.Ieee.{Float, nan}
 use lib.ListN.{length, take, getD, length-take}
 use lib.Seq.{getD-take}
 use borrow.Author.Tests.{not-false, ltb-false, le-ltb, ne-eqb}
 use Rattle.answer.specs.declared.Done.the-variants.{Answered}
-use Rattle.answer.specs.declared.Refusal.the-variants.{Lengths, TooMany, Claims, Range}
-use Rattle.lists.specs.Lists.{numbers, some}
+use Rattle.answer.specs.declared.Refusal.the-variants.{Lengths, TooMany, Claims, Range, Order}
+use Rattle.lists.specs.Lists.{numbers, some, rows}
 use Rattle.lists.proofs.Cases.{or-neither, neither-or, same-or}
+use Rattle.exclusions.specs.Table.{isTable}
 use Rattle.grid.specs.Grid.{spotOf}
+use Rattle.grid.specs.Layout.{unfitOf}
+use Rattle.listing.specs.Listed.{unlisted}
 use Rattle.virial.specs.Virial.{atomsOf}
 use Rattle.verlet.specs.declared.Thermostat.{Thermostat}
 use Rattle.cell.specs.declared.Cell.{Cell}
 use Rattle.neighbor.specs.declared.State.{State}
 use Rattle.neighbor.specs.Rebuild.{movedOf, needsOf, claimsMore, referencesOk, rangesOk}
-use Rattle.neighbor.specs.Update.{lengthsBad, listedOf, firstOf, misnamed, keptAsked, andThen}
+use Rattle.neighbor.specs.Update.{unfit, lengthsBad, listedOf, firstOf, misnamed, keptAsked, tableAsked, andThen}
 use Rattle.neighbor.proofs.Asking.{pass, listed-some}
-use Rattle.evaluate.specs.Asked.{termsFit, numbersOk, namesAsked, inTurn, askedOf}
+use Rattle.evaluate.specs.Asked.{termsFit, numbersOk, bondsAsked, idsAsked, namesAsked, inTurn, askedOf}
 use Rattle.evaluate.proofs.Settling.{passed, both-passed}
 use Rattle.step.specs.Asked.{motionFits, motionOk}
 use Rattle.step.specs.Calls.{Motion, motionAsked}
@@ -87,6 +90,35 @@ module _ (limit : Float) (t : Thermostat) (m : Motion) where
   asked-made p =
       let f = first-made (m .job .given .state) (m .job .given .cell) (m .job .given .positions) (length (m .job .given .exclusions)) (length (m .job .given .pairs)) (length (m .job .given .references)) (length (m .job .given .items)) (p .lengths) (p .few) (p .claims) (p .ranges) in
       rw (p .fits, f, p .numbers, p .kept, p .names)
+
+-- ---- what the tests say to a build
+lengths-told : (xs table refs items : ℕ) → lengthsBad xs table refs items ≡ false → (not (eqb (xs % 3) 0) || not (eqb (table % 2) 0) ≡ false) × (ltb refs xs ≡ false) × (ltb items (xs / 3) ≡ false)
+unfolding lengthsBad
+lengths-told xs table refs items h =
+    let rows = not (eqb (xs % 3) 0) || not (eqb (table % 2) 0) in
+    let p = or-neither (rows || ltb refs xs) (ltb items (xs / 3)) h in
+    let q = or-neither rows (ltb refs xs) (p .0) in
+    (q .0, q .1, p .1)
+
+-- rooms of at least these lengths
+pub lengths-again : (xs table refs items more others : ℕ) → lengthsBad xs table refs items ≡ false → xs ≤ more → xs / 3 ≤ others → lengthsBad xs table more others ≡ false
+unfolding lengthsBad
+lengths-again xs table refs items more others h r i =
+    let rows = not (eqb (xs % 3) 0) || not (eqb (table % 2) 0) in
+    neither-or (rows || ltb more xs) (ltb others (xs / 3)) (neither-or rows (ltb more xs) (lengths-told xs table refs items h .0) (le-ltb more xs r)) (le-ltb others (xs / 3) i)
+
+table-told : (n : ℕ) (bonds table ids : List ℕ) → namesAsked n bonds table ids ≡ Answered → isTable (rows table) ≡ true
+unfolding namesAsked tableAsked
+table-told n bonds table ids e = passed (isTable (rows table)) Order (both-passed _ (idsAsked ids) (both-passed (bondsAsked n bonds) _ e .1) .0)
+
+module _ (limit : Float) (t : Thermostat) (m : Motion) (p : Passed limit t m) where
+  pub build-fits : unfit (length (m .job .given .positions)) (length (m .job .given .references)) ≡ false
+  unfolding unfit
+  build-fits = neither-or _ _ (lengths-told _ _ _ _ (p .lengths) .1) (p .few)
+
+  pub build-able : unlisted (m .job .given .positions) (m .job .given .exclusions) (m .job .given .items) ≡ false
+  unfolding unlisted unfitOf
+  build-able = rw (p .few, lengths-told _ _ _ _ (p .lengths) .2, table-told _ _ _ _ (p .names))
 
 -- ---- the old list in other rooms
 module _ {A : Type 0} (k : ℕ) (old new : List A) (same : take k new ≡ take k old) where

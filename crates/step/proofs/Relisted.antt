@@ -2,7 +2,7 @@
 use Prim.Native.Nat.{ℕ, _*_, _/_, _≤_, _<_}
 use native.Mathlib.Omega.{arith}
 use mathlib.Core.Path.{_≡_, refl, sym, ap, _∙_, subst}
-use mathlib.Core.Bool.{Bool, true, false, cond, not, _&&_}
+use mathlib.Core.Bool.{Bool, true, false, cond, not, _&&_, false≢true}
 use mathlib.Core.Logic.{_⊎_, inl, inr, ⊎-elim}
 use mathlib.Core.List.{List, [], _∷_, List·Memᴰ·head, List·Memᴰ·tail, Memᴰ·append-left}
 use lib.Dec.{eqb, ltb, leb}
@@ -124,12 +124,14 @@ foundIn i = nearPairs (i .cell) (radiusOf (i .state)) (i .positions) (i .exclusi
 
 -- after a 7: the list as it came
 pub record Untouched (i : Given) (o : Outcome) : Type 0 where
+  pub answer : o .answer ≡ refused 7 0
   pub state : o .state ≡ i .state
   pub pairs : o .pairs ≡ i .pairs
   pub references : o .references ≡ i .references
 
 -- after an 8: a build was asked for, and the room is full
 pub record Overfull (i : Given) (o : Outcome) : Type 0 where
+  pub answer : o .answer ≡ refused 8 (length (foundIn i))
   pub state : o .state ≡ emptiedOf (i .state)
   pub pairs : o .pairs ≡ laidOf (i .pairs) (foundIn i)
   pub references : o .references ≡ i .references
@@ -137,12 +139,10 @@ pub record Overfull (i : Given) (o : Outcome) : Type 0 where
   pub needs : needsOf (i .state) (i .cell) (i .positions) (i .references) ≡ true
   pub over : length (i .pairs) / 2 < length (foundIn i)
 
-module _ (i : Given) (n p : ℕ) where
+-- where the tests have passed
+module _ (i : Given) (fit : unfit (length (i .positions)) (length (i .references)) ≡ false) (able : Listing.unlisted (i .positions) (i .exclusions) (i .items) ≡ false) (n p : ℕ) where
   abbrev Leaves : Outcome → Type 0
   Leaves o = o .answer ≡ refused n p → Untouched i o ⊎ Overfull i o
-
-  as-came : (o : Outcome) → o .state ≡ i .state → o .pairs ≡ i .pairs → o .references ≡ i .references → Untouched i o ⊎ Overfull i o
-  as-came o s p r = inl (record { state = s; pairs = p; references = r })
 
   module _ (many : 2 ≤ atomsOf (i .positions)) (needs : needsOf (i .state) (i .cell) (i .positions) (i .references) ≡ true) where
     run-leaves : (fallback : Bool) (starts items : List ℕ)
@@ -153,16 +153,17 @@ module _ (i : Given) (n p : ℕ) where
         (λ t. Leaves (listedAll i (cond t (Found (length (foundIn i)) (checksOf (i .cell) (radiusOf (i .state)) (i .positions) (i .exclusions)) fallback) (Full (length (foundIn i)))) (laidOf (i .pairs) (foundIn i)) starts items))
         (leb (length (foundIn i)) (length (i .pairs) / 2))
         (λ _ h. never h)
-        (λ e _. inr (record { state = refl; pairs = refl; references = refl; many = many; needs = needs; over = omega (arith, leb-false (length (foundIn i)) (length (i .pairs) / 2) e) }))
+        (λ e _. inr (record { answer = refl; state = refl; pairs = refl; references = refl; many = many; needs = needs; over = omega (arith, leb-false (length (foundIn i)) (length (i .pairs) / 2) e) }))
 
     list-leaves : Leaves (listedBy i (Listing.listedOf (i .cell) (radiusOf (i .state)) (i .positions) (i .exclusions) (i .pairs) (i .starts) (i .items)))
     unfolding Listing.listedOf listedAll
     list-leaves =
-        by-test (λ t. Leaves (listedBy i (fits t))) (Listing.unlisted (i .positions) (i .exclusions) (i .items)) (λ _ _. as-came _ refl refl refl)
+        by-test (λ t. Leaves (listedBy i (fits t))) (Listing.unlisted (i .positions) (i .exclusions) (i .items)) (λ e. absurd (false≢true (sym able ∙ e)))
         (λ _.
         by-test (λ t. Leaves (listedBy i (flat t))) (plainOf (i .cell) (radiusOf (i .state)) (i .positions)) (λ _. run-leaves true (i .starts) (i .items))
         (λ _.
-        by-test (λ t. Leaves (listedBy i (full t))) (crowded (i .cell) (radiusOf (i .state)) (i .positions) (length (i .starts))) (λ _ _. as-came _ refl refl refl)
+        by-test (λ t. Leaves (listedBy i (full t))) (crowded (i .cell) (radiusOf (i .state)) (i .positions) (length (i .starts)))
+        (λ _ _. inl (record { answer = refl; state = refl; pairs = refl; references = refl }))
         (λ _. run-leaves false _ _)))
       where
         full : Bool → Listing.Outcome
@@ -193,7 +194,7 @@ module _ (i : Given) (n p : ℕ) where
   update-leaves =
       let asked = needsOf (i .state) (i .cell) (i .positions) (i .references) in
       by-test (λ t. Leaves (cond t (stays i Lengths) (cond (not asked) (keptAll i) (rebuiltAll i)))) (unfit (length (i .positions)) (length (i .references)))
-      (λ _ _. as-came _ refl refl refl)
+      (λ e. absurd (false≢true (sym fit ∙ e)))
       (λ _. by-test (λ t. Leaves (cond t (keptAll i) (rebuiltAll i))) (not asked) (λ _ h. never h) (λ e. rebuilt-leaves (not-false asked e)))
 
 -- ---- the pairs that an 8 leaves name atoms that are there

@@ -1,19 +1,18 @@
 -- THEOREM. A call that a 7 or 8 stopped, finished with other rooms, is that call with those rooms from the start. Assumes nothing.
-use Prim.Native.Nat.{ℕ, _*_, _/_, _%_, _≤_}
+use Prim.Native.Nat.{ℕ, _*_, _/_, _≤_}
 use native.Mathlib.Omega.{arith}
 use mathlib.Core.Path.{_≡_, refl, sym, ap, _∙_}
-use mathlib.Core.Bool.{true, false, not, _||_}
+use mathlib.Core.Bool.{true, false}
 use mathlib.Core.Logic.{_⊎_, inl, inr, ⊎-elim}
 use mathlib.Core.List.{List}
-use lib.Dec.{eqb, ltb}
 use lib.Ieee.{Float, le, ofBits}
 use lib.ListN.{length, take}
-use borrow.Author.Tests.{le-ltb, ne-eqb}
+use borrow.Author.Tests.{ne-eqb}
 use Rattle.answer.specs.declared.Done.the-variants.{Answered}
 use Rattle.answer.specs.Seen.{answered, refused, seenDone}
 use Rattle.float.specs.Arith.{bits}
 use Rattle.float.specs.Def.{absOf, maxOf}
-use Rattle.lists.proofs.Cases.{and-both, both-and, or-neither, neither-or}
+use Rattle.lists.proofs.Cases.{and-both, both-and}
 use Rattle.ranges.specs.Range.{within, between}
 use Rattle.cell.specs.Range.{entryLimit}
 use Rattle.virial.specs.Virial.{atomsOf}
@@ -27,8 +26,8 @@ use Rattle.bins.proofs.Laid.{laid-length}
 use Rattle.step.specs.declared.Stepped.{Stepped}
 use Rattle.step.specs.Asked.{stepLimit, finishLimit}
 use Rattle.step.specs.Calls.{Motion, Outcome, atomsStay, landedBy, moved, cooled, motionAsked, steppedOf, finishedOf}
-use Rattle.step.specs.Theorems.{Rooms, Carries, roomsOf, leftIn, lentTo, resumed, Holds, before, after, Resumable, StepResumes, FinishResumes, CallsResume}
-use Rattle.step.proofs.Lent.{Passed, asked-told, asked-made, claims-told, claims-made, claims-carried, needs-carried, kept-carried}
+use Rattle.step.specs.Theorems.{Rooms, Carries, roomsOf, leftIn, lentTo, resumed, Holds, before, after, Stops, Resumable, StepResumes, FinishResumes, CallsResume}
+use Rattle.step.proofs.Lent.{Passed, asked-told, asked-made, lengths-again, build-fits, build-able, claims-told, claims-made, claims-carried, needs-carried, kept-carried}
 use Rattle.step.proofs.Relisted.{zero-or, foundIn, Untouched, Overfull, update-leaves, update-again, overfull-kept}
 use Rattle.step.proofs.Stopping.{updated, Stopped, stopped-told, step-on, Halted, halted-told, finish-asked, finish-on, finish-listed, finish-ends, lands-again, places-length, putIn}
 use Rattle.step.proofs.Moved.{speeds-asked, ranges-told, ranges-made, moved-passed, speeds-small}
@@ -55,15 +54,6 @@ module _ (s : State) where
   unfolding keptAsked referencesOk misnamed emptiedOf
   kept-emptied n pairs refs h = rw (ne-eqb 0 n (λ e. omega arith))
 
--- rooms of at least these lengths
-lengths-again : (xs table refs items more others : ℕ) → lengthsBad xs table refs items ≡ false → xs ≤ more → xs / 3 ≤ others → lengthsBad xs table more others ≡ false
-unfolding lengthsBad
-lengths-again xs table refs items more others h r i =
-    let rows = not (eqb (xs % 3) 0) || not (eqb (table % 2) 0) in
-    let p = or-neither (rows || ltb refs xs) (ltb items (xs / 3)) h in
-    let q = or-neither rows (ltb refs xs) (p .0) in
-    neither-or (rows || ltb more xs) (ltb others (xs / 3)) (neither-or rows (ltb more xs) (q .0) (le-ltb more xs r)) (le-ltb others (xs / 3) i)
-
 -- ---- a motion whose list was refused, in other rooms
 -- finished from the state that is left, it ends as from its own; and its own tests of the list are passed there
 pub record Again (t : Thermostat) (q : Motion) (r : Rooms) : Type 0 where
@@ -71,6 +61,13 @@ pub record Again (t : Thermostat) (q : Motion) (r : Rooms) : Type 0 where
   pub lengths : lengthsBad (length (q .job .given .positions)) (length (q .job .given .exclusions)) (length (r .references)) (length (r .items)) ≡ false
   pub claims : claimsMore (q .job .given .state .pairs) (length (r .pairs) / 2) (q .job .given .state .references) (length (r .references) / 3) ≡ false
   pub kept : keptAsked (q .job .given .state) (atomsOf (q .job .given .positions)) (r .pairs) (r .references) ≡ Answered
+
+module _ (t : Thermostat) (q : Motion) (base : Passed finishLimit t q) (number place : ℕ) (refusal : updated q .answer ≡ refused number place) where
+  leaves : Untouched (q .job .given) (updated q) ⊎ Overfull (q .job .given) (updated q)
+  leaves = update-leaves (q .job .given) (build-fits finishLimit t q base) (build-able finishLimit t q base) number place refusal
+
+  reason : Stops (updated q .answer)
+  reason = ⊎-elim (λ (u : Untouched (q .job .given) (updated q)). inl (u .answer)) (λ (o : Overfull (q .job .given) (updated q)). inr (length (foundIn (q .job .given)), o .answer)) leaves
 
 module _ (t : Thermostat) (q : Motion) (r : Rooms) (base : Passed finishLimit t q) (number place : ℕ) (refusal : updated q .answer ≡ refused number place) where
   abbrev state : State
@@ -134,7 +131,7 @@ module _ (t : Thermostat) (q : Motion) (r : Rooms) (base : Passed finishLimit t 
         ⊎-elim same-state
         (λ h.
         ⊎-elim (λ (u : Untouched (q .job .given) (updated q)). same-state (u .state)) (λ (o : Overfull (q .job .given) (updated q)). by-rooms o h)
-        (update-leaves (q .job .given) number place refusal))
+        (leaves t q base number place refusal))
 
   -- ---- the finishing call refuses nothing
   module _ (h : Holds q stop r) (references : length places ≤ length (r .references)) (items : atomsOf places ≤ length (r .items)) where
@@ -177,7 +174,7 @@ module _ (t : Thermostat) (q : Motion) (r : Rooms) (base : Passed finishLimit t 
     ends =
         finish-ends t (from (updated q .state))
         (⊎-elim (λ (u : Untouched (q .job .given) (updated q)). rw (u .state) (from-came u)) (λ (o : Overfull (q .job .given) (updated q)). rw (o .state) (from-emptied o))
-        (update-leaves (q .job .given) number place refusal))
+        (leaves t q base number place refusal))
 
 -- ---- a step
 module _ (t : Thermostat) (m : Motion) (is : Stopped t m) where
@@ -212,6 +209,7 @@ module _ (t : Thermostat) (m : Motion) (is : Stopped t m) where
       record {
         resumes =
             λ r h done. whole r (again t (moved m) r base (is .number) (is .place) (is .refusal) done (⊎-elim inl (λ k. inr (moved-holds r k)) h));
+        why = reason t (moved m) base (is .number) (is .place) (is .refusal);
         speeds = speeds-small t m is;
         finishes =
             λ r h references items.
@@ -247,12 +245,17 @@ module _ (t : Thermostat) (m : Motion) (is : Halted t m) where
   finish-stopped =
       record {
         resumes = λ r h done. whole-again r (again t m r passed-before (is .number) (is .place) (is .refusal) done h);
+        why = reason t m passed-before (is .number) (is .place) (is .refusal);
         speeds = speeds-asked finishLimit t m passed-before;
         finishes = λ r h references items. ends t m r passed-before (is .number) (is .place) (is .refusal) h references items;
       }
 
 pub finish-resumes : (t : Thermostat) (m : Motion) → FinishResumes t m
 finish-resumes t m h = let is = halted-told t m h in rw (is .is) (finish-stopped t m is)
+
+-- over any number of stops: the finishing call before, lent other rooms, is the same finishing call
+pub chained : (m : Motion) (o : Outcome) (r r′ : Rooms) → lentTo (resumed m o r) r′ ≡ resumed m o r′
+chained m o r r′ = refl
 
 -- ---- the calls; Only.antt has that nothing else fits the contract of `step` with those rooms
 module _ (t : Thermostat) (m : Motion) (r : Rooms) (a b : Stepped) (xs vs ws : List Float) (pairs pairs′ : List ℕ) (references references′ : List Float)
