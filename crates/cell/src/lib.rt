@@ -12,6 +12,7 @@ pub mod matrices;
 pub mod ranged;
 pub mod vectors;
 
+#[repr(C)]
 pub struct Vec3 {
     pub x: f64,
     pub y: f64,
@@ -34,6 +35,7 @@ pub enum Cell {
 }
 
 // What the minimum image is.
+#[repr(C)]
 pub struct Image {
     pub diff: Vec3,
 }
@@ -49,6 +51,7 @@ pub struct General {
 }
 
 // Three rows of three floats, where they stand beside an answer: no enum holds an array.
+#[repr(C)]
 pub struct Rows {
     pub x: [f64; 3],
     pub y: [f64; 3],

@@ -29,6 +29,7 @@ pub struct Frame {
 }
 
 // An atom's coordinates.
+#[repr(C)]
 pub struct Spot {
     pub x: u32,
     pub y: u32,

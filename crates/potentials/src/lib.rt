@@ -19,6 +19,7 @@ pub mod ranged;
 mod tests;
 
 // A force constant, and a length at rest. (The Rust's `HarmonicBonds`; its tables are lent.)
+#[repr(C)]
 pub struct Bond {
     pub k: f64,
     pub r0: f64,

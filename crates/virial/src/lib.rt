@@ -12,6 +12,7 @@ pub mod ranged;
 mod tensors;
 
 // Energy, and the virial row by row. (The Rust's `Contribution`; its forces are a lent slice, three floats an atom.)
+#[repr(C)]
 pub struct Sum {
     pub energy: f64,
     pub xx: f64,
@@ -26,6 +27,7 @@ pub struct Sum {
 }
 
 // The unit constants, which the caller supplies.
+#[repr(C)]
 pub struct Units {
     pub force_to_accel: f64,
     pub kb_ev_per_k: f64,

@@ -1,0 +1,143 @@
+// Lattices and the minimum image (cell.rs). Refusal 3.
+use answer::Number;
+use answer::Refusal;
+use answer::YesNo;
+use cell::ImageAnswer;
+use cell::Vec3;
+use cell::Vector;
+use flat::FlatCell;
+use flat::FlatImageAnswer;
+use flat::FlatInverseAnswer;
+use flat::FlatLattice;
+use flat::FlatLatticeAnswer;
+use flat::FlatNumber;
+use flat::FlatRowsAnswer;
+use flat::FlatVector;
+use flat::FlatYesNo;
+use flat::flags;
+use flat::give;
+use flat::take;
+ghost use Rattle.answer.specs.declared.Number.the-variants as Number·cases;
+ghost use Rattle.answer.specs.declared.Refusal.the-variants.{Range};
+ghost use Rattle.answer.specs.declared.YesNo.the-variants as YesNo·cases;
+ghost use Rattle.cell.specs.Calls.{CubicSays, InverseSays, IsOrthorhombicSays, MatrixSays, MinImageSays, OrthorhombicSays, PerpWidthsSays, ToCartesianSays, ToFractionalSays, VolumeSays, WrapSays};
+ghost use Rattle.cell.specs.declared.ImageAnswer.the-variants as ImageAnswer·cases;
+ghost use Rattle.cell.specs.declared.Vector.the-variants as Vector·cases;
+ghost use Rattle.flat.specs.Flat.{flatImage, flatInverse, flatLatticeAnswer, flatNumber, flatRows, flatVector, flatYesNo, unaskedInverse, unaskedRows};
+ghost use Rattle.flat.specs.Shown.{Flagged, Shown};
+ghost use Rattle.flat.specs.Taken.{cellFlags, cellOf, latticeFlags, latticeOf};
+
+// The lattice of a box with edges lx, ly, lz along the axes, periodic on all three. Refusal 3.
+#[no_mangle]
+pub extern "C" fn tyn_orthorhombic(lx: f64, ly: f64, lz: f64) -> FlatLatticeAnswer
+    ensures { λ r. ⌜ Shown flatLatticeAnswer (OrthorhombicSays lx ly lz) r ⌝ }
+{
+    give::lattice_answer(cell::orthorhombic(lx, ly, lz))
+}
+
+// The lattice of a cube with edge l, periodic on all three axes. Refusal 3.
+#[no_mangle]
+pub extern "C" fn tyn_cubic(l: f64) -> FlatLatticeAnswer
+    ensures { λ r. ⌜ Shown flatLatticeAnswer (CubicSays l) r ⌝ }
+{
+    give::lattice_answer(cell::cubic(l))
+}
+
+// Whether the off-diagonal magnitudes sum to less than 1e-9. Refusal 3.
+#[no_mangle]
+pub extern "C" fn tyn_is_orthorhombic(lattice: FlatLattice) -> FlatYesNo
+    ensures { λ r. ⌜ Flagged (latticeFlags lattice) flatYesNo (IsOrthorhombicSays (latticeOf lattice)) (flatYesNo (YesNo·cases.Refused Range)) (Unit {0}) r ⌝ }
+{
+    if !flags::lattice(lattice) {
+        return give::yes_no(YesNo::Refused(Refusal::Range));
+    }
+    give::yes_no(cell::is_orthorhombic(take::lattice(lattice)))
+}
+
+// The lattice vectors as the columns of three rows. Refusal 3.
+#[no_mangle]
+pub extern "C" fn tyn_matrix(lattice: FlatLattice) -> FlatRowsAnswer
+    ensures { λ r. ⌜ Flagged (latticeFlags lattice) flatRows (MatrixSays (latticeOf lattice)) (unaskedRows) (Unit {0}) r ⌝ }
+{
+    if !flags::lattice(lattice) {
+        return give::unasked_rows();
+    }
+    give::rows(cell::matrix(take::lattice(lattice)))
+}
+
+// The volume. Refusal 3.
+#[no_mangle]
+pub extern "C" fn tyn_volume(lattice: FlatLattice) -> FlatNumber
+    ensures { λ r. ⌜ Flagged (latticeFlags lattice) flatNumber (VolumeSays (latticeOf lattice)) (flatNumber (Number·cases.Refused Range)) (Unit {0}) r ⌝ }
+{
+    if !flags::lattice(lattice) {
+        return give::number(Number::Refused(Refusal::Range));
+    }
+    give::number(cell::volume(take::lattice(lattice)))
+}
+
+// The inverse of the matrix, if there is one. Refusal 3.
+#[no_mangle]
+pub extern "C" fn tyn_inverse(lattice: FlatLattice) -> FlatInverseAnswer
+    ensures { λ r. ⌜ Flagged (latticeFlags lattice) flatInverse (InverseSays (latticeOf lattice)) (unaskedInverse) (Unit {0}) r ⌝ }
+{
+    if !flags::lattice(lattice) {
+        return give::unasked_inverse();
+    }
+    give::inverse(cell::inverse(take::lattice(lattice)))
+}
+
+// Fractional coordinates of r. Refusal 3.
+#[no_mangle]
+pub extern "C" fn tyn_to_fractional(lattice: FlatLattice, r: Vec3) -> FlatVector
+    ensures { λ w. ⌜ Flagged (latticeFlags lattice) flatVector (ToFractionalSays (latticeOf lattice) r) (flatVector (Vector·cases.Refused Range)) (Unit {0}) w ⌝ }
+{
+    if !flags::lattice(lattice) {
+        return give::vector(Vector::Refused(Refusal::Range));
+    }
+    give::vector(cell::to_fractional(take::lattice(lattice), r))
+}
+
+// Cartesian coordinates of s. Refusal 3.
+#[no_mangle]
+pub extern "C" fn tyn_to_cartesian(lattice: FlatLattice, s: Vec3) -> FlatVector
+    ensures { λ r. ⌜ Flagged (latticeFlags lattice) flatVector (ToCartesianSays (latticeOf lattice) s) (flatVector (Vector·cases.Refused Range)) (Unit {0}) r ⌝ }
+{
+    if !flags::lattice(lattice) {
+        return give::vector(Vector::Refused(Refusal::Range));
+    }
+    give::vector(cell::to_cartesian(take::lattice(lattice), s))
+}
+
+// r folded into the cell on its periodic axes. Refusal 3.
+#[no_mangle]
+pub extern "C" fn tyn_wrap(lattice: FlatLattice, r: Vec3) -> FlatVector
+    ensures { λ w. ⌜ Flagged (latticeFlags lattice) flatVector (WrapSays (latticeOf lattice) r) (flatVector (Vector·cases.Refused Range)) (Unit {0}) w ⌝ }
+{
+    if !flags::lattice(lattice) {
+        return give::vector(Vector::Refused(Refusal::Range));
+    }
+    give::vector(cell::wrap(take::lattice(lattice), r))
+}
+
+// The widths between opposite faces. Refusal 3.
+#[no_mangle]
+pub extern "C" fn tyn_perp_widths(lattice: FlatLattice) -> FlatVector
+    ensures { λ r. ⌜ Flagged (latticeFlags lattice) flatVector (PerpWidthsSays (latticeOf lattice)) (flatVector (Vector·cases.Refused Range)) (Unit {0}) r ⌝ }
+{
+    if !flags::lattice(lattice) {
+        return give::vector(Vector::Refused(Refusal::Range));
+    }
+    give::vector(cell::perp_widths(take::lattice(lattice)))
+}
+
+// The minimum image of the difference d. Refusal 3.
+#[no_mangle]
+pub extern "C" fn tyn_min_image(d: Vec3, cell: FlatCell) -> FlatImageAnswer
+    ensures { λ r. ⌜ Flagged (cellFlags cell) flatImage (MinImageSays d (cellOf cell)) (flatImage (ImageAnswer·cases.Refused Range)) (Unit {0}) r ⌝ }
+{
+    if !flags::cell(cell) {
+        return give::image(ImageAnswer::Refused(Refusal::Range));
+    }
+    give::image(cell::min_image(d, take::cell(cell)))
+}

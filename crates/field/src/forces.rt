@@ -1,0 +1,242 @@
+// The terms over pairs (potentials.rs), and the evaluator.
+use answer::Refusal;
+use flat::FlatBondAnswer;
+use flat::FlatBondTerm;
+use flat::FlatCell;
+use flat::FlatCoulombTerm;
+use flat::FlatEvaluated;
+use flat::FlatLj;
+use flat::FlatLjAnswer;
+use flat::FlatLjTerm;
+use flat::FlatState;
+use flat::FlatSummed;
+use flat::flags;
+use flat::give;
+use flat::take;
+use potentials::Bond;
+use virial::Summed;
+use virial::Units;
+ghost use Rattle.answer.specs.declared.Refusal.the-variants.{Range};
+ghost use Rattle.evaluate.specs.Calls.{EvaluateSays, job};
+ghost use Rattle.evaluate.specs.Terms.{terms};
+ghost use Rattle.flat.specs.Flat.{flatBondAnswer, flatEvaluated, flatLj, flatLjAnswer, flatSummed, unaskedEvaluation};
+ghost use Rattle.flat.specs.Shown.{Flagged, Shown};
+ghost use Rattle.flat.specs.Taken.{bondTermOf, cellFlags, cellOf, coulombTermOf, ljFlags, ljOf, ljTermOf, stateFlags, stateOf, termFlags};
+ghost use Rattle.neighbor.specs.Update.{given};
+ghost use Rattle.potentials.specs.Calls.{BondsAllSays, CoulombAllSays, CoulombPairsSays, LjAllSays, LjPairsSays, MonatomicSays, UniformSays, argonOf};
+ghost use Rattle.virial.specs.declared.Summed.the-variants as Summed·cases;
+ghost use mathlib.Core.Bool.{_&&_};
+ghost use mathlib.Core.Path.{_≡_};
+
+// Lennard-Jones numbers of a single species, shifted. Refusal 3.
+#[no_mangle]
+pub extern "C" fn tyn_monatomic(epsilon: f64, sigma: f64, cutoff: f64) -> FlatLjAnswer
+    ensures { λ r. ⌜ Shown flatLjAnswer (MonatomicSays epsilon sigma cutoff) r ⌝ }
+{
+    give::lj_answer(potentials::monatomic(epsilon, sigma, cutoff))
+}
+
+// Lennard-Jones numbers of argon. No refusal.
+#[no_mangle]
+pub extern "C" fn tyn_argon() -> FlatLj
+    ensures { λ r. ⌜ r ≡ flatLj argonOf ⌝ }
+{
+    give::lj(potentials::argon())
+}
+
+// Bond numbers, the same for each bond. Refusal 3.
+#[no_mangle]
+pub extern "C" fn tyn_uniform(k: f64, r0: f64) -> FlatBondAnswer
+    ensures { λ r. ⌜ Shown flatBondAnswer (UniformSays k r0) r ⌝ }
+{
+    give::bond_answer(potentials::uniform(k, r0))
+}
+
+// Lennard-Jones over the listed pairs: forces overwritten, from zero. ids are the species that params has epsilon and sigma of; species is an id an
+// atom. Refusals 1, 2, 3, 4, 5.
+#[no_mangle]
+pub extern "C" fn tyn_lj_pairs(
+    lj: FlatLj,
+    cell: FlatCell,
+    ids: &[u32],
+    params: &[f64],
+    species: &[u32],
+    positions: &[f64],
+    pairs: &[u32],
+    forces: &mut [f64],
+) -> FlatSummed
+    ensures { λ r. ⌜ Flagged (ljFlags lj && cellFlags cell) flatSummed (λ a. LjPairsSays (ljOf lj) (cellOf cell) (now (ids .entry)) (now (params .entry)) (now (species .entry)) (now (positions .entry)) (now (pairs .entry)) (now (forces .entry)) a (now (forces .exit))) (flatSummed (Summed·cases.Refused Range)) ((now (forces .exit) ≡ now (forces .entry))) r ⌝ }
+{
+    if !(flags::lj(lj) & flags::cell(cell)) {
+        return give::summed(Summed::Refused(Refusal::Range));
+    }
+    give::summed(potentials::lj_pairs(
+        take::lj(lj),
+        take::cell(cell),
+        ids,
+        params,
+        species,
+        positions,
+        pairs,
+        forces,
+    ))
+}
+
+// Lennard-Jones over every pair, i, then j, rising. Refusals 1, 2, 3, 5.
+#[no_mangle]
+pub extern "C" fn tyn_lj_all(
+    lj: FlatLj,
+    cell: FlatCell,
+    ids: &[u32],
+    params: &[f64],
+    species: &[u32],
+    positions: &[f64],
+    forces: &mut [f64],
+) -> FlatSummed
+    ensures { λ r. ⌜ Flagged (ljFlags lj && cellFlags cell) flatSummed (λ a. LjAllSays (ljOf lj) (cellOf cell) (now (ids .entry)) (now (params .entry)) (now (species .entry)) (now (positions .entry)) (now (forces .entry)) a (now (forces .exit))) (flatSummed (Summed·cases.Refused Range)) ((now (forces .exit) ≡ now (forces .entry))) r ⌝ }
+{
+    if !(flags::lj(lj) & flags::cell(cell)) {
+        return give::summed(Summed::Refused(Refusal::Range));
+    }
+    give::summed(potentials::lj_all(
+        take::lj(lj),
+        take::cell(cell),
+        ids,
+        params,
+        species,
+        positions,
+        forces,
+    ))
+}
+
+// Coulomb over the listed pairs: forces overwritten, from zero. Refusals 1, 2, 3, 4.
+#[no_mangle]
+pub extern "C" fn tyn_coulomb_pairs(
+    units: Units,
+    cutoff: f64,
+    cell: FlatCell,
+    charges: &[f64],
+    positions: &[f64],
+    pairs: &[u32],
+    forces: &mut [f64],
+) -> FlatSummed
+    ensures { λ r. ⌜ Flagged (cellFlags cell) flatSummed (λ a. CoulombPairsSays units cutoff (cellOf cell) (now (charges .entry)) (now (positions .entry)) (now (pairs .entry)) (now (forces .entry)) a (now (forces .exit))) (flatSummed (Summed·cases.Refused Range)) ((now (forces .exit) ≡ now (forces .entry))) r ⌝ }
+{
+    if !flags::cell(cell) {
+        return give::summed(Summed::Refused(Refusal::Range));
+    }
+    give::summed(potentials::coulomb_pairs(
+        units,
+        cutoff,
+        take::cell(cell),
+        charges,
+        positions,
+        pairs,
+        forces,
+    ))
+}
+
+// Coulomb over every pair, i, then j, rising. Refusals 1, 2, 3.
+#[no_mangle]
+pub extern "C" fn tyn_coulomb_all(
+    units: Units,
+    cutoff: f64,
+    cell: FlatCell,
+    charges: &[f64],
+    positions: &[f64],
+    forces: &mut [f64],
+) -> FlatSummed
+    ensures { λ r. ⌜ Flagged (cellFlags cell) flatSummed (λ a. CoulombAllSays units cutoff (cellOf cell) (now (charges .entry)) (now (positions .entry)) (now (forces .entry)) a (now (forces .exit))) (flatSummed (Summed·cases.Refused Range)) ((now (forces .exit) ≡ now (forces .entry))) r ⌝ }
+{
+    if !flags::cell(cell) {
+        return give::summed(Summed::Refused(Refusal::Range));
+    }
+    give::summed(potentials::coulomb_all(
+        units,
+        cutoff,
+        take::cell(cell),
+        charges,
+        positions,
+        forces,
+    ))
+}
+
+// Harmonic bonds, two atoms a row: forces overwritten, from zero. A bond past the end of lengths or ks takes bond's own number. Refusals 1, 2, 3, 4.
+#[no_mangle]
+pub extern "C" fn tyn_bonds_all(
+    bond: Bond,
+    cell: FlatCell,
+    bonds: &[u32],
+    lengths: &[f64],
+    ks: &[f64],
+    positions: &[f64],
+    forces: &mut [f64],
+) -> FlatSummed
+    ensures { λ r. ⌜ Flagged (cellFlags cell) flatSummed (λ a. BondsAllSays bond (cellOf cell) (now (bonds .entry)) (now (lengths .entry)) (now (ks .entry)) (now (positions .entry)) (now (forces .entry)) a (now (forces .exit))) (flatSummed (Summed·cases.Refused Range)) ((now (forces .exit) ≡ now (forces .entry))) r ⌝ }
+{
+    if !flags::cell(cell) {
+        return give::summed(Summed::Refused(Refusal::Range));
+    }
+    give::summed(potentials::bonds_all(
+        bond,
+        take::cell(cell),
+        bonds,
+        lengths,
+        ks,
+        positions,
+        forces,
+    ))
+}
+
+// The list brought up to date, then each present term, Lennard-Jones, Coulomb, bonds, merged in this order into zero. Refusals 1, 2, 6, 3, 4, 5, 7, 8.
+#[no_mangle]
+pub extern "C" fn tyn_evaluate(
+    lj: FlatLjTerm,
+    coulomb: FlatCoulombTerm,
+    bond: FlatBondTerm,
+    units: Units,
+    s: FlatState,
+    cell: FlatCell,
+    ids: &[u32],
+    params: &[f64],
+    species: &[u32],
+    charges: &[f64],
+    bonds: &[u32],
+    lengths: &[f64],
+    ks: &[f64],
+    positions: &[f64],
+    exclusions: &[u32],
+    pairs: &mut [u32],
+    references: &mut [f64],
+    starts: &mut [u32],
+    items: &mut [u32],
+    forces: &mut [f64],
+) -> FlatEvaluated
+    ensures { λ r. ⌜ Flagged (termFlags lj coulomb bond && stateFlags s && cellFlags cell) flatEvaluated (λ a. EvaluateSays (job (terms (ljTermOf lj) (coulombTermOf coulomb) (bondTermOf bond) units (now (ids .entry)) (now (params .entry)) (now (species .entry)) (now (charges .entry)) (now (bonds .entry)) (now (lengths .entry)) (now (ks .entry))) (given (stateOf s) (cellOf cell) (now (positions .entry)) (now (exclusions .entry)) (now (pairs .entry)) (now (references .entry)) (now (starts .entry)) (now (items .entry))) (now (forces .entry))) a (now (pairs .exit)) (now (references .exit)) (now (starts .exit)) (now (items .exit)) (now (forces .exit))) (unaskedEvaluation s) ((now (pairs .exit) ≡ now (pairs .entry)) × (now (references .exit) ≡ now (references .entry)) × (now (starts .exit) ≡ now (starts .entry)) × (now (items .exit) ≡ now (items .entry)) × (now (forces .exit) ≡ now (forces .entry))) r ⌝ }
+{
+    if !(flags::terms(lj, coulomb, bond) & flags::state(s) & flags::cell(cell)) {
+        return give::unasked_evaluation(s);
+    }
+    give::evaluated(evaluate::evaluate(
+        take::lj_term(lj),
+        take::coulomb_term(coulomb),
+        take::bond_term(bond),
+        units,
+        take::state(s),
+        take::cell(cell),
+        ids,
+        params,
+        species,
+        charges,
+        bonds,
+        lengths,
+        ks,
+        positions,
+        exclusions,
+        pairs,
+        references,
+        starts,
+        items,
+        forces,
+    ))
+}

@@ -1,0 +1,11 @@
+use Rattle.flat.specs.Taken.{cellFlags}
+use borrow.Author.Needs.{needs}
+use Rattle.flat.proofs.flags.cell.Statement.{statement}
+use Rattle.flat.proofs.flags.cell.Tie as tie
+
+returns : tie.Need-returns
+unfolding cellFlags
+returns c = rw (c .lattice .ensures)
+
+pub cell-spec : {M : Type 1} → statement M
+cell-spec = tie.close (tie.spec (λ c κs. search needs) returns)

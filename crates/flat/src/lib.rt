@@ -1,0 +1,239 @@
+// What crosses the boundary to C: structs of numbers in place of enums and flags. An answer holds a refusal's number and place (0 and 0 where it is
+// answered) and the values, zeros where there are none; a flag is 0 or 1. specs/Flat.antt says which answer each struct stands for, specs/Taken.antt
+// which argument. `give` turns an answer into its struct, `take` a struct into an argument, `flags` tests the flags.
+use cell::Image;
+use cell::Rows;
+use cell::Vec3;
+use potentials::Bond;
+use virial::Sum;
+
+pub mod flags;
+pub mod give;
+pub mod take;
+
+// ---- arguments
+
+// The three lattice vectors, and which axes are periodic (flags).
+#[repr(C)]
+pub struct FlatLattice {
+    pub a: Vec3,
+    pub b: Vec3,
+    pub c: Vec3,
+    pub px: u32,
+    pub py: u32,
+    pub pz: u32,
+}
+
+// No cell (present 0), or a lattice (present 1).
+#[repr(C)]
+pub struct FlatCell {
+    pub present: u32,
+    pub lattice: FlatLattice,
+}
+
+// The settings of a pair list and what it claims of the lent memory; fallback is a flag. What a call hands back goes into the next one.
+#[repr(C)]
+pub struct FlatState {
+    pub cutoff: f64,
+    pub skin: f64,
+    pub pairs: u32,
+    pub references: u32,
+    pub checks: u32,
+    pub fallback: u32,
+    pub builds: u32,
+}
+
+// Lennard-Jones numbers; epsilon and sigma are those of a species that the table lacks, shift is a flag.
+#[repr(C)]
+pub struct FlatLj {
+    pub epsilon: f64,
+    pub sigma: f64,
+    pub cutoff: f64,
+    pub shift: u32,
+}
+
+// No Lennard-Jones term (present 0), or one (present 1).
+#[repr(C)]
+pub struct FlatLjTerm {
+    pub present: u32,
+    pub lj: FlatLj,
+}
+
+// No Coulomb term (present 0), or one (present 1).
+#[repr(C)]
+pub struct FlatCoulombTerm {
+    pub present: u32,
+    pub cutoff: f64,
+}
+
+// No bonds (present 0), or bonds (present 1).
+#[repr(C)]
+pub struct FlatBondTerm {
+    pub present: u32,
+    pub bond: Bond,
+}
+
+// No thermostat (present 0), or Berendsen's (present 1).
+#[repr(C)]
+pub struct FlatThermostat {
+    pub present: u32,
+    pub target_k: f64,
+    pub tau_fs: f64,
+}
+
+// A whole-number frame: its edges, which axes are periodic (flags), and the radius.
+#[repr(C)]
+pub struct FlatFrame {
+    pub ex: u32,
+    pub ey: u32,
+    pub ez: u32,
+    pub px: u32,
+    pub py: u32,
+    pub pz: u32,
+    pub radius: u32,
+}
+
+// ---- answers
+
+// Answered (number 0, place 0), or a refusal's number and place.
+#[repr(C)]
+pub struct FlatDone {
+    pub number: u64,
+    pub place: u64,
+}
+
+// A float.
+#[repr(C)]
+pub struct FlatNumber {
+    pub done: FlatDone,
+    pub value: f64,
+}
+
+// A flag.
+#[repr(C)]
+pub struct FlatYesNo {
+    pub done: FlatDone,
+    pub value: u32,
+}
+
+// A whole number.
+#[repr(C)]
+pub struct FlatWhole {
+    pub done: FlatDone,
+    pub value: u64,
+}
+
+// Three floats.
+#[repr(C)]
+pub struct FlatVector {
+    pub done: FlatDone,
+    pub value: Vec3,
+}
+
+#[repr(C)]
+pub struct FlatLatticeAnswer {
+    pub done: FlatDone,
+    pub lattice: FlatLattice,
+}
+
+// The minimum image.
+#[repr(C)]
+pub struct FlatImageAnswer {
+    pub done: FlatDone,
+    pub image: Image,
+}
+
+// Three rows of three floats.
+#[repr(C)]
+pub struct FlatRowsAnswer {
+    pub done: FlatDone,
+    pub rows: Rows,
+}
+
+// Whether there is an inverse (a flag), and its rows.
+#[repr(C)]
+pub struct FlatInverseAnswer {
+    pub done: FlatDone,
+    pub found: u32,
+    pub rows: Rows,
+}
+
+// Energy and virial; the forces stand in what was lent.
+#[repr(C)]
+pub struct FlatSummed {
+    pub done: FlatDone,
+    pub sum: Sum,
+}
+
+// A new list's state.
+#[repr(C)]
+pub struct FlatStateAnswer {
+    pub done: FlatDone,
+    pub state: FlatState,
+}
+
+// Whether the list was built anew (a flag), and its state, which comes back in every case.
+#[repr(C)]
+pub struct FlatUpdated {
+    pub done: FlatDone,
+    pub rebuilt: u32,
+    pub state: FlatState,
+}
+
+// The pairs stored, the distances evaluated, and whether no grid was laid (a flag).
+#[repr(C)]
+pub struct FlatBuilt {
+    pub done: FlatDone,
+    pub pairs: u32,
+    pub checks: u32,
+    pub fallback: u32,
+}
+
+#[repr(C)]
+pub struct FlatLjAnswer {
+    pub done: FlatDone,
+    pub lj: FlatLj,
+}
+
+#[repr(C)]
+pub struct FlatBondAnswer {
+    pub done: FlatDone,
+    pub bond: Bond,
+}
+
+// Whether the list was built anew (a flag), its state, which comes back in every case, and energy and virial; the forces stand in what was lent.
+#[repr(C)]
+pub struct FlatEvaluated {
+    pub done: FlatDone,
+    pub rebuilt: u32,
+    pub state: FlatState,
+    pub sum: Sum,
+}
+
+// What a job sheet says beside its coordinates and exclusions; px, py, pz are flags.
+#[repr(C)]
+pub struct FlatJob {
+    pub atoms: u32,
+    pub ex: u32,
+    pub ey: u32,
+    pub ez: u32,
+    pub px: u32,
+    pub py: u32,
+    pub pz: u32,
+    pub radius: u32,
+    pub count: u32,
+}
+
+#[repr(C)]
+pub struct FlatSheet {
+    pub done: FlatDone,
+    pub job: FlatJob,
+}
+
+// A part of a lent table, by its first element and its length; 0 and 0 where the call is refused.
+#[repr(C)]
+pub struct FlatPart {
+    pub done: FlatDone,
+    pub start: usize,
+    pub length: usize,
+}

@@ -1,0 +1,538 @@
+/* Tyngyrlak for C: pair lists, Lennard-Jones, Coulomb, bonds, Verlet with Berendsen. Made by tools/header.py from the library's sources; do not edit.
+ *
+ * Answers. Every answer has a `done`: number 0 and place 0 where the call is answered, else a refusal's number (tyn_refusal) and its place, which is 0
+ * unless the number names one. The other values are zeros where the call is refused, but for a list's state, which comes back in every case.
+ *
+ * Flags are 0 or 1. A call that takes a flag tests every flag that it is handed first, also those of an absent cell or term: any other value is refusal 3,
+ * place 0, with everything lent as it came and a state as it came. tyn_builds_since refuses nothing and does not look at the flag.
+ *
+ * Memory. A table or a room is a pointer and the number of its elements. The caller sees to it that each pointer
+ *   - is not NULL, also where the number is 0, and is aligned for its elements;
+ *   - points to so many elements, in one object, that can be read, and written unless the pointer is to const, while the call runs;
+ *   - is of elements that hold values (rooms too: clear them once), which no other thread writes, or reads where the call writes, while the call runs;
+ *   - if it is not to const, shares no element with any other pointer of the call.
+ * The library keeps no pointer, takes no memory of its own but the stack (up to some 800 kB a call) and calls nothing of the system.
+ *
+ * Three floats an atom (x, y, z), two numbers a pair or bond. Numbers that are not told apart by the C types: atoms 0 to 16384, grid cells to 32768. */
+#ifndef TYNGYRLAK_H
+#define TYNGYRLAK_H
+
+#include <stddef.h>
+#include <stdint.h>
+
+#ifdef __cplusplus
+extern "C" {
+#endif
+
+/* The refusals. */
+enum tyn_refusal {
+    TYN_ANSWERED = 0,
+    /* lent lengths disagree, or a room is too short for the atoms */
+    TYN_LENGTHS = 1,
+    /* too many atoms */
+    TYN_TOO_MANY = 2,
+    /* a number out of range; place 1: a drifted coordinate */
+    TYN_RANGE = 3,
+    /* a pair or a bond names an atom that is not there */
+    TYN_NOT_THERE = 4,
+    /* a table is not strictly ascending, or an exclusion not low before high */
+    TYN_ORDER = 5,
+    /* the list state claims more than the lent room */
+    TYN_CLAIMS = 6,
+    /* the grid needs too many cells */
+    TYN_CELLS = 7,
+    /* the pairs, or the exclusions, do not fit */
+    TYN_ROOM = 8,
+    /* a sheet line is malformed */
+    TYN_MALFORMED = 9,
+    /* a second header, or an atom number again */
+    TYN_AGAIN = 10,
+    /* an atom is absent, or at the place NO_HEADER the header; one case, so that number and place tell the case */
+    TYN_ABSENT = 11
+};
+
+/* Answered (number 0, place 0), or a refusal's number and place. */
+typedef struct {
+    uint64_t number;
+    uint64_t place;
+} tyn_done;
+
+typedef struct {
+    double x;
+    double y;
+    double z;
+} tyn_vec3;
+
+/* The three lattice vectors, and which axes are periodic (flags). */
+typedef struct {
+    tyn_vec3 a;
+    tyn_vec3 b;
+    tyn_vec3 c;
+    uint32_t px;
+    uint32_t py;
+    uint32_t pz;
+} tyn_lattice;
+
+typedef struct {
+    tyn_done done;
+    tyn_lattice lattice;
+} tyn_lattice_answer;
+
+/* A flag. */
+typedef struct {
+    tyn_done done;
+    uint32_t value;
+} tyn_yes_no;
+
+/* Three rows of three floats, where they stand beside an answer: no enum holds an array. */
+typedef struct {
+    double x[3];
+    double y[3];
+    double z[3];
+} tyn_rows;
+
+/* Three rows of three floats. */
+typedef struct {
+    tyn_done done;
+    tyn_rows rows;
+} tyn_rows_answer;
+
+/* A float. */
+typedef struct {
+    tyn_done done;
+    double value;
+} tyn_number;
+
+/* Whether there is an inverse (a flag), and its rows. */
+typedef struct {
+    tyn_done done;
+    uint32_t found;
+    tyn_rows rows;
+} tyn_inverse_answer;
+
+/* Three floats. */
+typedef struct {
+    tyn_done done;
+    tyn_vec3 value;
+} tyn_vector;
+
+/* No cell (present 0), or a lattice (present 1). */
+typedef struct {
+    uint32_t present;
+    tyn_lattice lattice;
+} tyn_cell;
+
+/* What the minimum image is. */
+typedef struct {
+    tyn_vec3 diff;
+} tyn_image;
+
+/* The minimum image. */
+typedef struct {
+    tyn_done done;
+    tyn_image image;
+} tyn_image_answer;
+
+/* Energy, and the virial row by row. (The Rust's Contribution; its forces are a lent slice, three floats an atom.) */
+typedef struct {
+    double energy;
+    double xx;
+    double xy;
+    double xz;
+    double yx;
+    double yy;
+    double yz;
+    double zx;
+    double zy;
+    double zz;
+} tyn_sum;
+
+/* Energy and virial; the forces stand in what was lent. */
+typedef struct {
+    tyn_done done;
+    tyn_sum sum;
+} tyn_summed;
+
+/* The unit constants, which the caller supplies. */
+typedef struct {
+    double force_to_accel;
+    double kb_ev_per_k;
+    double ke_coulomb;
+    double ev_per_a3_to_gpa;
+} tyn_units;
+
+/* The settings of a pair list and what it claims of the lent memory; fallback is a flag. What a call hands back goes into the next one. */
+typedef struct {
+    double cutoff;
+    double skin;
+    uint32_t pairs;
+    uint32_t references;
+    uint32_t checks;
+    uint32_t fallback;
+    uint32_t builds;
+} tyn_state;
+
+/* A new list's state. */
+typedef struct {
+    tyn_done done;
+    tyn_state state;
+} tyn_state_answer;
+
+/* A whole number. */
+typedef struct {
+    tyn_done done;
+    uint64_t value;
+} tyn_whole;
+
+/* Whether the list was built anew (a flag), and its state, which comes back in every case. */
+typedef struct {
+    tyn_done done;
+    uint32_t rebuilt;
+    tyn_state state;
+} tyn_updated;
+
+/* A whole-number frame: its edges, which axes are periodic (flags), and the radius. */
+typedef struct {
+    uint32_t ex;
+    uint32_t ey;
+    uint32_t ez;
+    uint32_t px;
+    uint32_t py;
+    uint32_t pz;
+    uint32_t radius;
+} tyn_frame;
+
+/* An atom's coordinates. */
+typedef struct {
+    uint32_t x;
+    uint32_t y;
+    uint32_t z;
+} tyn_spot;
+
+/* The pairs stored, the distances evaluated, and whether no grid was laid (a flag). */
+typedef struct {
+    tyn_done done;
+    uint32_t pairs;
+    uint32_t checks;
+    uint32_t fallback;
+} tyn_built;
+
+/* What a job sheet says beside its coordinates and exclusions; px, py, pz are flags. */
+typedef struct {
+    uint32_t atoms;
+    uint32_t ex;
+    uint32_t ey;
+    uint32_t ez;
+    uint32_t px;
+    uint32_t py;
+    uint32_t pz;
+    uint32_t radius;
+    uint32_t count;
+} tyn_job;
+
+typedef struct {
+    tyn_done done;
+    tyn_job job;
+} tyn_sheet;
+
+/* Lennard-Jones numbers; epsilon and sigma are those of a species that the table lacks, shift is a flag. */
+typedef struct {
+    double epsilon;
+    double sigma;
+    double cutoff;
+    uint32_t shift;
+} tyn_lj;
+
+typedef struct {
+    tyn_done done;
+    tyn_lj lj;
+} tyn_lj_answer;
+
+/* A force constant, and a length at rest. (The Rust's HarmonicBonds; its tables are lent.) */
+typedef struct {
+    double k;
+    double r0;
+} tyn_bond;
+
+typedef struct {
+    tyn_done done;
+    tyn_bond bond;
+} tyn_bond_answer;
+
+/* No Lennard-Jones term (present 0), or one (present 1). */
+typedef struct {
+    uint32_t present;
+    tyn_lj lj;
+} tyn_lj_term;
+
+/* No Coulomb term (present 0), or one (present 1). */
+typedef struct {
+    uint32_t present;
+    double cutoff;
+} tyn_coulomb_term;
+
+/* No bonds (present 0), or bonds (present 1). */
+typedef struct {
+    uint32_t present;
+    tyn_bond bond;
+} tyn_bond_term;
+
+/* Whether the list was built anew (a flag), its state, which comes back in every case, and energy and virial; the forces stand in what was lent. */
+typedef struct {
+    tyn_done done;
+    uint32_t rebuilt;
+    tyn_state state;
+    tyn_sum sum;
+} tyn_evaluated;
+
+/* No thermostat (present 0), or Berendsen's (present 1). */
+typedef struct {
+    uint32_t present;
+    double target_k;
+    double tau_fs;
+} tyn_thermostat;
+
+/* Whether a 7 or 8 stopped the step after the drift and whether the list was built anew (flags); the list's state and the potential, which come back
+ * in every case. */
+typedef struct {
+    tyn_done done;
+    uint32_t stopped;
+    uint32_t rebuilt;
+    tyn_state state;
+    double potential;
+} tyn_stepped;
+
+/* ---- Helpers on floats: total on every float, no refusal. One not-a-number. */
+
+/* The square root of x, rounded to nearest; of a number below 0 not a number. */
+double tyn_root(double x);
+
+/* The largest whole number that is at most x. */
+double tyn_floor(double x);
+
+/* x without its fraction. */
+double tyn_trunc(double x);
+
+/* The nearest whole number, a half away from zero. */
+double tyn_round(double x);
+
+/* Rust's rem_euclid: the rest of x by y that is not below 0. */
+double tyn_rem_euclid(double x, double y);
+
+/* The magnitude of x. */
+double tyn_abs(double x);
+
+/* The smaller one, passing over a not-a-number; of two zeros the negative one. */
+double tyn_min(double x, double y);
+
+/* The larger one, passing over a not-a-number; of two zeros the positive one. */
+double tyn_max(double x, double y);
+
+/* lo where x < lo, else x; then hi where that is above hi. */
+double tyn_clamp(double x, double lo, double hi);
+
+/* Rust's as i64: a not-a-number gives 0, too large the type's end. */
+int64_t tyn_to_i64(double x);
+
+/* Rust's as u64: a not-a-number gives 0, too large the type's end. */
+uint64_t tyn_to_u64(double x);
+
+/* The float of 64 bits; any pattern of a not-a-number is the one. */
+double tyn_of_bits(uint64_t w);
+
+/* The 64 bits of a float; a not-a-number is 7ff8000000000000. */
+uint64_t tyn_to_bits(double x);
+
+/* ---- Lattices and the minimum image (cell.rs). Refusal 3. */
+
+/* The lattice of a box with edges lx, ly, lz along the axes, periodic on all three. Refusal 3. */
+tyn_lattice_answer tyn_orthorhombic(double lx, double ly, double lz);
+
+/* The lattice of a cube with edge l, periodic on all three axes. Refusal 3. */
+tyn_lattice_answer tyn_cubic(double l);
+
+/* Whether the off-diagonal magnitudes sum to less than 1e-9. Refusal 3. */
+tyn_yes_no tyn_is_orthorhombic(tyn_lattice lattice);
+
+/* The lattice vectors as the columns of three rows. Refusal 3. */
+tyn_rows_answer tyn_matrix(tyn_lattice lattice);
+
+/* The volume. Refusal 3. */
+tyn_number tyn_volume(tyn_lattice lattice);
+
+/* The inverse of the matrix, if there is one. Refusal 3. */
+tyn_inverse_answer tyn_inverse(tyn_lattice lattice);
+
+/* Fractional coordinates of r. Refusal 3. */
+tyn_vector tyn_to_fractional(tyn_lattice lattice, tyn_vec3 r);
+
+/* Cartesian coordinates of s. Refusal 3. */
+tyn_vector tyn_to_cartesian(tyn_lattice lattice, tyn_vec3 s);
+
+/* r folded into the cell on its periodic axes. Refusal 3. */
+tyn_vector tyn_wrap(tyn_lattice lattice, tyn_vec3 r);
+
+/* The widths between opposite faces. Refusal 3. */
+tyn_vector tyn_perp_widths(tyn_lattice lattice);
+
+/* The minimum image of the difference d. Refusal 3. */
+tyn_image_answer tyn_min_image(tyn_vec3 d, tyn_cell cell);
+
+/* ---- Energy, forces and virial, and the pressures that they feed (virial.rs). */
+
+/* A sum of zeros, the forces all +0. Refusals 1, 2. */
+tyn_summed tyn_zeros(double *forces, size_t forces_len);
+
+/* The sum and the forces with the other ones added; added are the forces of other. Refusals 1, 2, 3. */
+tyn_summed tyn_merge(tyn_sum sum, double *forces, size_t forces_len, tyn_sum other, const double *added, size_t added_len);
+
+/* The sum with the pair added: f on atom i and -f on atom j, d apart. Refusals 1, 2, 3, 4. */
+tyn_summed tyn_add_pair_force(tyn_sum sum, double *forces, size_t forces_len, uint32_t i, uint32_t j, tyn_vec3 d, tyn_vec3 f);
+
+/* The virial with the pair added. Refusal 3. */
+tyn_rows_answer tyn_virial_from_pair(tyn_rows virial, tyn_vec3 d, tyn_vec3 f);
+
+/* The trace of the virial. Refusal 3. */
+tyn_number tyn_scalar_virial(tyn_rows virial);
+
+/* The pressure of a kinetic energy and a scalar virial in a volume. Refusal 3. */
+tyn_number tyn_pressure(double kinetic, double scalar, double volume);
+
+/* The pressure tensor. Refusals 1, 2, 3. */
+tyn_rows_answer tyn_pressure_tensor(tyn_units units, double volume, tyn_rows virial, const double *velocities, size_t velocities_len,
+    const double *masses, size_t masses_len);
+
+/* A pressure in gigapascal. Refusal 3. */
+tyn_number tyn_to_gpa(tyn_units units, double pressure);
+
+/* ---- The pair list of a float frame (neighbor.rs), and exclusion tables. */
+
+/* A list with the given cutoff and skin: no pairs, references, checks, fallback, builds. Refusal 3. */
+tyn_state_answer tyn_new(double cutoff, double skin);
+
+/* The search radius, cutoff + skin. Refusal 3. */
+tyn_number tyn_search_radius(tyn_state s);
+
+/* How many builds there were since an earlier reading of the counter, which comes round to zero after 2^32 - 1. The rest of the state is not looked
+ * at; no refusal. */
+uint32_t tyn_builds_since(tyn_state s, uint32_t earlier);
+
+/* One more pair of atoms in the first count rows of an exclusion table; the value is the new count. Refusals 1, 5, 8. */
+tyn_whole tyn_exclude(uint32_t count, uint32_t i, uint32_t j, uint32_t *table, size_t table_len);
+
+/* The exclusion table of the raw pairs; the value is the count of its rows. Refusals 1, 8. */
+tyn_whole tyn_set_exclusions(const uint32_t *raw, size_t raw_len, uint32_t *table, size_t table_len);
+
+/* Whether the list must be built anew for these positions. Refusals 1, 2, 6, 3. */
+tyn_yes_no tyn_needs_rebuild(tyn_state s, tyn_cell cell, const double *positions, size_t positions_len, const double *references,
+    size_t references_len);
+
+/* The list built anew. Refusals 1, 2, 6, 3, 5, 7, 8. */
+tyn_updated tyn_build(tyn_state s, tyn_cell cell, const double *positions, size_t positions_len, const uint32_t *exclusions, size_t exclusions_len,
+    uint32_t *pairs, size_t pairs_len, double *references, size_t references_len, uint32_t *starts, size_t starts_len, uint32_t *items,
+    size_t items_len);
+
+/* The list built anew where it must be. Refusals 1, 2, 6, 3, 4, 5, 7, 8. */
+tyn_updated tyn_maybe_build(tyn_state s, tyn_cell cell, const double *positions, size_t positions_len, const uint32_t *exclusions,
+    size_t exclusions_len, uint32_t *pairs, size_t pairs_len, double *references, size_t references_len, uint32_t *starts, size_t starts_len,
+    uint32_t *items, size_t items_len);
+
+/* ---- The whole-number frame, and job sheets. */
+
+/* The exact squared distance of the nearest images of two atoms. Refusal 3. */
+tyn_whole tyn_squared_distance(tyn_frame f, tyn_spot p, tyn_spot q);
+
+/* The pairs within the radius that the exclusion table leaves. Refusals 1, 2, 3, 5, 7, 8. */
+tyn_built tyn_frame_build(tyn_frame f, const uint32_t *coordinates, size_t coordinates_len, const uint32_t *exclusions, size_t exclusions_len,
+    uint32_t *pairs, size_t pairs_len, uint32_t *starts, size_t starts_len, uint32_t *items, size_t items_len);
+
+/* A job sheet: its numbers, with the coordinates (at least 3072 lent) and the exclusions (at least 2048 lent) in what is lent. Refusals 1, 9, 10, 8,
+ * 11, 2, 4. */
+tyn_sheet tyn_read(const uint8_t *input, size_t input_len, uint32_t *coordinates, size_t coordinates_len, uint32_t *exclusions,
+    size_t exclusions_len);
+
+/* The printed answer of a job sheet at the front of out (at least 90133 bytes); the value is its length. Refusal 1. */
+tyn_whole tyn_solve(const uint8_t *input, size_t input_len, uint8_t *out, size_t out_len);
+
+/* ---- The terms over pairs (potentials.rs), and the evaluator. */
+
+/* Lennard-Jones numbers of a single species, shifted. Refusal 3. */
+tyn_lj_answer tyn_monatomic(double epsilon, double sigma, double cutoff);
+
+/* Lennard-Jones numbers of argon. No refusal. */
+tyn_lj tyn_argon(void);
+
+/* Bond numbers, the same for each bond. Refusal 3. */
+tyn_bond_answer tyn_uniform(double k, double r0);
+
+/* Lennard-Jones over the listed pairs: forces overwritten, from zero. ids are the species that params has epsilon and sigma of; species is an id an
+ * atom. Refusals 1, 2, 3, 4, 5. */
+tyn_summed tyn_lj_pairs(tyn_lj lj, tyn_cell cell, const uint32_t *ids, size_t ids_len, const double *params, size_t params_len,
+    const uint32_t *species, size_t species_len, const double *positions, size_t positions_len, const uint32_t *pairs, size_t pairs_len,
+    double *forces, size_t forces_len);
+
+/* Lennard-Jones over every pair, i, then j, rising. Refusals 1, 2, 3, 5. */
+tyn_summed tyn_lj_all(tyn_lj lj, tyn_cell cell, const uint32_t *ids, size_t ids_len, const double *params, size_t params_len,
+    const uint32_t *species, size_t species_len, const double *positions, size_t positions_len, double *forces, size_t forces_len);
+
+/* Coulomb over the listed pairs: forces overwritten, from zero. Refusals 1, 2, 3, 4. */
+tyn_summed tyn_coulomb_pairs(tyn_units units, double cutoff, tyn_cell cell, const double *charges, size_t charges_len, const double *positions,
+    size_t positions_len, const uint32_t *pairs, size_t pairs_len, double *forces, size_t forces_len);
+
+/* Coulomb over every pair, i, then j, rising. Refusals 1, 2, 3. */
+tyn_summed tyn_coulomb_all(tyn_units units, double cutoff, tyn_cell cell, const double *charges, size_t charges_len, const double *positions,
+    size_t positions_len, double *forces, size_t forces_len);
+
+/* Harmonic bonds, two atoms a row: forces overwritten, from zero. A bond past the end of lengths or ks takes bond's own number. Refusals 1, 2, 3, 4. */
+tyn_summed tyn_bonds_all(tyn_bond bond, tyn_cell cell, const uint32_t *bonds, size_t bonds_len, const double *lengths, size_t lengths_len,
+    const double *ks, size_t ks_len, const double *positions, size_t positions_len, double *forces, size_t forces_len);
+
+/* The list brought up to date, then each present term, Lennard-Jones, Coulomb, bonds, merged in this order into zero. Refusals 1, 2, 6, 3, 4, 5, 7,
+ * 8. */
+tyn_evaluated tyn_evaluate(tyn_lj_term lj, tyn_coulomb_term coulomb, tyn_bond_term bond, tyn_units units, tyn_state s, tyn_cell cell,
+    const uint32_t *ids, size_t ids_len, const double *params, size_t params_len, const uint32_t *species, size_t species_len, const double *charges,
+    size_t charges_len, const uint32_t *bonds, size_t bonds_len, const double *lengths, size_t lengths_len, const double *ks, size_t ks_len,
+    const double *positions, size_t positions_len, const uint32_t *exclusions, size_t exclusions_len, uint32_t *pairs, size_t pairs_len,
+    double *references, size_t references_len, uint32_t *starts, size_t starts_len, uint32_t *items, size_t items_len, double *forces,
+    size_t forces_len);
+
+/* ---- Kinetic energy, temperature and thermostat (verlet.rs). */
+
+/* The kinetic energy; velocities are three floats a mass. Refusals 1, 2, 3. */
+tyn_number tyn_kinetic_energy(tyn_units units, const double *velocities, size_t velocities_len, const double *masses, size_t masses_len);
+
+/* The temperature by dof degrees of freedom. Refusals 1, 2, 3. */
+tyn_number tyn_temperature(tyn_units units, double dof, const double *velocities, size_t velocities_len, const double *masses, size_t masses_len);
+
+/* The velocities rescaled by Berendsen's thermostat. Refusals 1, 2, 3. */
+tyn_done tyn_berendsen(tyn_units units, double dt, double target_k, double tau_fs, const double *masses, size_t masses_len, double *velocities,
+    size_t velocities_len);
+
+/* ---- The step (verlet.rs). */
+
+/* One step of velocity Verlet: half a kick and the drift, the evaluation, half a kick, the thermostat. forces and potential are those at the
+ * positions. Where a 7 or 8 stopped it after the drift (stopped is 1), positions and velocities are drifted, forces and potential old: call
+ * tyn_finish with more room. Refusals 1, 2, 6, 3, 4, 5, the drift (3, place 1), 7, 8. */
+tyn_stepped tyn_step(double dt, tyn_thermostat thermostat, tyn_lj_term lj, tyn_coulomb_term coulomb, tyn_bond_term bond, tyn_units units,
+    tyn_state s, tyn_cell cell, const uint32_t *ids, size_t ids_len, const double *params, size_t params_len, const uint32_t *species,
+    size_t species_len, const double *charges, size_t charges_len, const uint32_t *bonds, size_t bonds_len, const double *lengths,
+    size_t lengths_len, const double *ks, size_t ks_len, const double *masses, size_t masses_len, const uint32_t *exclusions, size_t exclusions_len,
+    double potential, double *positions, size_t positions_len, double *velocities, size_t velocities_len, uint32_t *pairs, size_t pairs_len,
+    double *references, size_t references_len, uint32_t *starts, size_t starts_len, uint32_t *items, size_t items_len, double *forces,
+    size_t forces_len);
+
+/* The rest of a step that a 7 or 8 stopped: the evaluation, the second half kick, the thermostat. Velocities to 2^500. Refusals 1, 2, 6, 3, 4, 5, 7,
+ * 8. */
+tyn_stepped tyn_finish(double dt, tyn_thermostat thermostat, tyn_lj_term lj, tyn_coulomb_term coulomb, tyn_bond_term bond, tyn_units units,
+    tyn_state s, tyn_cell cell, const uint32_t *ids, size_t ids_len, const double *params, size_t params_len, const uint32_t *species,
+    size_t species_len, const double *charges, size_t charges_len, const uint32_t *bonds, size_t bonds_len, const double *lengths,
+    size_t lengths_len, const double *ks, size_t ks_len, const double *masses, size_t masses_len, const uint32_t *exclusions, size_t exclusions_len,
+    double potential, const double *positions, size_t positions_len, double *velocities, size_t velocities_len, uint32_t *pairs, size_t pairs_len,
+    double *references, size_t references_len, uint32_t *starts, size_t starts_len, uint32_t *items, size_t items_len, double *forces,
+    size_t forces_len);
+
+#ifdef __cplusplus
+}
+#endif
+
+#endif
