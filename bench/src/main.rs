@@ -1,0 +1,159 @@
+//! Times the Rust original and the library on the same inputs in one run and prints one table; exit status 1 where two answers differ.
+//!
+//! ```text
+//! FIELD_SRC=.. cargo run --release -- [--n 1000,4000,16000] [--only WORD,WORD] [--rounds 9] [--shuffle] [--side original|library]
+//! ```
+//!
+//! A time is the best of the rounds, in which the two sides take turns, by this thread's processor time. `--only` takes the lines that have one of the
+//! words in their name. `--side` runs one side alone, for instruction counts (valgrind --tool=callgrind).
+mod clock;
+mod data;
+mod sides;
+include!(concat!(env!("OUT_DIR"), "/original.rs"));
+
+use data::{data, Data};
+use sides::Sides;
+
+/// A line of the table: its name, what one unit of its time is, and the ratio that is asked for at 16,000 atoms.
+type Line = (&'static str, Unit, &'static str);
+
+#[derive(Clone, Copy)]
+enum Unit {
+    Check,
+    Atom,
+    Pair,
+    Bond,
+}
+
+const LINES: [Line; 14] = [
+    ("build", Unit::Check, "0.6"),
+    ("build, an exclusion an atom", Unit::Check, "0.2"),
+    ("build, tilted", Unit::Check, "0.8"),
+    ("build, then pairs()", Unit::Check, ""),
+    ("rebuild question", Unit::Atom, ""),
+    ("Lennard-Jones", Unit::Pair, "0.5"),
+    ("Lennard-Jones, handed pairs()", Unit::Pair, ""),
+    ("Coulomb", Unit::Pair, "3"),
+    ("bonds", Unit::Bond, "3"),
+    ("evaluator, every term", Unit::Pair, ""),
+    ("step, list kept, Lennard-Jones", Unit::Atom, "0.8"),
+    ("step, list kept, every term", Unit::Atom, "1.5"),
+    ("step, list built, Lennard-Jones", Unit::Atom, "0.6"),
+    ("step, list built, every term", Unit::Atom, ""),
+];
+
+fn sides<'a>(line: &str, d: &'a Data) -> Sides<'a> {
+    match line {
+        "build" => sides::build(d, &d.cube, false, false),
+        "build, an exclusion an atom" => sides::build(d, &d.cube, true, false),
+        "build, tilted" => sides::build(d, &d.tilted, false, false),
+        "build, then pairs()" => sides::build(d, &d.cube, false, true),
+        "rebuild question" => sides::rebuild_question(d),
+        "Lennard-Jones" => sides::lennard_jones(d, false),
+        "Lennard-Jones, handed pairs()" => sides::lennard_jones(d, true),
+        "Coulomb" => sides::coulomb(d),
+        "bonds" => sides::bonds(d),
+        "evaluator, every term" => sides::evaluator(d),
+        "step, list kept, Lennard-Jones" => sides::step(d, false, true),
+        "step, list kept, every term" => sides::step(d, true, true),
+        "step, list built, Lennard-Jones" => sides::step(d, false, false),
+        "step, list built, every term" => sides::step(d, true, false),
+        _ => unreachable!("every line is above"),
+    }
+}
+
+fn units(line: &Line, d: &Data) -> usize {
+    let cell = if line.0.contains("tilted") { &d.tilted } else { &d.cube };
+    let (pairs, checks) = sides::sizes(d, cell, line.0.contains("exclusion") || line.0.contains("every term"));
+    match line.1 {
+        Unit::Check => checks,
+        Unit::Atom => d.n,
+        Unit::Pair => pairs,
+        Unit::Bond => d.bonds.len(),
+    }
+}
+
+/// Nanoseconds of one repetition, out of `count` of them.
+fn time(side: &mut dyn sides::Side, count: usize) -> f64 {
+    side.reset();
+    let start = clock::now();
+    for _ in 0..count {
+        side.rep();
+    }
+    (clock::now() - start) / count as f64
+}
+
+struct Options {
+    sizes: Vec<usize>,
+    only: Vec<String>,
+    rounds: usize,
+    shuffle: bool,
+    side: Option<String>,
+}
+
+fn options() -> Options {
+    let args: Vec<String> = std::env::args().skip(1).collect();
+    let get = |key: &str| args.iter().position(|a| a == key).and_then(|i| args.get(i + 1).cloned());
+    let words = |key: &str| get(key).map(|s| s.split(',').map(String::from).collect::<Vec<_>>());
+    Options {
+        sizes: words("--n").map_or(vec![1000, 4000, 16000], |w| w.iter().map(|n| n.parse().expect("--n wants numbers")).collect()),
+        only: words("--only").unwrap_or_default(),
+        rounds: get("--rounds").map_or(9, |r| r.parse().expect("--rounds wants a number")),
+        shuffle: args.iter().any(|a| a == "--shuffle"),
+        side: get("--side"),
+    }
+}
+
+/// The line's row at this size, and whether the two answers are equal.
+fn row(line: &Line, d: &Data, o: &Options) -> bool {
+    let (mut original, mut library) = sides(line.0, d);
+    let of = |name: &str| o.side.as_deref().is_none_or(|s| s == name);
+    // so many repetitions that a round takes some milliseconds; both sides make equally many, so that their answers can be compared
+    let first = time(if of("original") { original.as_mut() } else { library.as_mut() }, 1);
+    let count = if o.side.is_some() { 1 } else { (4e6 / first).clamp(1.0, 20.0) as usize };
+    let (mut a, mut b) = (f64::INFINITY, f64::INFINITY);
+    for _ in 0..o.rounds {
+        if of("original") {
+            a = a.min(time(original.as_mut(), count));
+        }
+        if of("library") {
+            b = b.min(time(library.as_mut(), count));
+        }
+    }
+    let each = units(line, d) as f64;
+    let unit = match line.1 {
+        Unit::Check => "check",
+        Unit::Atom => "atom",
+        Unit::Pair => "pair",
+        Unit::Bond => "bond",
+    };
+    if o.side.is_some() {
+        println!("| {} | {} | {unit} | {:.1} |", line.0, d.n, a.min(b) / each);
+        return true;
+    }
+    let (da, db) = (original.digest(), library.digest());
+    let asked = if d.n == 16000 { line.2 } else { "" };
+    println!("| {} | {} | {unit} | {:.1} | {:.1} | {:.2} | {asked} | {da:016x} | {db:016x} |", line.0, d.n, a / each, b / each, b / a);
+    da == db
+}
+
+fn main() {
+    let o = options();
+    println!("| | atoms | unit | original, ns a unit | library, ns a unit | ratio | asked | digest, original | digest, library |");
+    println!("|---|---|---|---|---|---|---|---|---|");
+    let (mut rows, mut unequal) = (0, 0);
+    for &n in &o.sizes {
+        let d = data(n, o.shuffle);
+        for line in LINES.iter().filter(|l| o.only.is_empty() || o.only.iter().any(|w| l.0.contains(w.as_str()))) {
+            rows += 1;
+            if !row(line, &d, &o) {
+                unequal += 1;
+            }
+        }
+    }
+    if o.side.is_some() {
+        return;
+    }
+    println!("\n{rows} lines, best of {} rounds: {}", o.rounds, if unequal == 0 { "all answers equal".into() } else { format!("{unequal} ANSWERS DIFFER") });
+    std::process::exit((unequal != 0) as i32);
+}

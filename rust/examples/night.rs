@@ -1,0 +1,161 @@
+//! A night's run in small: reads a run description, steps through it with progress shown, and prints density, temperature and pressure.
+//!
+//! ```text
+//! cargo run --release --example night -- examples/argon.run
+//! ```
+//!
+//! One thing a line, blank lines and what follows a `#` left out; Å, fs, eV, amu, K, e:
+//!
+//! ```text
+//! cell LX LY LZ                    or nine numbers, the vectors a, b, c; without this line there is no cell
+//! open x                           an axis that is not periodic
+//! list CUTOFF SKIN
+//! lj EPSILON SIGMA CUTOFF          for a species that has no line of its own; shifted to 0 at the cutoff
+//! species NUMBER EPSILON SIGMA
+//! coulomb CUTOFF
+//! bonds K R0
+//! bond I J                         also left out of the list
+//! exclude I J
+//! thermostat KELVIN TAU
+//! steps COUNT DT [SHOWN]           every so many steps a line of progress
+//! atom MASS SPECIES CHARGE X Y Z [VX VY VZ]
+//! grid NX NY NZ MASS SPECIES KELVIN      atoms spread evenly over the cell, with velocities of that temperature
+//! ```
+use std::error::Error;
+use std::time::Instant;
+use tyngyrlak::*;
+
+/// g/cm³ in one amu/Å³.
+const GRAMS: f64 = 1.66053906660;
+
+#[derive(Default)]
+struct Run {
+    cell: Option<Lattice>,
+    list: NeighborList,
+    excluded: Vec<(usize, usize)>,
+    lj: Option<LennardJones>,
+    coulomb: Option<Coulomb>,
+    bonds: Option<HarmonicBonds>,
+    bonded: Vec<(usize, usize)>,
+    thermostat: Option<Berendsen>,
+    steps: usize,
+    dt: f64,
+    shown: usize,
+    masses: Vec<f64>,
+    numbers: Vec<u32>,
+    charges: Vec<f64>,
+    positions: Vec<[f64; 3]>,
+    velocities: Vec<[f64; 3]>,
+}
+
+fn main() -> Result<(), Box<dyn Error>> {
+    let path = std::env::args().nth(1).ok_or("night wants a run description, such as examples/argon.run")?;
+    let mut run = Run::default();
+    for (at, line) in std::fs::read_to_string(&path)?.lines().enumerate() {
+        let words: Vec<&str> = line.split('#').next().unwrap_or("").split_whitespace().collect();
+        if let Some((&what, rest)) = words.split_first() {
+            run.read(what, rest).map_err(|e| format!("{path}, line {}: {e}", at + 1))?;
+        }
+    }
+    run.go()
+}
+
+impl Run {
+    fn read(&mut self, what: &str, words: &[&str]) -> Result<(), Box<dyn Error>> {
+        if what == "open" {
+            let axis = words.first().and_then(|w| "xyz".find(w)).ok_or("an axis is x, y or z")?;
+            self.cell.as_mut().ok_or("there is no cell yet")?.periodic[axis] = false;
+            return Ok(());
+        }
+        let x = words.iter().map(|w| w.parse::<f64>().map_err(|_| format!("`{w}` is no number"))).collect::<Result<Vec<f64>, _>>()?;
+        match (what, x.as_slice()) {
+            ("cell", &[lx, ly, lz]) => self.cell = Some(Lattice::orthorhombic(lx, ly, lz)),
+            ("cell", &[ax, ay, az, bx, by, bz, cx, cy, cz]) => {
+                self.cell = Some(Lattice { a: [ax, ay, az], b: [bx, by, bz], c: [cx, cy, cz], periodic: [true; 3] })
+            }
+            ("list", &[cutoff, skin]) => self.list = NeighborList::new(cutoff, skin),
+            ("lj", &[epsilon, sigma, cutoff]) => self.lj = Some(LennardJones::monatomic(epsilon, sigma, cutoff)),
+            ("species", &[number, epsilon, sigma]) => {
+                self.lj.as_mut().ok_or("species come after lj")?.params.insert(number as u32, (epsilon, sigma));
+            }
+            ("coulomb", &[cutoff]) => self.coulomb = Some(Coulomb { cutoff }),
+            ("bonds", &[k, r0]) => self.bonds = Some(HarmonicBonds::uniform(k, r0)),
+            ("bond", &[i, j]) => {
+                self.bonded.push((i as usize, j as usize));
+                self.excluded.push((i as usize, j as usize));
+            }
+            ("exclude", &[i, j]) => self.excluded.push((i as usize, j as usize)),
+            ("thermostat", &[target_k, tau_fs]) => self.thermostat = Some(Berendsen { target_k, tau_fs }),
+            ("steps", &[steps, dt]) => (self.steps, self.dt) = (steps as usize, dt),
+            ("steps", &[steps, dt, shown]) => (self.steps, self.dt, self.shown) = (steps as usize, dt, shown as usize),
+            ("atom", &[mass, species, charge, x, y, z]) => self.atom(mass, species, charge, [x, y, z], [0.0; 3]),
+            ("atom", &[mass, species, charge, x, y, z, vx, vy, vz]) => self.atom(mass, species, charge, [x, y, z], [vx, vy, vz]),
+            ("grid", &[nx, ny, nz, mass, species, kelvin]) => self.grid([nx, ny, nz], mass, species, kelvin)?,
+            _ => return Err(format!("`{what}` with {} numbers is nothing", x.len()).into()),
+        }
+        Ok(())
+    }
+
+    fn atom(&mut self, mass: f64, species: f64, charge: f64, position: [f64; 3], velocity: [f64; 3]) {
+        self.masses.push(mass);
+        self.numbers.push(species as u32);
+        self.charges.push(charge);
+        self.positions.push(position);
+        self.velocities.push(velocity);
+    }
+
+    /// Each velocity component is uniform with the variance of the temperature; the seed is fixed, so that a run can be repeated.
+    fn grid(&mut self, counts: [f64; 3], mass: f64, species: f64, kelvin: f64) -> Result<(), Box<dyn Error>> {
+        let cell = self.cell.ok_or("a grid wants a cell")?;
+        let width = (3.0 * units::KB_EV_PER_K * kelvin * units::FORCE_TO_ACCEL / mass).sqrt();
+        let mut seed = 1u32;
+        let mut shake = || {
+            seed = seed.wrapping_mul(1664525).wrapping_add(1013904223);
+            width * ((seed >> 8) as f64 / 8388608.0 - 1.0)
+        };
+        let [nx, ny, nz] = counts.map(|c| c as usize);
+        for i in 0..nx * ny * nz {
+            let s = [i / (ny * nz), i / nz % ny, i % nz];
+            let s = [0, 1, 2].map(|k| (s[k] as f64 + 0.5) / counts[k]);
+            self.atom(mass, species, 0.0, cell.to_cartesian(s)?, [shake(), shake(), shake()]);
+        }
+        Ok(())
+    }
+
+    fn go(mut self) -> Result<(), Box<dyn Error>> {
+        let n = self.positions.len();
+        let dof = 3.0 * n as f64;
+        let terms = Terms {
+            lennard_jones: self.lj.take().map(|lj| (lj, self.numbers)),
+            coulomb: self.coulomb.take().map(|q| (q, self.charges)),
+            bonds: self.bonds.take().map(|b| (b, self.bonded)),
+        };
+        self.list.set_exclusions(self.excluded);
+        let mut eval = Evaluator::new(self.list, &terms, self.cell);
+        let start = eval.evaluate(&self.positions)?;
+        let (mut forces, mut potential) = (start.forces, start.energy);
+        println!("{n} atoms, {} pairs, {} steps of {} fs", eval.list.pair_rows().len(), self.steps, self.dt);
+        let (clock, shown) = (Instant::now(), if self.shown == 0 { self.steps.div_ceil(10).max(1) } else { self.shown });
+        for step in 1..=self.steps {
+            verlet_step(self.dt, self.thermostat, &mut self.positions, &mut self.velocities, &self.masses, &mut forces, &mut potential, &mut eval)
+                .map_err(|e| format!("step {step}: {e}"))?;
+            if step % shown == 0 || step == self.steps {
+                let kinetic = kinetic_energy(&self.velocities, &self.masses)?;
+                let kelvin = temperature(&self.velocities, &self.masses, dof)?;
+                let rate = step as f64 / clock.elapsed().as_secs_f64();
+                println!("step {step:>8}  {kelvin:9.3} K  {:14.6} eV  {:>5} builds  {rate:8.1} steps/s", kinetic + potential, eval.list.builds());
+            }
+        }
+        let end = eval.evaluate(&self.positions)?;
+        println!("temperature  {:.6} K", temperature(&self.velocities, &self.masses, dof)?);
+        let Some(cell) = self.cell else {
+            println!("no cell: no density and no pressure");
+            return Ok(());
+        };
+        let volume = cell.volume()?.abs();
+        let p = pressure(kinetic_energy(&self.velocities, &self.masses)?, end.scalar_virial()?, volume)?;
+        println!("density      {:.6} g/cm3", GRAMS * self.masses.iter().sum::<f64>() / volume);
+        println!("pressure     {:.6} MPa", 1000.0 * to_gpa(p)?);
+        Ok(())
+    }
+}

@@ -1,0 +1,15 @@
+//! The original's `field` module: its files as modules, and [`evaluate`], which stands in for the closure of a step.
+pub mod cell;
+pub mod evaluate;
+pub mod neighbor;
+pub mod potentials;
+pub mod units;
+pub mod verlet;
+pub mod virial;
+
+pub use cell::{min_image, Lattice};
+pub use evaluate::{Evaluator, Terms};
+pub use neighbor::{NeighborList, PairRows};
+pub use potentials::{Coulomb, HarmonicBonds, LennardJones};
+pub use verlet::{apply_berendsen, kinetic_energy, temperature, verlet_finish, verlet_step, Berendsen};
+pub use virial::{pressure, pressure_tensor, to_gpa, Contribution};

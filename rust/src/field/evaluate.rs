@@ -1,0 +1,164 @@
+//! The evaluator, which stands where the original's step takes a closure: pair list and terms in one call of the library.
+use super::cell::Lattice;
+use super::neighbor::NeighborList;
+use super::potentials::{Coulomb, HarmonicBonds, LennardJones};
+use super::units;
+use super::verlet::Berendsen;
+use super::virial::Contribution;
+use crate::raw::{self, BondTerm, CoulombTerm, LjTerm};
+use crate::Error;
+
+/// The terms of an [`Evaluator`], each absent or present with what it reads of the atoms.
+#[derive(Debug, Clone, Default)]
+pub struct Terms {
+    /// Lennard-Jones, and the species number of each atom.
+    pub lennard_jones: Option<(LennardJones, Vec<u32>)>,
+    /// Coulomb, and the charge of each atom.
+    pub coulomb: Option<(Coulomb, Vec<f64>)>,
+    /// Bonds, and the two atoms of each.
+    pub bonds: Option<(HarmonicBonds, Vec<(usize, usize)>)>,
+}
+
+/// Brings its pair list up to date and runs its terms: Lennard-Jones, Coulomb, bonds, each present one merged in this order into zero.
+///
+/// In the original's words: `list.maybe_build(positions, cell)`, then `compute_pairs`, `compute_pairs`, `compute_all`, each merged into
+/// `Contribution::zeros(n)`.
+#[derive(Debug, Clone)]
+pub struct Evaluator {
+    /// The pair list.
+    pub list: NeighborList,
+    /// The cell, if there is one.
+    pub cell: Option<Lattice>,
+    tables: Tables,
+}
+
+/// The terms as the library takes them.
+#[derive(Debug, Clone, Default)]
+struct Tables {
+    lj: LjTerm,
+    coulomb: CoulombTerm,
+    bond: BondTerm,
+    ids: Vec<u32>,
+    params: Vec<f64>,
+    species: Vec<u32>,
+    charges: Vec<f64>,
+    bonds: Vec<u32>,
+    lengths: Vec<f64>,
+    ks: Vec<f64>,
+}
+
+/// What a step reads and writes beside the evaluator.
+pub(super) struct Motion<'a> {
+    pub dt: f64,
+    pub thermostat: Option<Berendsen>,
+    pub positions: &'a mut [[f64; 3]],
+    pub velocities: &'a mut [[f64; 3]],
+    pub masses: &'a [f64],
+    pub forces: &'a mut [[f64; 3]],
+    pub potential: &'a mut f64,
+}
+
+impl Evaluator {
+    /// An evaluator of the given terms over the given list and cell.
+    pub fn new(list: NeighborList, terms: &Terms, cell: Option<Lattice>) -> Self {
+        Self { list, cell, tables: Tables::of(terms) }
+    }
+
+    /// Other terms from now on.
+    pub fn set_terms(&mut self, terms: &Terms) {
+        self.tables = Tables::of(terms);
+    }
+
+    /// Energy, forces and virial at these positions.
+    pub fn evaluate(&mut self, positions: &[[f64; 3]]) -> Result<Contribution, Error> {
+        self.make_ready(positions.len());
+        let mut forces = vec![[0.0; 3]; positions.len()];
+        loop {
+            let (s, cell) = (self.list.state(), self.cell.as_ref().into());
+            let (exclusions, room) = self.list.lent();
+            let t = &self.tables;
+            #[rustfmt::skip]
+            let r = raw::tyn_evaluate(t.lj, t.coulomb, t.bond, units::RAW, s, cell, &t.ids, &t.params, &t.species, &t.charges, &t.bonds, &t.lengths, &t.ks,
+                positions.as_flattened(), exclusions, &mut room.pairs, &mut room.references, &mut room.starts, &mut room.items, forces.as_flattened_mut());
+            if !self.list.took(r.done, r.state) {
+                return Contribution::of("tyn_evaluate", raw::Summed { done: r.done, sum: r.sum }, forces);
+            }
+        }
+    }
+
+    /// One step. Where the pairs did not fit after the drift it is finished with more room.
+    pub(super) fn step(&mut self, m: Motion) -> Result<bool, Error> {
+        self.make_ready(m.positions.len());
+        let (s, cell) = (self.list.state(), self.cell.as_ref().into());
+        let (exclusions, room) = self.list.lent();
+        let t = &self.tables;
+        #[rustfmt::skip]
+        let r = raw::tyn_step(m.dt, thermostat(m.thermostat), t.lj, t.coulomb, t.bond, units::RAW, s, cell, &t.ids, &t.params, &t.species, &t.charges,
+            &t.bonds, &t.lengths, &t.ks, m.masses, exclusions, *m.potential, m.positions.as_flattened_mut(), m.velocities.as_flattened_mut(),
+            &mut room.pairs, &mut room.references, &mut room.starts, &mut room.items, m.forces.as_flattened_mut());
+        if self.list.took(r.done, r.state) {
+            return self.finish(m);
+        }
+        *m.potential = r.potential;
+        stepped("tyn_step", r)
+    }
+
+    /// The rest of a step that stopped after its drift.
+    pub(super) fn finish(&mut self, m: Motion) -> Result<bool, Error> {
+        self.make_ready(m.positions.len());
+        loop {
+            let (s, cell) = (self.list.state(), self.cell.as_ref().into());
+            let (exclusions, room) = self.list.lent();
+            let t = &self.tables;
+            #[rustfmt::skip]
+            let r = raw::tyn_finish(m.dt, thermostat(m.thermostat), t.lj, t.coulomb, t.bond, units::RAW, s, cell, &t.ids, &t.params, &t.species, &t.charges,
+                &t.bonds, &t.lengths, &t.ks, m.masses, exclusions, *m.potential, m.positions.as_flattened(), m.velocities.as_flattened_mut(),
+                &mut room.pairs, &mut room.references, &mut room.starts, &mut room.items, m.forces.as_flattened_mut());
+            if !self.list.took(r.done, r.state) {
+                *m.potential = r.potential;
+                return stepped("tyn_finish", r);
+            }
+        }
+    }
+
+    /// The library wants a species and a charge an atom also where the term that reads them is absent.
+    fn make_ready(&mut self, atoms: usize) {
+        self.list.make_ready(atoms);
+        let t = &mut self.tables;
+        if t.lj.present == 0 {
+            t.species.resize(atoms, 0);
+        }
+        if t.coulomb.present == 0 {
+            t.charges.resize(atoms, 0.0);
+        }
+    }
+}
+
+impl Tables {
+    fn of(terms: &Terms) -> Self {
+        let mut t = Self::default();
+        if let Some((lj, numbers)) = &terms.lennard_jones {
+            t.lj = LjTerm { present: 1, lj: lj.numbers() };
+            (t.ids, t.params) = lj.table();
+            t.species = numbers.clone();
+        }
+        if let Some((coulomb, charges)) = &terms.coulomb {
+            t.coulomb = CoulombTerm { present: 1, cutoff: coulomb.cutoff };
+            t.charges = charges.clone();
+        }
+        if let Some((bonds, pairs)) = &terms.bonds {
+            t.bond = BondTerm { present: 1, bond: bonds.numbers() };
+            (t.bonds, t.lengths, t.ks) = (raw::rows(pairs), bonds.per_bond.clone(), bonds.per_bond_k.clone());
+        }
+        t
+    }
+}
+
+fn thermostat(t: Option<Berendsen>) -> raw::Thermostat {
+    t.map_or(raw::Thermostat::default(), |t| raw::Thermostat { present: 1, target_k: t.target_k, tau_fs: t.tau_fs })
+}
+
+fn stepped(call: &'static str, r: raw::Stepped) -> Result<bool, Error> {
+    r.done.of(call).map_err(|e| Error { stopped: r.stopped != 0, ..e })?;
+    Ok(r.rebuilt != 0)
+}

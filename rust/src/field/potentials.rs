@@ -1,0 +1,152 @@
+//! Whole-system interatomic potentials.
+//!
+//! `compute_pairs` runs over a pair list in its order, `compute_all` over every pair, `compute` gives energy and forces of the latter. Energies are eV,
+//! forces eV/Å, virials eV.
+use super::cell::Lattice;
+use super::neighbor::PairRows;
+use super::units;
+use super::virial::Contribution;
+use crate::{raw, Error};
+use std::collections::HashMap;
+
+type EnergyAndForces = (f64, Vec<[f64; 3]>);
+
+/// Lennard-Jones potential with per-species parameters and Lorentz-Berthelot mixing, a spherical cutoff, and optional energy shift for continuity.
+#[derive(Debug, Clone)]
+pub struct LennardJones {
+    /// Per-species `(epsilon eV, sigma Å)` keyed by species id (e.g. atomic number).
+    pub params: HashMap<u32, (f64, f64)>,
+    /// Fallback parameters for species with no entry.
+    pub default: (f64, f64),
+    /// Cutoff radius in Å.
+    pub cutoff: f64,
+    /// Shift the potential so that it is 0 at the cutoff.
+    pub shift: bool,
+}
+
+impl LennardJones {
+    /// A single-species LJ fluid, shifted.
+    pub fn monatomic(epsilon: f64, sigma: f64, cutoff: f64) -> Self {
+        Self { params: HashMap::new(), default: (epsilon, sigma), cutoff, shift: true }
+    }
+
+    /// Argon: ε = 0.0103 eV, σ = 3.4 Å, cutoff 2.5σ.
+    pub fn argon() -> Self {
+        Self::monatomic(0.0103, 3.4, 2.5 * 3.4)
+    }
+
+    /// Energy, forces, and virial over a precomputed neighbor list: `list.pairs()` or `&list`. One species number an atom.
+    pub fn compute_pairs<P: PairRows + ?Sized>(
+        &self,
+        numbers: &[u32],
+        positions: &[[f64; 3]],
+        pairs: &P,
+        cell: Option<&Lattice>,
+    ) -> Result<Contribution, Error> {
+        let (ids, params) = self.table();
+        let mut forces = vec![[0.0; 3]; positions.len()];
+        let at = positions.as_flattened();
+        let r = raw::tyn_lj_pairs(self.numbers(), cell.into(), &ids, &params, numbers, at, &pairs.rows(), forces.as_flattened_mut());
+        Contribution::of("tyn_lj_pairs", r, forces)
+    }
+
+    /// All-pairs energy and forces.
+    pub fn compute(&self, numbers: &[u32], positions: &[[f64; 3]], cell: Option<&Lattice>) -> Result<EnergyAndForces, Error> {
+        let c = self.compute_all(numbers, positions, cell)?;
+        Ok((c.energy, c.forces))
+    }
+
+    /// All-pairs form returning the full contribution including the virial.
+    pub fn compute_all(&self, numbers: &[u32], positions: &[[f64; 3]], cell: Option<&Lattice>) -> Result<Contribution, Error> {
+        let (ids, params) = self.table();
+        let mut forces = vec![[0.0; 3]; positions.len()];
+        let r = raw::tyn_lj_all(self.numbers(), cell.into(), &ids, &params, numbers, positions.as_flattened(), forces.as_flattened_mut());
+        Contribution::of("tyn_lj_all", r, forces)
+    }
+
+    pub(super) fn numbers(&self) -> raw::Lj {
+        raw::Lj { epsilon: self.default.0, sigma: self.default.1, cutoff: self.cutoff, shift: self.shift.into() }
+    }
+
+    /// The species ascending, and epsilon and sigma of each.
+    pub(super) fn table(&self) -> (Vec<u32>, Vec<f64>) {
+        let mut ids: Vec<u32> = self.params.keys().copied().collect();
+        ids.sort_unstable();
+        let params = ids.iter().flat_map(|id| <[f64; 2]>::from(self.params[id])).collect();
+        (ids, params)
+    }
+}
+
+/// Harmonic bond stretching: `E = 0.5 k (r - r0)²` per bond.
+#[derive(Debug, Clone)]
+pub struct HarmonicBonds {
+    /// Force constant in eV/Å².
+    pub k: f64,
+    /// Equilibrium length in Å (uniform if `per_bond` is empty).
+    pub r0: f64,
+    /// Optional per-bond equilibrium lengths, matching the bond-list order.
+    pub per_bond: Vec<f64>,
+    /// Optional per-bond force constants, matching the bond-list order.
+    pub per_bond_k: Vec<f64>,
+}
+
+impl HarmonicBonds {
+    /// Uniform harmonic bonds.
+    pub fn uniform(k: f64, r0: f64) -> Self {
+        Self { k, r0, per_bond: Vec::new(), per_bond_k: Vec::new() }
+    }
+
+    /// Energy, forces, and virial for the given `(i, j)` bond pairs.
+    pub fn compute_all(&self, bonds: &[(usize, usize)], positions: &[[f64; 3]], cell: Option<&Lattice>) -> Result<Contribution, Error> {
+        let mut forces = vec![[0.0; 3]; positions.len()];
+        let (rows, at) = (raw::rows(bonds), positions.as_flattened());
+        let r = raw::tyn_bonds_all(self.numbers(), cell.into(), &rows, &self.per_bond, &self.per_bond_k, at, forces.as_flattened_mut());
+        Contribution::of("tyn_bonds_all", r, forces)
+    }
+
+    /// Total energy and per-atom forces for the given `(i, j)` bond pairs.
+    pub fn compute(&self, bonds: &[(usize, usize)], positions: &[[f64; 3]], cell: Option<&Lattice>) -> Result<EnergyAndForces, Error> {
+        let c = self.compute_all(bonds, positions, cell)?;
+        Ok((c.energy, c.forces))
+    }
+
+    pub(super) fn numbers(&self) -> raw::Bond {
+        raw::Bond { k: self.k, r0: self.r0 }
+    }
+}
+
+/// Direct (cutoff) Coulomb interaction: `E = KE q_i q_j / r`. The plain real-space sum: right for isolated clusters, not for a periodic charged system.
+#[derive(Debug, Clone)]
+pub struct Coulomb {
+    /// Cutoff radius in Å.
+    pub cutoff: f64,
+}
+
+impl Coulomb {
+    /// Energy, forces, and virial over a precomputed neighbor list: `list.pairs()` or `&list`. One charge (e) an atom.
+    pub fn compute_pairs<P: PairRows + ?Sized>(
+        &self,
+        charges: &[f64],
+        positions: &[[f64; 3]],
+        pairs: &P,
+        cell: Option<&Lattice>,
+    ) -> Result<Contribution, Error> {
+        let mut forces = vec![[0.0; 3]; positions.len()];
+        let at = positions.as_flattened();
+        let r = raw::tyn_coulomb_pairs(units::RAW, self.cutoff, cell.into(), charges, at, &pairs.rows(), forces.as_flattened_mut());
+        Contribution::of("tyn_coulomb_pairs", r, forces)
+    }
+
+    /// All-pairs form returning the full contribution.
+    pub fn compute_all(&self, charges: &[f64], positions: &[[f64; 3]], cell: Option<&Lattice>) -> Result<Contribution, Error> {
+        let mut forces = vec![[0.0; 3]; positions.len()];
+        let r = raw::tyn_coulomb_all(units::RAW, self.cutoff, cell.into(), charges, positions.as_flattened(), forces.as_flattened_mut());
+        Contribution::of("tyn_coulomb_all", r, forces)
+    }
+
+    /// Total energy and per-atom forces for the given per-atom charges (e).
+    pub fn compute(&self, charges: &[f64], positions: &[[f64; 3]], cell: Option<&Lattice>) -> Result<EnergyAndForces, Error> {
+        let c = self.compute_all(charges, positions, cell)?;
+        Ok((c.energy, c.forces))
+    }
+}

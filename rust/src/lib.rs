@@ -1,0 +1,44 @@
+//! Pair lists, Lennard-Jones, Coulomb, harmonic bonds and velocity Verlet with Berendsen's thermostat: the `field` module of the Rust repository
+//! ecto/phyz, answered by a static library (libfield.a) of which every function is proved to meet its contract.
+//!
+//! Names, argument order and types are the original's, so that a program changes over by its Cargo.toml alone where it handles errors:
+//!
+//! ```toml
+//! phyz-md = { package = "tyngyrlak", path = "../tyngyrlak/rust" }
+//! ```
+//!
+//! What differs:
+//!
+//! - A call that computes gives a `Result`: the library tests its arguments, and a refusal is an [`Error`] with number, place and words. Nothing panics
+//!   on a bad index. Plain data ([`Lattice::cubic`], [`NeighborList::new`], ..) is made untested and tested where it is used.
+//! - [`verlet_step`] takes an [`Evaluator`] in place of a closure.
+//! - A pair list can be handed to `compute_pairs` itself (`&list` for `list.pairs()`), which spares a copy.
+//! - Not carried over: `reciprocal`, the tail terms, angles, torsions, Nosé-Hoover, the barostat, the minimizer.
+//! - The original's `units` are constants of its own; [`field::units`] has CODATA's unless the crate is built with TYNGYRLAK_UNITS.
+//!
+//! Answers equal the original's, float for float, in these ranges; outside of them a call refuses. Every float is finite.
+//!
+//! | | |
+//! |---|---|
+//! | atoms | 0 to 16,384 |
+//! | cells of a grid | to 32,768 |
+//! | coordinates, cell entries, velocities, bond numbers, skin | magnitude to 2^20 |
+//! | cutoffs | 0 to 2^20 |
+//! | masses | 2^-10 to 2^20 |
+//! | epsilon, sigma | 0 to 2^10 |
+//! | charges, time step | magnitude to 2^10 |
+//! | target temperature; coupling time | 0 to 2^20; 2^-10 to 2^20 |
+//! | other floats: forces, energies, virials, volumes, .. | magnitude to 2^500 |
+//!
+//! A call takes up to some 800 kB of stack. The library keeps nothing between calls: what it is lent is in [`NeighborList`] and [`Evaluator`], so two of
+//! them can run in two threads.
+#![deny(missing_docs)]
+#![deny(unsafe_code)]
+
+mod error;
+pub mod field;
+#[allow(unsafe_code, missing_docs)]
+mod raw;
+
+pub use error::Error;
+pub use field::*;
