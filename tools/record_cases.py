@@ -1,5 +1,5 @@
 #!/usr/bin/env python3
-"""record_cases.py cell|virial|exclusions|neighbor|frame|potentials|verlet: hand-made edges of the calls 10 to 1a, 20 to 27, 30 to 37, 40 and 41, 50 to 54, and 60 to 62 for the fixed list of
+"""record_cases.py cell|virial|exclusions|neighbor|frame|potentials|verlet|step: hand-made edges of the calls 10 to 1a, 20 to 27, 30 to 37, 40 and 41, 50 to 54, and 60 to 64 for the fixed list of
 the program replay (crates/replay/stdin). The answers come from a judge, not from here."""
 import struct
 import sys
@@ -792,7 +792,230 @@ def verlet():
         yield from group()
 
 
+# ---- a step and its finish
+TRIO = [[0.0, 0.0, 0.0], [1.25, 0.5, 0.0], [4.0, 4.5, 5.0]]
+STILL = dict(lj=None, coulomb=None, bond=None)
+PLAIN = [1.0, 1.0, 1.0, 1.0]
+
+
+def term(numbers):
+    return [0] if numbers is None else [1] + list(numbers)
+
+
+# What is not said is three atoms with every term and no cell, no thermostat and no list yet. `pairs` and `refs` are what stands in the first of their rooms.
+def moving(call, dt=0.5, thermostat=None, lj=ARGON, coulomb=(9.0,), bond=(20.0, 1.5), units=UNITS, s=None, c=None, mask=7, ids=(18,), params=(0.0103, 3.4), species=None,
+           charges=None, bonds=(0, 1), lengths=(), ks=(), masses=None, table_=(), potential=-1.5, atoms=TRIO, xs=None, vs=None, pairs=(), room=6, refs=(), more=0,
+           starts=0, items=None, forces=None):
+    xs = flat(atoms) if xs is None else xs
+    n = len(xs) // 3
+    per = lambda given, usual: (usual * n)[:n] if given is None else given
+    vs = [0.125 * k - 0.25 for k in range(3 * n)] if vs is None else vs
+    forces = [0.5 - 0.25 * k for k in range(3 * n)] if forces is None else forces
+    listed = list(pairs) + rest(0xa0000000, room)[len(pairs):]
+    referred = list(refs) + [1e300 + 1e290 * k for k in range(max(len(xs) + more, 0))][len(refs):]
+    return case(call, dt, term(thermostat), term(lj), term(coulomb), term(bond), units, state() if s is None else s, cell_of(c, mask), table(ids), table(params),
+                table(per(species, [18, 1])), table(per(charges, [0.5, -0.5, 0.0])), table(bonds), table(lengths), table(ks), table(per(masses, [39.948, 1.0, 16.0])),
+                table(table_), potential, table(xs), table(vs), table(listed), table(referred), table(rest(0xb0000000, starts)),
+                table(rest(0xc0000000, n if items is None else items)), table(forces))
+
+
+# verlet.rs, half a kick and the drift: velocities and positions after them
+def drifted(dt, xs, vs, forces, masses, units=UNITS):
+    accel = struct.unpack('>d', struct.pack('>Q', of(units[0])))[0]
+    vs = [v + (f * (accel / masses[k // 3])) * (0.5 * dt) for k, (v, f) in enumerate(zip(vs, forces))]
+    return [x + v * dt for x, v in zip(xs, vs)], vs
+
+
+STEPS = ('63', '64')
+WARM = (300.0, 100.0)
+
+
+def step_terms():
+    for call in STEPS:
+        for t in (None, WARM):
+            for absent in range(8):
+                off = {k: None for b, k in enumerate(('lj', 'coulomb', 'bond')) if absent >> b & 1}
+                yield moving(call, thermostat=t, **off)
+            yield moving(call, thermostat=t, atoms=[], bonds=())
+            yield moving(call, thermostat=t, atoms=[], bonds=(), c=CUBIC, starts=28, **STILL)
+            yield moving(call, thermostat=t, atoms=TRIO[:1], bonds=())
+            yield moving(call, thermostat=t, atoms=[TRIO[0]] * 2, vs=[0.0, -0.0] * 3, forces=[0.0] * 6)
+            for dt in (0.0, -0.0, -0.5, TINY, 1024.0, -1024.0):
+                yield moving(call, dt, t)
+        for c, starts in ((CUBIC, 28), (BOX, 0), (TILTED, 40), (MIRRORED, 40), (SINGULAR, 0)):
+            yield moving(call, thermostat=WARM, c=c, starts=starts)
+        yield moving(call, lengths=[1.0], ks=[3.0], bonds=[0, 1, 2, 1])
+        yield moving(call, lengths=[1.0, 2.0, 3.0], bonds=[0, 1], ids=(), params=())
+
+
+# temperatures at 1e-12 and beside it, of the velocities after the second kick; no velocity; a factor's square at 0 and beside it
+def step_warmth():
+    one = dict(atoms=TRIO[:1], masses=[1.0], vs=[2.0**-20, 0.0, -0.0], forces=[0.0] * 3, bonds=())
+    for call in STEPS:
+        for t in (FAINT, down(FAINT), up(FAINT), 2 * FAINT):
+            yield moving(call, 1.0, (300.0, 1.0), units=units_at(t), **one)
+        yield moving(call, 1.0, (-0.0, 1.0), units=units_at(FAINT), **one)
+        for dt, tau in ((1.0, 1.0), (1.0, down(1.0)), (up(1.0), 1.0), (-1.0, 1.0)):
+            yield moving(call, dt, (0.0, tau), units=units_at(1.0), **one)
+        yield moving(call, 1.0, (300.0, 1.0), **{**one, 'vs': [0.0, -0.0, 0.0]})
+
+
+# a drift to 2^20, which is inside, and to what is next past it, by the velocity or by the force; what else may be wrong with it
+def step_drift():
+    least = 2.0**-32
+    for k in (0, 4, 8):
+        for sign in (1.0, -1.0):
+            xs = flat(TRIO)
+            xs[k] = sign * (ENTRY - 1.0)
+            for v in (1.0, 1.0 + least / 2, 1.0 + least, 1.0 + least / 2 + 2.0**-50):
+                vs = [sign * v if i == k else 0.0 for i in range(9)]
+                yield moving('63', 1.0, s=state(0.0, 0.0), xs=xs, vs=vs, forces=[0.0] * 9, **STILL)
+                yield moving('63', -1.0, WARM, xs=xs, vs=[-x for x in vs], forces=[0.0] * 9, **STILL)
+            for v in (1.0, 1.0 + least):
+                forces = [2.0 * sign * v if i == k else 0.0 for i in range(9)]
+                yield moving('63', 1.0, s=state(0.0, 0.0), units=PLAIN, masses=[1.0] * 3, xs=xs, vs=[0.0] * 9, forces=forces, **STILL)
+    far = dict(dt=1.0, xs=[ENTRY] + flat(TRIO)[1:], vs=[1.0] * 9, forces=[0.0] * 9)
+    for more in (dict(), dict(table_=[1, 0]), dict(ids=[8, 8], params=[1.0] * 4), dict(bonds=[0, 3]), dict(room=0), dict(c=CUBIC, starts=27), dict(potential=NAN)):
+        for call in STEPS:
+            yield moving(call, **{**far, **more})
+    yield moving('63', 1024.0, forces=[OTHER, -OTHER] + [0.0] * 7, masses=[2.0**-10] * 3, units=[2.0**40] * 4)
+    yield moving('63', 1.0, vs=[ENTRY] * 9, forces=[0.0] * 9)
+
+
+# the list is kept at a displacement of half the skin, counted after the drift, and built anew past it
+def step_lists():
+    refs = flat(TRIO)
+    for v in (0.25, up(0.25), -0.25, 0.0):
+        for k in (0, 7):
+            vs = [v if i == k else 0.0 for i in range(9)]
+            kept = dict(s=state(2.5, 0.5, 1, 3, 9, 1, 4), refs=refs, pairs=[0, 1], forces=[0.0] * 9)
+            yield moving('63', 1.0, vs=vs, **kept)
+            yield moving('64', 1.0, vs=vs, xs=[x + d for x, d in zip(refs, vs)], **kept)
+    for s in (state(2.5, 0.0, 1, 3), state(2.5, -0.5, 1, 3), state(2.5, -0.0, 1, 3), state(2.5, 0.5, 1, 2), state(2.5, 0.5, 1, 0, 0, 0, U32), state(0.0, 64.0, 3, 3)):
+        for call in STEPS:
+            yield moving(call, s=s, refs=refs, pairs=[1, 0, 1, 0, 2, 2], thermostat=WARM)
+    for call in STEPS:
+        yield moving(call, s=state(2.5, 8.0, 3, 3), refs=refs, pairs=[0, 1, 0, 2, 1, 2], starts=0, c=CUBIC)
+        yield moving(call, s=state(8.5, 0.5), table_=[0, 1])
+        yield moving(call, s=state(8.5, 0.5, 0, 0, 0, 0, U32), table_=[0, 1, 0, 2, 1, 2], items=5, more=2, room=7)
+
+
+# a 7 and an 8 stop a step; its finish with room enough, with too little, with a 7 where an 8 was
+def step_stops():
+    dt, vs, forces, masses = 0.5, [0.125 * k - 0.25 for k in range(9)], [0.5 - 0.25 * k for k in range(9)], [39.948, 1.0, 16.0]
+    xs, half = drifted(dt, flat(TRIO), vs, forces, masses)
+    for t in (None, WARM):
+        same = dict(dt=dt, thermostat=t)
+        for starts in (0, 1, 27):
+            yield moving('63', c=CUBIC, starts=starts, **same)
+        for starts in (27, 28, 30):
+            yield moving('64', c=CUBIC, starts=starts, xs=xs, vs=half, **same)
+        for room in (0, 1):
+            yield moving('63', c=CUBIC, starts=28, room=room, **same)
+            yield moving('63', s=state(8.5, -0.5, 0, 0, 7, 1, 3), room=room + 4, **same)
+        for room in (0, 1, 2, 6):
+            yield moving('64', c=CUBIC, starts=28, room=room, xs=xs, vs=half, **same)
+        yield moving('64', c=CUBIC, starts=27, room=0, xs=xs, vs=half, **same)
+        for room in (4, 5, 6):
+            yield moving('64', s=state(8.5, 0.0, 0, 0, 0, 0, 3), room=room, xs=xs, vs=half, **same)
+        for call in STEPS:
+            yield moving(call, c=cube(ENTRY), starts=9, **same)
+            yield moving(call, c=CUBIC, starts=0, room=0, s=state(2.5, 0.5, 0, 3, 0, 0, 8), refs=flat(TRIO) if call == '63' else xs, **same)
+    fast = [OTHER, -OTHER, up(OTHER / 2)] + half[3:]
+    for call in STEPS:
+        yield moving(call, dt, xs=xs, vs=fast, **STILL)
+
+
+# the ends of each range and what is next past them
+def step_limits():
+    def at(k, n, x, usual=1.0):
+        return [x if i == k else usual for i in range(n)]
+
+    for call in STEPS:
+        for x in ends(1024.0)[:5] + [NAN]:
+            yield moving(call, x, vs=[0.0] * 9, forces=[0.0] * 9)
+        for x in ends(ENTRY):
+            yield moving(call, vs=at(5, 9, x, 0.0), forces=[0.0] * 9, dt=0.0)
+        for x in ends(OTHER):
+            yield moving(call, vs=at(8, 9, x), dt=0.0)
+            yield moving(call, forces=at(1, 9, x), dt=0.0)
+            yield moving(call, potential=x)
+        for x in (ENTRY, up(ENTRY), 0.0, -0.0, -TINY, NAN):
+            yield moving(call, thermostat=(x, 100.0))
+        for x in (2.0**-10, down(2.0**-10), ENTRY, up(ENTRY), -1.0, NAN):
+            yield moving(call, thermostat=(300.0, x))
+            yield moving(call, masses=at(2, 3, x))
+    for k, x in enumerate((ENTRY, up(ENTRY), -ENTRY, -up(ENTRY), NAN)):
+        call = STEPS[k % 2]
+        yield moving(call, xs=at(3, 9, x), dt=0.0)
+        yield moving(call, s=state(2.5, 0.5, 0, 3), refs=at(4, 9, x))
+        yield moving(call, bond=(x, 1.5))
+        yield moving(call, bond=(20.0, x))
+        yield moving(call, lengths=[1.5, x])
+        yield moving(call, ks=[20.0, x], bond=None)
+        yield moving(call, c=box(10.0, 10.0, x))
+    for k, x in enumerate((ENTRY, up(ENTRY), -TINY)):
+        call = STEPS[k % 2]
+        yield moving(call, s=state(cutoff=x))
+        yield moving(call, lj=[0.01, 3.4, x, 0])
+        yield moving(call, coulomb=(x,))
+    for k, x in enumerate((1024.0, up(1024.0), -TINY)):
+        call = STEPS[k % 2]
+        yield moving(call, lj=[x, 3.4, 8.5, 1])
+        yield moving(call, params=[0.0103, x], lj=None)
+        yield moving(call, charges=at(1, 3, x), coulomb=None)
+    for k in range(4):
+        for x in (2.0**-40, down(2.0**-40), 2.0**40, up(2.0**40)):
+            yield moving(STEPS[k % 2], units=[x if i == k else 1.0 for i in range(4)])
+
+
+# refusals alone and two at once: what is wrong, and in which argument
+def step_refusals():
+    good = dict(s=state(2.5, 0.5, 1, 3), c=CUBIC, starts=28, table_=[0, 1], refs=flat(TRIO[:2]) + [9.0] * 3, pairs=[1, 2], room=2, items=3, dt=1.0)
+    lengths = [dict(xs=flat(TRIO) + [1.0]), dict(params=[0.01]), dict(species=[18] * 2), dict(charges=[0.0] * 4), dict(bonds=[0]), dict(table_=[0]), dict(more=-1), dict(items=2),
+               dict(forces=[0.0] * 8), dict(vs=[0.0] * 8), dict(vs=[0.0] * 12), dict(masses=[1.0] * 2), dict(masses=[1.0] * 4)]
+    claims = [dict(s=state(2.5, 0.5, 2, 3)), dict(s=state(2.5, 0.5, 1, 4))]
+    ranges = [dict(dt=up(1024.0)), dict(thermostat=(-1.0, 1.0)), dict(masses=[0.0] * 3), dict(vs=[NAN] * 9), dict(forces=[INF] * 9), dict(potential=NAN), dict(refs=[NAN] * 9),
+              dict(xs=[up(ENTRY)] * 9), dict(units=[0.0] * 4), dict(c=box(10.0, NAN, 10.0)), dict(coulomb=(-1.0,))]
+    named = [dict(pairs=[1, 3]), dict(bonds=[0, 1, U32, 0])]
+    order = [dict(table_=[1, 0]), dict(ids=[3, 3], params=[1.0] * 4)]
+    drift = [dict(vs=[ENTRY] * 9, forces=[0.0] * 9)]
+    cells = [dict(starts=27), dict(c=cube(ENTRY))]
+    room = [dict(s=state(2.5, 0.0, 0, 3), table_=[], room=0)]
+    kinds = [lengths, claims, ranges, named, order, drift, cells, room]
+    for call in STEPS:
+        yield moving(call, **good)
+        for k, one in enumerate(kinds):
+            for j, a in enumerate(one):
+                yield moving(call, **{**good, **a})
+                later = kinds[k + 1:] if j == 0 else kinds[k + 1:k + 2]
+                for two in later:
+                    b = next((b for b in two if not set(a) & set(b)), None)
+                    if b and (j == 0 or call == '63'):
+                        yield moving(call, **{**good, **a, **b})
+    yield moving('63', **{**good, 'pairs': [1, 3], 'bonds': [0, 9]})
+    yield moving('63', **{**good, 'table_': [2, 2], 'ids': [3, 3], 'params': [1.0] * 4})
+
+
+def step_no_cases():
+    words = moving('63', thermostat=WARM, atoms=TRIO[:1], bonds=(), room=2).split()
+    for cut in (1, 2, 5, 30, len(words) - 1):
+        yield ' '.join(words[:cut])
+        yield ' '.join(['64'] + words[1:cut])
+    yield ' '.join(words + ['%016x' % 0])
+    yield ' '.join(['64'] + words[1:] + ['%016x' % 0])
+    for k, x in ((2, 2), (5, 2), (9, 2), (10, 2), (12, 3), (21, 1 << 32), (22, 1 << 32), (24, 2), (26, 2), (27, 2), (28, 1 << 32), (len(words) - 4, 4)):
+        yield ' '.join(words[:k] + ['%016x' % x] + words[k + 1:])
+    yield case('65', [0] * 40)
+
+
+def step():
+    for group in (step_terms, step_warmth, step_drift, step_lists, step_stops, step_limits, step_refusals, step_no_cases):
+        yield from group()
+
+
 if __name__ == '__main__':
-    groups = {'cell': cell, 'virial': virial, 'exclusions': exclusions, 'neighbor': neighbor, 'frame': frame, 'potentials': potentials, 'verlet': verlet}
+    groups = {'cell': cell, 'virial': virial, 'exclusions': exclusions, 'neighbor': neighbor, 'frame': frame, 'potentials': potentials, 'verlet': verlet,
+              'step': step}
     for line in groups[sys.argv[1]]():
         print(line)

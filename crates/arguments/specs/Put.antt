@@ -6,6 +6,8 @@ use lib.Ieee.{Float, nan}
 use Rattle.words.specs.Put.{wordOf, floatWord, flagWord}
 use Rattle.answer.specs.Seen.{numberOf, placeOf}
 use Rattle.answer.specs.declared.Refusal.{Refusal}
+use Rattle.answer.specs.declared.Done.{Done}
+use Rattle.answer.specs.declared.Done.the-variants as Done·cases
 use Rattle.answer.specs.declared.Whole.{Whole}
 use Rattle.answer.specs.declared.Whole.the-variants as Whole·cases
 use Rattle.answer.specs.declared.Number.{Number}
@@ -25,6 +27,11 @@ answeredWords = wordOf 0 ++ wordOf 0
 -- a refusal's number and place
 abbrev pub refusalWords : Refusal → List ℕ
 refusalWords why = wordOf (numberOf why) ++ wordOf (placeOf why)
+
+-- a call without a value of its own
+unfoldable pub doneWords : Done → List ℕ
+doneWords Done·cases.Answered = answeredWords
+doneWords (Done·cases.Refused why) = refusalWords why
 
 -- a whole number, or the refusal
 unfoldable pub wholeWords : Whole → List ℕ

@@ -3,15 +3,20 @@ use cell::Cell;
 use cell::Lattice;
 use cell::Vec3;
 use neighbor::State;
+use potentials::BondTerm;
+use potentials::CoulombTerm;
+use potentials::LjTerm;
 use pulls::Lj;
 use virial::Sum;
 use virial::Units;
 
 mod put;
+mod settings;
 mod take;
 
 pub use put::held;
 pub use put::put_answered;
+pub use put::put_done;
 pub use put::put_lattice;
 pub use put::put_number;
 pub use put::put_refusal;
@@ -22,6 +27,7 @@ pub use put::put_summed;
 pub use put::put_summed_forces;
 pub use put::put_vec3;
 pub use put::put_whole;
+pub use settings::take_settings;
 pub use take::take_cell;
 pub use take::take_floats;
 pub use take::take_lattice;
@@ -65,5 +71,31 @@ pub struct StateArg {
 
 pub struct LjArg {
     pub value: Lj,
+    pub next: usize,
+}
+
+pub struct LjTermArg {
+    pub value: LjTerm,
+    pub next: usize,
+}
+
+pub struct CoulombTermArg {
+    pub value: CoulombTerm,
+    pub next: usize,
+}
+
+pub struct BondTermArg {
+    pub value: BondTerm,
+    pub next: usize,
+}
+
+// All that an evaluation is given but its tables.
+pub struct SettingsArg {
+    pub lj: LjTerm,
+    pub coulomb: CoulombTerm,
+    pub bond: BondTerm,
+    pub units: Units,
+    pub state: State,
+    pub cell: Cell,
     pub next: usize,
 }

@@ -4,7 +4,8 @@ ghost use Prim.Native.Nat.{min};
 ghost use lib.ListN.{length};
 ghost use mathlib.Core.List.{_++_};
 ghost use Rattle.words.specs.Put.{Put, floatsWords};
-ghost use Rattle.arguments.specs.Put.{answeredWords, refusalWords, vecWords, rowWords, rowsWords, latticeWords, sumWords, claimsWords, stateWords, numberWords, summedWords, wholeWords};
+ghost use Rattle.arguments.specs.Put.{answeredWords, refusalWords, doneWords, vecWords, rowWords, rowsWords, latticeWords, sumWords, claimsWords, stateWords, numberWords, summedWords, wholeWords};
+use answer::Done;
 use answer::Number;
 use answer::Refusal;
 use answer::Whole;
@@ -30,6 +31,16 @@ pub fn put_refusal(out: &mut [u64], why: Refusal) -> usize
     let place = why.place();
     let at = words::put_word(out, 0, number);
     words::put_word(out, at, place)
+}
+
+// A call without a value of its own.
+pub fn put_done(out: &mut [u64], answer: Done) -> usize
+    ensures { λ r. ⌜ Put (now (out .entry)) 0 (doneWords answer) (now (out .exit)) r ⌝ }
+{
+    match answer {
+        Done::Answered => put_answered(out),
+        Done::Refused(why) => put_refusal(out, why),
+    }
 }
 
 // A whole number, or the refusal.

@@ -40,5 +40,8 @@ pub fn compared_answer(call: u64, ws: &[u64], out: &mut [u64]) -> usize
     if call < 96 {
         return replay_evaluate::answer(call, ws, out);
     }
-    replay_verlet::answer(call, ws, out)
+    if call < 99 {
+        return replay_verlet::answer(call, ws, out);
+    }
+    replay_step::answer(call, ws, out)
 }

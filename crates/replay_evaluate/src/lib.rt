@@ -3,128 +3,11 @@
 ghost use Prim.Native.Nat.{_≤_};
 ghost use lib.ListN.{length};
 use answer::Done;
-use cell::Cell;
+use arguments::SettingsArg;
 use evaluate::Evaluated;
-use neighbor::State;
-use potentials::Bond;
-use potentials::BondTerm;
-use potentials::CoulombTerm;
-use potentials::LjTerm;
 use virial::Sum;
-use virial::Units;
-
-// ---- the terms: 0, or 1 and the term's numbers
-
-struct LjTermArg {
-    value: LjTerm,
-    next: usize,
-}
-
-struct CoulombTermArg {
-    value: CoulombTerm,
-    next: usize,
-}
-
-struct BondTermArg {
-    value: BondTerm,
-    next: usize,
-}
-
-fn take_lj_term(ws: &[u64], at: usize) -> LjTermArg {
-    let there = words::take_bool(ws, at);
-    if there.value {
-        let lj = arguments::take_lj(ws, there.next);
-        let value = lj.value;
-        return LjTermArg {
-            value: LjTerm::Present(value),
-            next: lj.next,
-        };
-    }
-    LjTermArg {
-        value: LjTerm::Absent,
-        next: there.next,
-    }
-}
-
-fn take_coulomb_term(ws: &[u64], at: usize) -> CoulombTermArg {
-    let there = words::take_bool(ws, at);
-    if there.value {
-        let cutoff = words::take_float(ws, there.next);
-        let value = cutoff.value;
-        return CoulombTermArg {
-            value: CoulombTerm::Present { cutoff: value },
-            next: cutoff.next,
-        };
-    }
-    CoulombTermArg {
-        value: CoulombTerm::Absent,
-        next: there.next,
-    }
-}
-
-fn take_bond_term(ws: &[u64], at: usize) -> BondTermArg {
-    let there = words::take_bool(ws, at);
-    if there.value {
-        let k = words::take_float(ws, there.next);
-        let r0 = words::take_float(ws, k.next);
-        let bond = Bond {
-            k: k.value,
-            r0: r0.value,
-        };
-        return BondTermArg {
-            value: BondTerm::Present(bond),
-            next: r0.next,
-        };
-    }
-    BondTermArg {
-        value: BondTerm::Absent,
-        next: there.next,
-    }
-}
-
-// What is no table: the terms, the units, the list's state, the cell.
-struct Fixed {
-    lj: LjTerm,
-    coulomb: CoulombTerm,
-    bond: BondTerm,
-    units: Units,
-    state: State,
-    cell: Cell,
-    next: usize,
-}
-
-fn take_fixed(ws: &[u64]) -> Fixed {
-    let a = take_lj_term(ws, 0);
-    let b = take_coulomb_term(ws, a.next);
-    let c = take_bond_term(ws, b.next);
-    let d = arguments::take_units(ws, c.next);
-    let e = arguments::take_state(ws, d.next);
-    let f = arguments::take_cell(ws, e.next);
-    let lj = a.value;
-    let coulomb = b.value;
-    let bond = c.value;
-    let units = d.value;
-    let state = e.value;
-    let cell = f.value;
-    Fixed {
-        lj,
-        coulomb,
-        bond,
-        units,
-        state,
-        cell,
-        next: f.next,
-    }
-}
 
 // ---- the answer
-
-fn tell_done(out: &mut [u64], answer: Done) -> usize {
-    match answer {
-        Done::Answered => arguments::put_answered(out),
-        Done::Refused(why) => arguments::put_refusal(out, why),
-    }
-}
 
 // The sum, where there is one.
 fn tell_sum(out: &mut [u64], at: usize, answer: Done, sum: Sum) -> usize {
@@ -138,7 +21,7 @@ fn tell_values(out: &mut [u64], r: Evaluated) -> usize {
     let done = r.done;
     let state = r.state;
     let sum = r.sum;
-    let head = tell_done(out, done);
+    let head = arguments::put_done(out, done);
     let asked = words::put_bool(out, head, r.rebuilt);
     let at = arguments::put_state(out, asked, state);
     tell_sum(out, at, done, sum)
@@ -164,7 +47,7 @@ fn tell_rooms(
 // ---- the call
 
 fn told(
-    fixed: Fixed,
+    settings: SettingsArg,
     ids: &[u32],
     params: &[f64],
     species: &[u32],
@@ -181,12 +64,12 @@ fn told(
     forces: &mut [f64],
     out: &mut [u64],
 ) -> usize {
-    let lj = fixed.lj;
-    let coulomb = fixed.coulomb;
-    let bond = fixed.bond;
-    let units = fixed.units;
-    let state = fixed.state;
-    let cell = fixed.cell;
+    let lj = settings.lj;
+    let coulomb = settings.coulomb;
+    let bond = settings.bond;
+    let units = settings.units;
+    let state = settings.state;
+    let cell = settings.cell;
     let r = evaluate::evaluate(
         lj,
         coulomb,
@@ -217,7 +100,7 @@ fn told(
 fn with_rooms(
     ws: &[u64],
     next: usize,
-    fixed: Fixed,
+    settings: SettingsArg,
     ids: &[u32],
     params: &[f64],
     species: &[u32],
@@ -248,7 +131,7 @@ fn with_rooms(
     let nd = d.count;
     let ne = e.count;
     told(
-        fixed,
+        settings,
         ids,
         params,
         species,
@@ -271,7 +154,7 @@ fn with_rooms(
 fn with_places(
     ws: &[u64],
     next: usize,
-    fixed: Fixed,
+    settings: SettingsArg,
     ids: &[u32],
     params: &[f64],
     species: &[u32],
@@ -296,7 +179,7 @@ fn with_places(
     with_rooms(
         ws,
         e.next,
-        fixed,
+        settings,
         ids,
         params,
         species,
@@ -315,8 +198,8 @@ fn evaluate_case(ws: &[u64], out: &mut [u64]) -> usize {
     let mut params = [0.0; 8192];
     let mut species = [0u32; 8192];
     let mut charges = [0.0; 8192];
-    let fixed = take_fixed(ws);
-    let a = arguments::take_u32s(ws, fixed.next, &mut ids);
+    let settings = arguments::take_settings(ws, 0);
+    let a = arguments::take_u32s(ws, settings.next, &mut ids);
     let b = arguments::take_floats(ws, a.next, &mut params);
     let c = arguments::take_u32s(ws, b.next, &mut species);
     let d = arguments::take_floats(ws, c.next, &mut charges);
@@ -327,7 +210,7 @@ fn evaluate_case(ws: &[u64], out: &mut [u64]) -> usize {
     with_places(
         ws,
         d.next,
-        fixed,
+        settings,
         &ids[..na],
         &params[..nb],
         &species[..nc],

@@ -41,13 +41,6 @@ fn tell_yes_no(out: &mut [u64], answer: YesNo) -> usize {
     }
 }
 
-fn tell_done(out: &mut [u64], answer: Done) -> usize {
-    match answer {
-        Done::Answered => arguments::put_answered(out),
-        Done::Refused(why) => arguments::put_refusal(out, why),
-    }
-}
-
 // The four rooms, whatever became of them.
 fn tell_rooms(
     out: &mut [u64],
@@ -182,7 +175,7 @@ fn told(
     );
     let done = r.done;
     let state = r.state;
-    let head = tell_done(out, done);
+    let head = arguments::put_done(out, done);
     let asked = tell_rebuilt(out, head, question, r.rebuilt);
     let at = arguments::put_state(out, asked, state);
     tell_rooms(out, at, pairs, references, starts, items)

@@ -35,16 +35,9 @@ fn temperature_case(ws: &[u64], out: &mut [u64]) -> usize {
     arguments::put_number(out, r)
 }
 
-fn tell_done(out: &mut [u64], answer: Done) -> usize {
-    match answer {
-        Done::Answered => arguments::put_answered(out),
-        Done::Refused(why) => arguments::put_refusal(out, why),
-    }
-}
-
 // The answer, then the velocities, whatever became of them.
 fn tell_velocities(out: &mut [u64], answer: Done, velocities: &[f64]) -> usize {
-    let at = tell_done(out, answer);
+    let at = arguments::put_done(out, answer);
     words::put_floats(out, at, velocities)
 }
 
