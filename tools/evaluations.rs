@@ -1,5 +1,5 @@
 //! What the program evaluations must write: the same evaluations by the Rust itself.
-//! With cell.rs, neighbor.rs, potentials.rs and virial.rs of the Rust copied beside this file: rustc -O evaluations.rs && ./evaluations >stdout
+//! With cell.rs, neighbor.rs, potentials.rs and virial.rs of the Rust copied beside this file: rustc --edition 2021 -O evaluations.rs && ./evaluations >stdout
 #[allow(dead_code)]
 mod cell;
 #[allow(dead_code)]

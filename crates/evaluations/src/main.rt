@@ -3,12 +3,10 @@
 // built, kept after a small move and built again after a larger one. A line an evaluation: refusal and place, rebuilt, the pairs, the checks, the fallback,
 // the energy's bits, the virial's nine, and a digest of the forces' bits in their order. `tools/evaluations.rs` is the same over the Rust:
 // crates/evaluations/stdout is what that one writes.
-use cell::Cell;
 use evaluate::Evaluated;
 use liquid::show;
 use liquid::terms;
 use neighbor::State;
-use potentials::CoulombTerm;
 use virial::Sum;
 
 fn put_sum(s: Sum) {
@@ -37,15 +35,7 @@ fn put_evaluated(e: Evaluated, forces: &[f64]) {
     show::end(liquid::digest_floats(forces));
 }
 
-// The cubic cell goes with the shift, the tilted one with none.
-fn boxed(shift: bool, edge: f64) -> Cell {
-    if shift {
-        return Cell::Present(cell::kernel::cubic(edge));
-    }
-    liquid::tilted(edge)
-}
-
-// An evaluation, and the list's state after it. The bonds are the exclusions.
+// An evaluation, and the list's state after it. The cubic cell goes with the shift, the tilted one with none. The bonds are the exclusions.
 fn evaluated(
     s: State,
     shift: bool,
@@ -53,35 +43,33 @@ fn evaluated(
     species: &[u32],
     charges: &[f64],
     bonds: &[u32],
-    lengths: &[f64],
-    ks: &[f64],
     xs: &[f64],
     pairs: &mut [u32],
     refs: &mut [f64],
-    starts: &mut [u32],
-    items: &mut [u32],
     forces: &mut [f64],
 ) -> State {
+    let mut starts = [0u32; 32769];
+    let mut items = [0u32; 16000];
     let e = evaluate::evaluate(
         terms::lj(shift),
-        CoulombTerm::Present { cutoff: 5.5 },
+        terms::coulomb(),
         terms::bond(),
         terms::units(),
         s,
-        boxed(shift, edge),
-        &[1, 3],
-        &[0.01, 3.0, 0.004, 3.3],
+        liquid::boxed(shift, edge),
+        &terms::ids(),
+        &terms::params(),
         species,
         charges,
         bonds,
-        lengths,
-        ks,
+        &terms::lengths(),
+        &terms::ks(),
         xs,
         bonds,
         pairs,
         refs,
-        starts,
-        items,
+        &mut starts,
+        &mut items,
         forces,
     );
     put_evaluated(e, forces);
@@ -109,13 +97,9 @@ fn six(
     species: &[u32],
     charges: &[f64],
     bonds: &[u32],
-    lengths: &[f64],
-    ks: &[f64],
     xs: &mut [f64],
     pairs: &mut [u32],
     refs: &mut [f64],
-    starts: &mut [u32],
-    items: &mut [u32],
     forces: &mut [f64],
 ) {
     let mut s = terms::list();
@@ -128,37 +112,15 @@ fn six(
             species,
             charges,
             bonds,
-            lengths,
-            ks,
             xs,
             pairs,
             refs,
-            starts,
-            items,
             forces,
         );
         let from = low(k);
         liquid::moved(from, -2.0 * from, xs);
         k += 1;
     }
-}
-
-fn lengths() -> [f64; 300] {
-    let mut a = [0.0; 300];
-    liquid::spread(3.0, 1.0, &mut a);
-    a
-}
-
-fn ks() -> [f64; 200] {
-    let mut a = [0.0; 200];
-    liquid::spread(1.0, 0.5, &mut a);
-    a
-}
-
-fn tables(species: &mut [u32], charges: &mut [f64], bonds: &mut [u32]) {
-    liquid::kinds(species);
-    liquid::thirds(-0.5, 0.25, 0.25, charges);
-    liquid::links(bonds);
 }
 
 // One size, an edge of `last` + 1 sites.
@@ -171,29 +133,14 @@ fn tabled(
     xs: &mut [f64],
     pairs: &mut [u32],
     refs: &mut [f64],
-    starts: &mut [u32],
-    items: &mut [u32],
     forces: &mut [f64],
 ) {
-    tables(species, charges, bonds);
+    liquid::molecules(species, charges, bonds);
     liquid::places(last, 3.5, xs);
-    six(
-        edge,
-        species,
-        charges,
-        bonds,
-        &lengths(),
-        &ks(),
-        xs,
-        pairs,
-        refs,
-        starts,
-        items,
-        forces,
-    );
+    six(edge, species, charges, bonds, xs, pairs, refs, forces);
 }
 
-fn small(pairs: &mut [u32], refs: &mut [f64], starts: &mut [u32], items: &mut [u32]) {
+fn small(pairs: &mut [u32], refs: &mut [f64]) {
     let mut species = [0u32; 1000];
     let mut charges = [0.0; 1000];
     let mut bonds = [0u32; 1332];
@@ -208,13 +155,11 @@ fn small(pairs: &mut [u32], refs: &mut [f64], starts: &mut [u32], items: &mut [u
         &mut xs,
         pairs,
         refs,
-        starts,
-        items,
         &mut forces,
     );
 }
 
-fn middle(pairs: &mut [u32], refs: &mut [f64], starts: &mut [u32], items: &mut [u32]) {
+fn middle(pairs: &mut [u32], refs: &mut [f64]) {
     let mut species = [0u32; 4000];
     let mut charges = [0.0; 4000];
     let mut bonds = [0u32; 5332];
@@ -229,13 +174,11 @@ fn middle(pairs: &mut [u32], refs: &mut [f64], starts: &mut [u32], items: &mut [
         &mut xs,
         pairs,
         refs,
-        starts,
-        items,
         &mut forces,
     );
 }
 
-fn large(pairs: &mut [u32], refs: &mut [f64], starts: &mut [u32], items: &mut [u32]) {
+fn large(pairs: &mut [u32], refs: &mut [f64]) {
     let mut species = [0u32; 16000];
     let mut charges = [0.0; 16000];
     let mut bonds = [0u32; 21332];
@@ -250,8 +193,6 @@ fn large(pairs: &mut [u32], refs: &mut [f64], starts: &mut [u32], items: &mut [u
         &mut xs,
         pairs,
         refs,
-        starts,
-        items,
         &mut forces,
     );
 }
@@ -259,9 +200,7 @@ fn large(pairs: &mut [u32], refs: &mut [f64], starts: &mut [u32], items: &mut [u
 fn main() {
     let mut pairs = [0u32; 480000];
     let mut refs = [0.0; 48000];
-    let mut starts = [0u32; 32769];
-    let mut items = [0u32; 16000];
-    small(&mut pairs, &mut refs, &mut starts, &mut items);
-    middle(&mut pairs, &mut refs, &mut starts, &mut items);
-    large(&mut pairs, &mut refs, &mut starts, &mut items);
+    small(&mut pairs, &mut refs);
+    middle(&mut pairs, &mut refs);
+    large(&mut pairs, &mut refs);
 }

@@ -1,11 +1,12 @@
 -- A liquid of small molecules, made by whole-number arithmetic, and digests of what is computed from it. No text of the Rust: tools/evaluations.rs has the same formulas. Definitions only.
-use mathlib.Core.Bool.{true, cond}
+use mathlib.Core.Bool.{Bool, true, cond}
 use mathlib.Core.List.{List}
 use Prim.Native.Nat.{ℕ, _+_, _*_, _/_, _%_}
 use lib.Dec.{eqb}
 use lib.Ieee.{Float, ofInt, toBits, neg, binary64}
 use lib.IntN.{pos}
 use lib.ListN.{length, getD}
+use Rattle.cell.specs.Cell.{cubicOf}
 use Rattle.cell.specs.declared.Cell.{Cell}
 use Rattle.cell.specs.declared.Cell.the-variants.{Present}
 use Rattle.float.specs.Arith.{_⊕_, _⊖_, _⊗_, _⊘_, bits, at}
@@ -60,6 +61,10 @@ movedOf low width xs = mapAt (λ k x. x ⊕ scatteredOf low width k) xs
 unfoldable pub thirdsOf : (a b c : Float) → List Float → List Float
 thirdsOf a b c xs = mapAt (λ k x. thirdOf a b c k) xs
 
+-- -0.5, 0.25, 0.25
+abbrev pub chargesOf : List Float → List Float
+chargesOf xs = thirdsOf (neg (bits 0x3fe0000000000000)) (bits 0x3fd0000000000000) (bits 0x3fd0000000000000) xs
+
 -- 1, 2, 3, 1, ..
 unfoldable pub kindsOf : List ℕ → List ℕ
 kindsOf xs = mapAt (λ k x. k % 3 + 1) xs
@@ -78,6 +83,9 @@ tiltedOf edge =
       py = true;
       pz = true;
     })
+
+abbrev pub boxedOf : (cubic : Bool) (edge : Float) → Cell
+boxedOf cubic edge = cond cubic (Present (cubicOf edge)) (tiltedOf edge)
 
 -- ---- digests: in order, so that two elements that change places change it
 

@@ -4,7 +4,7 @@ use cell::Cell;
 use cell::Lattice;
 use cell::Vec3;
 ghost use mathlib.Core.Path.{_≡_};
-ghost use Rattle.liquid.specs.Liquid.{scatterOf, fractionOf, scatteredOf, siteOf, placeOf, thirdOf, linkOf, placesOf, spreadOf, movedOf, thirdsOf, kindsOf, linksOf, tiltedOf, stepOf, digestOf, stepFloatOf, digestFloatsOf};
+ghost use Rattle.liquid.specs.Liquid.{scatterOf, fractionOf, scatteredOf, siteOf, placeOf, thirdOf, linkOf, placesOf, spreadOf, movedOf, thirdsOf, chargesOf, kindsOf, linksOf, tiltedOf, boxedOf, stepOf, digestOf, stepFloatOf, digestFloatsOf};
 
 pub mod show;
 pub mod terms;
@@ -112,7 +112,7 @@ pub fn thirds(a: f64, b: f64, c: f64, xs: &mut [f64])
 }
 
 // Species.
-pub fn kinds(xs: &mut [u32])
+fn kinds(xs: &mut [u32])
     ensures { λ _. ⌜ now (xs .exit) ≡ kindsOf (now (xs .entry)) ⌝ }
 {
     let mut k = 0;
@@ -123,7 +123,7 @@ pub fn kinds(xs: &mut [u32])
 }
 
 // Bonds, which are an exclusion table too.
-pub fn links(xs: &mut [u32])
+fn links(xs: &mut [u32])
     ensures { λ _. ⌜ now (xs .exit) ≡ linksOf (now (xs .entry)) ⌝ }
 {
     let mut k = 0;
@@ -131,6 +131,15 @@ pub fn links(xs: &mut [u32])
         xs[k] = link(k);
         k += 1;
     }
+}
+
+// The tables of molecules that have no charge.
+pub fn molecules(species: &mut [u32], charges: &mut [f64], bonds: &mut [u32])
+    ensures { λ _. ⌜ (now (species .exit) ≡ kindsOf (now (species .entry))) × (now (charges .exit) ≡ chargesOf (now (charges .entry))) × (now (bonds .exit) ≡ linksOf (now (bonds .entry))) ⌝ }
+{
+    kinds(species);
+    thirds(-0.5, 0.25, 0.25, charges);
+    links(bonds);
 }
 
 // No right angle, so that the general way of the minimum image is taken.
@@ -157,6 +166,16 @@ pub fn tilted(edge: f64) -> Cell
         py: true,
         pz: true,
     })
+}
+
+// The cubic cell, or the tilted one.
+pub fn boxed(cubic: bool, edge: f64) -> Cell
+    ensures { λ r. ⌜ r ≡ boxedOf cubic edge ⌝ }
+{
+    if cubic {
+        return Cell::Present(cell::kernel::cubic(edge));
+    }
+    tilted(edge)
 }
 
 // ---- digests

@@ -1,4 +1,4 @@
-use Prim.Native.Nat.{_≤_, _-_}
+use Prim.Native.Nat.{_-_}
 use borrow.Author.Needs.{needs}
 use lib.ListN.{length}
 use mathlib.Core.Path.{_≡_, _∙_, refl}
@@ -6,16 +6,16 @@ use Rattle.evaluations.proofs.six.Statement.{statement}
 use Rattle.evaluations.proofs.six.Tie as tie
 
 abbrev Inv-loop : tie.InvT-loop
-Inv-loop edge species charges bonds lengths ks xs₀ pairs₀ refs₀ starts₀ items₀ forces₀ s₀ k₀ xs pairs refs starts items forces s k = (length xs ≡ length xs₀) × (length pairs ≡ length pairs₀) × (length refs ≡ length refs₀) × (length starts ≡ length starts₀) × (length items ≡ length items₀) × (length forces ≡ length forces₀)
+Inv-loop edge species charges bonds xs₀ pairs₀ refs₀ forces₀ s₀ k₀ xs pairs refs forces s k = (length xs ≡ length xs₀) × (length pairs ≡ length pairs₀) × (length refs ≡ length refs₀) × (length forces ≡ length forces₀)
 
 abbrev μ-loop : tie.MeasureT-loop
-μ-loop edge species charges bonds lengths ks xs₀ pairs₀ refs₀ starts₀ items₀ forces₀ s₀ k₀ xs pairs refs starts items forces s k = 6 - k
+μ-loop edge species charges bonds xs₀ pairs₀ refs₀ forces₀ s₀ k₀ xs pairs refs forces s k = 6 - k
 
 loop-holds : tie.Need-loop-holds Inv-loop μ-loop
-loop-holds c = (refl, refl, refl, refl, refl, refl)
+loop-holds c = (refl, refl, refl, refl)
 
 loop-again : tie.Need-loop-again Inv-loop μ-loop
-loop-again c = (c .before .before .moved .kept .1 .1 .0 ∙ c .before .before .before .before .before .before .before .before .before .before .before .before .before .before .before .before .before .before .before .before .before .before .before .before .loop .inv .0, c .before .before .before .before .before .before .before .before .before .before .before .before .before .before .before .evaluated .kept .1 .1 .1 .1 .1 .1 .1 .1 .1 .0 ∙ c .before .before .before .before .before .before .before .before .before .before .before .before .before .before .before .before .before .before .before .before .before .before .before .before .loop .inv .1, c .before .before .before .before .before .before .before .before .before .before .before .before .before .before .before .evaluated .kept .1 .1 .1 .1 .1 .1 .1 .1 .1 .1 .0 ∙ c .before .before .before .before .before .before .before .before .before .before .before .before .before .before .before .before .before .before .before .before .before .before .before .before .loop .inv .2, c .before .before .before .before .before .before .before .before .before .before .before .before .before .before .before .evaluated .kept .1 .1 .1 .1 .1 .1 .1 .1 .1 .1 .1 .0 ∙ c .before .before .before .before .before .before .before .before .before .before .before .before .before .before .before .before .before .before .before .before .before .before .before .before .loop .inv .3, c .before .before .before .before .before .before .before .before .before .before .before .before .before .before .before .evaluated .kept .1 .1 .1 .1 .1 .1 .1 .1 .1 .1 .1 .1 .0 ∙ c .before .before .before .before .before .before .before .before .before .before .before .before .before .before .before .before .before .before .before .before .before .before .before .before .loop .inv .4, c .before .before .before .before .before .before .before .before .before .before .before .before .before .before .before .evaluated .kept .1 .1 .1 .1 .1 .1 .1 .1 .1 .1 .1 .1 .1 .0 ∙ c .before .before .before .before .before .before .before .before .before .before .before .before .before .before .before .before .before .before .before .before .before .before .before .before .loop .inv .5)
+loop-again c = (c .before .before .moved .kept .1 .1 .0 ∙ c .before .before .before .before .before .before .before .before .before .before .before .before .before .before .before .before .before .before .loop .inv .0, c .before .before .before .before .before .before .before .before .before .before .before .evaluated .kept .1 .1 .1 .1 .1 .1 .1 .0 ∙ c .before .before .before .before .before .before .before .before .before .before .before .before .before .before .before .before .before .before .loop .inv .1, c .before .before .before .before .before .before .before .before .before .before .before .evaluated .kept .1 .1 .1 .1 .1 .1 .1 .1 .0 ∙ c .before .before .before .before .before .before .before .before .before .before .before .before .before .before .before .before .before .before .loop .inv .2, c .before .before .before .before .before .before .before .before .before .before .before .evaluated .kept .1 .1 .1 .1 .1 .1 .1 .1 .1 .0 ∙ c .before .before .before .before .before .before .before .before .before .before .before .before .before .before .before .before .before .before .loop .inv .3)
 
 same-length : tie.Need-same-length Inv-loop μ-loop
 same-length c = c .before .loop .inv .0
@@ -28,12 +28,6 @@ same-length-3 c = c .before .loop .inv .2
 
 same-length-4 : tie.Need-same-length-4 Inv-loop μ-loop
 same-length-4 c = c .before .loop .inv .3
-
-same-length-5 : tie.Need-same-length-5 Inv-loop μ-loop
-same-length-5 c = c .before .loop .inv .4
-
-same-length-6 : tie.Need-same-length-6 Inv-loop μ-loop
-same-length-6 c = c .before .loop .inv .5
 
 pub six-spec : {M : Type 1} → statement M
 six-spec =
@@ -54,6 +48,4 @@ six-spec =
     same-length-2
     same-length-3
     same-length-4
-    same-length-5
-    same-length-6
     (λ c. search needs))
