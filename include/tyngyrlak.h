@@ -191,6 +191,13 @@ typedef struct {
     tyn_state state;
 } tyn_updated;
 
+/* A part of a lent table, by its first element and its length; 0 and 0 where the call is refused. */
+typedef struct {
+    tyn_done done;
+    size_t start;
+    size_t length;
+} tyn_part;
+
 /* A whole-number frame: its edges, which axes are periodic (flags), and the radius. */
 typedef struct {
     uint32_t ex;
@@ -436,6 +443,17 @@ tyn_updated tyn_build(tyn_state s, tyn_cell cell, const double *positions, size_
 tyn_updated tyn_maybe_build(tyn_state s, tyn_cell cell, const double *positions, size_t positions_len, const uint32_t *exclusions,
     size_t exclusions_len, uint32_t *pairs, size_t pairs_len, double *references, size_t references_len, uint32_t *starts, size_t starts_len,
     uint32_t *items, size_t items_len);
+
+/* ---- Parts of lent tables, told by their first element and length. */
+
+/* The listed pairs: the part of the lent pairs that the state counts. Refusal 6. */
+tyn_part tyn_listed(tyn_state s, const uint32_t *pairs, size_t pairs_len);
+
+/* The excluded pairs: the first count rows of an exclusion table. Refusal 1. */
+tyn_part tyn_excluded_rows(uint32_t count, const uint32_t *table, size_t table_len);
+
+/* The atoms of a grid cell: the part of items between two starts. Refusal 1. */
+tyn_part tyn_atoms_in(size_t cell, const uint32_t *starts, size_t starts_len, const uint32_t *items, size_t items_len);
 
 /* ---- The whole-number frame, and job sheets. */
 

@@ -7,5 +7,6 @@ pub mod forces;
 pub mod frames;
 pub mod motion;
 pub mod pairs;
+pub mod parts;
 pub mod steps;
 pub mod virials;

@@ -1,0 +1,27 @@
+-- A part of a lent table, which C is told by its first element and its length. Definitions only.
+use Prim.Native.Nat.{ℕ}
+use mathlib.Core.Path.{_≡_}
+use mathlib.Core.Bool.{cond}
+use mathlib.Core.List.{List}
+use lib.ListN.{length, getD, take, drop}
+use Rattle.answer.specs.declared.Done.{Done}
+use Rattle.answer.specs.declared.Refusal.the-variants.{Range}
+use Rattle.bins.specs.Sort.{heldOf}
+use Rattle.flat.specs.Flat.{flatDone, flatRefusal}
+use Rattle.flat.specs.Shown.{Shown}
+use Rattle.flat.specs.declared.FlatPart.{FlatPart}
+
+-- `asked` is what the call beside the part says of its answer (CALLS.md, "Parts handed out"); so many elements from `start` on are the part
+pub record PartSays (asked : Done → Type 0) (first : ℕ) (part table : List ℕ) (r : FlatPart) : Type 0 where
+  pub done : Shown flatDone asked (r .done)
+  pub begins : r .start ≡ first
+  pub counts : r .length ≡ length part
+  pub told : take (r .length) (drop (r .start) table) ≡ part
+
+-- a flag was none: 3
+unfoldable pub noPart : FlatPart
+noPart = record { done = flatRefusal Range; start = 0; length = 0 }
+
+-- where the atoms of a grid cell begin
+unfoldable pub startOf : ℕ → List ℕ → List ℕ → ℕ
+startOf cell starts items = cond (heldOf cell starts items) (getD starts cell 0) 0
