@@ -13,14 +13,18 @@ mkdir -p "$1"
 out=$(cd "$1" && pwd)
 machine=$(uname -m)
 cd "$here/.."
+work=$(mktemp -d)
+trap 'rm -rf "$work"' EXIT
+
+prove() {
+    rt staticlib field >"$work/log" 2>&1 || { tail -20 "$work/log" >&2; exit 1; }
+}
 if [ "$machine" = x86_64 ] && [ -z "$way" ]; then
-    rt staticlib field | tail -1
+    prove
     cp target/staticlib/libfield.a "$out/"
     exit 0
 fi
 kit=$(dirname "$(dirname "$(rt doc)")")
-work=$(mktemp -d)
-trap 'rm -rf "$work"' EXIT
 
 # links FROM TO NAME: all that is in FROM, but NAME
 links() {
@@ -39,7 +43,8 @@ for a in "\$@"; do case \$a in *.bc) cp "\$a" "$work/module.bc" ;; esac; done
 exec "$bin/clang" "\$@"
 W
 chmod +x "$work/home/on/$machine/toolchain/bin/clang"
-RATTLE_HOME=$work/home rt staticlib field | tail -1
+export RATTLE_HOME="$work/home"
+prove
 
 triple=$machine-unknown-linux-gnu
 "$bin/clang" --target=x86_64-unknown-linux-gnu -S -emit-llvm -Xclang -disable-llvm-passes -x ir "$work/module.bc" -o "$work/module.ll"
