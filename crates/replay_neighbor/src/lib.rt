@@ -1,7 +1,6 @@
 // The calls of `neighbor`, 30, 31 and 34 to 37, as cases of the replay program. What is no case has no answer. No table is longer than 8,192.
 ghost use Prim.Native.Nat.{_≤_};
 ghost use lib.ListN.{length};
-use answer::Done;
 use answer::Number;
 use answer::YesNo;
 use cell::Cell;
