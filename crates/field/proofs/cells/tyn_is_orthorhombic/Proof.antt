@@ -11,4 +11,13 @@ returns-2 : tie.Need-returns-2
 returns-2 c = rw (← c .before .before .before .before .lattice .ensures, ← c .before .before .lattice2 .ensures) (flagged-good (not-false _ (c .before .before .before .if1 .left)) (c .before .is-orthorhombic .result) (c .yes-no2 .ensures) (c .before .is-orthorhombic .ensures))
 
 pub tyn-is-orthorhombic-spec : {M : Type 1} → statement M
-tyn-is-orthorhombic-spec = tie.close (tie.spec (λ c κs. search needs) (λ c κs. search needs) returns (λ c κs. search needs) (λ c κs. search needs) (λ c κs. search needs) returns-2)
+tyn-is-orthorhombic-spec =
+    tie.close
+    (tie.spec
+    (λ c κs. search needs)
+    (λ c κs. search needs)
+    returns
+    (λ c κs. search needs)
+    (λ c κs. search needs)
+    (λ c κs. search needs)
+    returns-2)

@@ -12,4 +12,16 @@ returns-2 : tie.Need-returns-2
 returns-2 c = rw (← c .before .before .before .before .before .before .before .before .before .before .before .before .before .frame .ensures, ← c .before .before .before .before .before .before .before .before .before .before .before .frame2 .ensures) (flagged-good (not-false _ (c .before .before .before .before .before .before .before .before .before .before .before .before .if1 .left)) (c .before .before .before .before .before .before .before .build .result) (c .built2 .ensures) (c .before .before .before .before .before .before .before .build .ensures))
 
 pub tyn-frame-build-spec : {M : Type 1} → statement M
-tyn-frame-build-spec = tie.close (tie.spec (λ c κs. search needs) (λ c κs. search needs) returns (λ c κs. search needs) (λ c κs. search needs) (λ c κs. search needs) (λ c. search needs) (λ c. search needs) (λ c. search needs) returns-2)
+tyn-frame-build-spec =
+    tie.close
+    (tie.spec
+    (λ c κs. search needs)
+    (λ c κs. search needs)
+    returns
+    (λ c κs. search needs)
+    (λ c κs. search needs)
+    (λ c κs. search needs)
+    (λ c. search needs)
+    (λ c. search needs)
+    (λ c. search needs)
+    returns-2)

@@ -11,4 +11,13 @@ returns-2 : tie.Need-returns-2
 returns-2 c = rw (← c .before .before .before .before .frame .ensures, ← c .before .before .frame2 .ensures) (flagged-good (not-false _ (c .before .before .before .if1 .left)) (c .before .squared-distance .result) (c .whole2 .ensures) (c .before .squared-distance .ensures))
 
 pub tyn-squared-distance-spec : {M : Type 1} → statement M
-tyn-squared-distance-spec = tie.close (tie.spec (λ c κs. search needs) (λ c κs. search needs) returns (λ c κs. search needs) (λ c κs. search needs) (λ c κs. search needs) returns-2)
+tyn-squared-distance-spec =
+    tie.close
+    (tie.spec
+    (λ c κs. search needs)
+    (λ c κs. search needs)
+    returns
+    (λ c κs. search needs)
+    (λ c κs. search needs)
+    (λ c κs. search needs)
+    returns-2)

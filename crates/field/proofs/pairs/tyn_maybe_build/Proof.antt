@@ -12,4 +12,19 @@ returns-2 : tie.Need-returns-2
 returns-2 c = rw (← c .before .before .before .before .before .before .before .before .before .before .before .before .before .before .before .before .before .before .state .ensures, ← c .before .before .before .before .before .before .before .before .before .before .before .before .before .before .before .before .before .cell .ensures, ← c .before .before .before .before .before .before .before .before .before .before .before .before .before .before .before .state2 .ensures, ← c .before .before .before .before .before .before .before .before .before .before .before .before .before .before .cell2 .ensures) (flagged-good (not-false _ (c .before .before .before .before .before .before .before .before .before .before .before .before .before .before .before .before .if1 .left)) (c .before .before .before .before .before .before .before .before .before .maybe-build .result) (c .updated .ensures) (c .before .before .before .before .before .before .before .before .before .maybe-build .ensures))
 
 pub tyn-maybe-build-spec : {M : Type 1} → statement M
-tyn-maybe-build-spec = tie.close (tie.spec (λ c κs. search needs) (λ c κs. search needs) (λ c κs. search needs) returns (λ c κs. search needs) (λ c κs. search needs) (λ c κs. search needs) (λ c κs. search needs) (λ c. search needs) (λ c. search needs) (λ c. search needs) (λ c. search needs) returns-2)
+tyn-maybe-build-spec =
+    tie.close
+    (tie.spec
+    (λ c κs. search needs)
+    (λ c κs. search needs)
+    (λ c κs. search needs)
+    returns
+    (λ c κs. search needs)
+    (λ c κs. search needs)
+    (λ c κs. search needs)
+    (λ c κs. search needs)
+    (λ c. search needs)
+    (λ c. search needs)
+    (λ c. search needs)
+    (λ c. search needs)
+    returns-2)

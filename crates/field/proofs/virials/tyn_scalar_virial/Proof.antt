@@ -6,4 +6,10 @@ returns : tie.Need-returns
 returns c = rw (← c .before .before .rows .ensures) (record { answer = c .before .scalar-virial .result; handed = c .number .ensures; says = c .before .scalar-virial .ensures })
 
 pub tyn-scalar-virial-spec : {M : Type 1} → statement M
-tyn-scalar-virial-spec = tie.close (tie.spec (λ c κs. search needs) (λ c κs. search needs) (λ c κs. search needs) returns)
+tyn-scalar-virial-spec =
+    tie.close
+    (tie.spec
+    (λ c κs. search needs)
+    (λ c κs. search needs)
+    (λ c κs. search needs)
+    returns)

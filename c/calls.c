@@ -1,0 +1,118 @@
+/* Each shape of argument and answer that crosses the boundary, called from C: structs of each size, flags that are none, parts of tables, a sheet's text.
+ * Says which line was not as expected; the status is 1 then. */
+#include <stdio.h>
+#include <string.h>
+#include "tyngyrlak.h"
+
+static int bad = 0;
+
+#define EXPECT(test) \
+    do { \
+        if (!(test)) { \
+            printf("line %d: %s\n", __LINE__, #test); \
+            bad = 1; \
+        } \
+    } while (0)
+
+static void helpers_and_cells(void)
+{
+    EXPECT(tyn_root(4.0) == 2.0 && tyn_round(2.5) == 3.0 && tyn_round(-0.5) == -1.0 && tyn_rem_euclid(-1.0, 3.0) == 2.0);
+    EXPECT(tyn_to_i64(-2.5) == -2 && tyn_to_u64(-1.0) == 0 && tyn_to_bits(2.0) == 0x4000000000000000u && tyn_of_bits(0) == 0.0);
+    tyn_lattice_answer box = tyn_orthorhombic(2.0, 4.0, 8.0);
+    EXPECT(box.done.number == 0 && box.lattice.b.y == 4.0 && box.lattice.pz == 1);
+    EXPECT(tyn_cubic(2097152.0).done.number == TYN_RANGE);
+    tyn_number volume = tyn_volume(box.lattice);
+    EXPECT(volume.done.number == 0 && volume.value == 64.0);
+    EXPECT(tyn_is_orthorhombic(box.lattice).value == 1);
+    tyn_rows_answer matrix = tyn_matrix(box.lattice);
+    EXPECT(matrix.done.number == 0 && matrix.rows.x[0] == 2.0 && matrix.rows.z[2] == 8.0 && matrix.rows.x[1] == 0.0);
+    tyn_inverse_answer inverse = tyn_inverse(box.lattice);
+    EXPECT(inverse.done.number == 0 && inverse.found == 1 && inverse.rows.y[1] == 0.25);
+    tyn_vector s = tyn_to_fractional(box.lattice, (tyn_vec3){1.0, 1.0, 2.0});
+    EXPECT(s.done.number == 0 && s.value.x == 0.5 && s.value.y == 0.25 && s.value.z == 0.25);
+    EXPECT(tyn_wrap(box.lattice, (tyn_vec3){3.0, -1.0, 2.0}).value.y == 3.0);
+    EXPECT(tyn_perp_widths(box.lattice).value.z == 8.0);
+    EXPECT(tyn_min_image((tyn_vec3){1.5, 0.0, 5.0}, (tyn_cell){1, box.lattice}).image.diff.z == -3.0);
+    EXPECT(tyn_min_image((tyn_vec3){1.5, 0.0, 5.0}, (tyn_cell){0, box.lattice}).image.diff.z == 5.0);
+    EXPECT(tyn_min_image((tyn_vec3){1.5, 0.0, 5.0}, (tyn_cell){2, box.lattice}).done.number == TYN_RANGE);
+    box.lattice.px = 7;
+    EXPECT(tyn_volume(box.lattice).done.number == TYN_RANGE && tyn_inverse(box.lattice).done.number == TYN_RANGE);
+    EXPECT(tyn_min_image((tyn_vec3){1.5, 0.0, 5.0}, (tyn_cell){0, box.lattice}).done.number == TYN_RANGE);
+}
+
+static void sums(void)
+{
+    const tyn_units units = {0.5, 0.25, 14.0, 160.0};
+    double forces[6] = {9, 9, 9, 9, 9, 9}, velocities[3] = {1.0, 2.0, 2.0}, masses[1] = {2.0};
+    tyn_summed zero = tyn_zeros(forces, 6);
+    EXPECT(zero.done.number == 0 && zero.sum.zz == 0.0 && forces[5] == 0.0);
+    tyn_summed one = tyn_add_pair_force(zero.sum, forces, 6, 0, 1, (tyn_vec3){1.0, 2.0, 3.0}, (tyn_vec3){4.0, 5.0, 6.0});
+    EXPECT(one.done.number == 0 && forces[0] == 4.0 && forces[5] == -6.0 && one.sum.xz == 6.0 && one.sum.zx == 12.0);
+    EXPECT(tyn_add_pair_force(zero.sum, forces, 6, 0, 2, (tyn_vec3){1, 2, 3}, (tyn_vec3){4, 5, 6}).done.number == TYN_NOT_THERE);
+    tyn_rows w = {{1, 0, 0}, {0, 2, 0}, {0, 0, 3}};
+    EXPECT(tyn_scalar_virial(w).value == 6.0);
+    EXPECT(tyn_virial_from_pair(w, (tyn_vec3){1, 1, 1}, (tyn_vec3){0, 1, 0}).rows.y[1] == 3.0);
+    EXPECT(tyn_kinetic_energy(units, velocities, 3, masses, 1).value == 18.0);
+    EXPECT(tyn_kinetic_energy(units, velocities, 2, masses, 1).done.number == TYN_LENGTHS);
+    EXPECT(tyn_pressure_tensor(units, 1.0, w, velocities, 3, masses, 1).rows.x[1] == 8.0);
+    tyn_done cooled = tyn_berendsen(units, 1.0, 0.0, 1.0, masses, 1, velocities, 3);
+    EXPECT(cooled.number == 0 && velocities[1] == 0.0);
+    EXPECT(tyn_berendsen(units, 1.0, -1.0, 1.0, masses, 1, velocities, 3).number == TYN_RANGE);
+    tyn_bond_answer bond = tyn_uniform(2.0, 1.5);
+    const uint32_t rows[2] = {0, 1};
+    const double positions[6] = {0, 0, 0, 2.5, 0, 0}, none = 0.0;
+    const tyn_cell open = {0, {{0, 0, 0}, {0, 0, 0}, {0, 0, 0}, 0, 0, 0}};
+    tyn_summed pull = tyn_bonds_all(bond.bond, open, rows, 2, &none, 0, &none, 0, positions, 6, forces, 6);
+    EXPECT(pull.done.number == 0 && pull.sum.energy == 1.0 && forces[0] == 2.0 && forces[3] == -2.0);
+    EXPECT(tyn_argon().shift == 1 && tyn_argon().sigma == 3.4 && tyn_monatomic(1.0, 2.0, 3.0).lj.cutoff == 3.0);
+}
+
+static void lists(void)
+{
+    const tyn_cell open = {0, {{0, 0, 0}, {0, 0, 0}, {0, 0, 0}, 0, 0, 0}};
+    double positions[9] = {0, 0, 0, 1, 0, 0, 2, 0, 0}, references[9] = {0};
+    uint32_t pairs[8] = {0}, starts[4] = {0}, items[3] = {0}, table[4] = {7, 7, 7, 7};
+    tyn_state list = tyn_new(1.0, 0.5).state;
+    tyn_whole count = tyn_exclude(0, 2, 1, table, 4);
+    EXPECT(count.done.number == 0 && count.value == 1 && table[0] == 1 && table[1] == 2 && table[2] == 7);
+    tyn_part excluded = tyn_excluded_rows(1, table, 4);
+    EXPECT(excluded.done.number == 0 && excluded.start == 0 && excluded.length == 2 && tyn_excluded_rows(3, table, 4).done.number == TYN_LENGTHS);
+    tyn_updated built = tyn_build(list, open, positions, 9, table, 2, pairs, 8, references, 9, starts, 4, items, 3);
+    EXPECT(built.done.number == 0 && built.rebuilt == 1 && built.state.pairs == 1 && built.state.fallback == 1 && pairs[0] == 0 && pairs[1] == 1 && references[6] == 2.0);
+    tyn_part listed = tyn_listed(built.state, pairs, 8);
+    EXPECT(listed.done.number == 0 && listed.start == 0 && listed.length == 2 && tyn_listed(built.state, pairs, 1).done.number == TYN_CLAIMS);
+    EXPECT(tyn_needs_rebuild(built.state, open, positions, 9, references, 9).value == 0 && tyn_builds_since(built.state, 0) == 1);
+    tyn_state odd = built.state;
+    odd.fallback = 2;
+    pairs[0] = 5;
+    tyn_updated refused = tyn_build(odd, open, positions, 9, table, 2, pairs, 8, references, 9, starts, 4, items, 3);
+    EXPECT(refused.done.number == TYN_RANGE && refused.state.fallback == 2 && refused.state.pairs == 1 && refused.rebuilt == 0 && pairs[0] == 5);
+    EXPECT(tyn_builds_since(odd, 0) == 1 && tyn_search_radius(odd).done.number == TYN_RANGE && tyn_search_radius(list).value == 1.5);
+    const uint32_t from[3] = {0, 1, 3};
+    tyn_part atoms = tyn_atoms_in(1, from, 3, items, 3);
+    EXPECT(atoms.done.number == 0 && atoms.start == 1 && atoms.length == 2 && tyn_atoms_in(2, from, 3, items, 3).done.number == TYN_LENGTHS);
+}
+
+static void whole_numbers(void)
+{
+    static uint8_t out[90133];
+    const char *sheet = "020003000000050000000500000008\n0300020000\n0100040000000a0000000a0000000a0700000003\n020000000000000000000000000000\n"
+                        "020002000000050000000500000005\n020001000000090000000000000000\n";
+    const char *answer = "81000000020000000500\n8200020003\n8200000001\n";
+    tyn_frame frame = {10, 10, 10, 1, 1, 1, 3};
+    EXPECT(tyn_squared_distance(frame, (tyn_spot){0, 0, 0}, (tyn_spot){9, 0, 0}).value == 1);
+    frame.pz = 2;
+    EXPECT(tyn_squared_distance(frame, (tyn_spot){0, 0, 0}, (tyn_spot){9, 0, 0}).done.number == TYN_RANGE);
+    tyn_whole length = tyn_solve((const uint8_t *)sheet, strlen(sheet), out, sizeof out);
+    EXPECT(length.done.number == 0 && length.value == strlen(answer) && memcmp(out, answer, strlen(answer)) == 0);
+}
+
+int main(void)
+{
+    helpers_and_cells();
+    sums();
+    lists();
+    whole_numbers();
+    puts(bad ? "not as expected" : "as expected");
+    return bad;
+}
