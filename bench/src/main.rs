@@ -5,7 +5,7 @@
 //! ```
 //!
 //! A time is the best of the rounds, in which the two sides take turns, by this thread's processor time. `--only` takes the lines that have one of the
-//! words in their name. `--side` runs one side alone, for instruction counts (valgrind --tool=callgrind).
+//! words in their name. `--side` times one side alone, for a profile, or for instruction counts as the difference of two runs with other `--rounds`.
 mod clock;
 mod data;
 mod sides;
@@ -139,8 +139,11 @@ fn row(line: &Line, d: &Data, o: &Options) -> bool {
 
 fn main() {
     let o = options();
-    println!("| | atoms | unit | original, ns a unit | library, ns a unit | ratio | asked | digest, original | digest, library |");
-    println!("|---|---|---|---|---|---|---|---|---|");
+    let columns = match &o.side {
+        Some(side) => format!("| | atoms | unit | {side}, ns a unit |"),
+        None => "| | atoms | unit | original, ns a unit | library, ns a unit | ratio | asked | digest, original | digest, library |".into(),
+    };
+    println!("{columns}\n{}|", "|---".repeat(columns.matches('|').count() - 1));
     let (mut rows, mut unequal) = (0, 0);
     for &n in &o.sizes {
         let d = data(n, o.shuffle);

@@ -169,5 +169,5 @@ pub fn atom(i: usize) -> u32 {
 
 /// Pairs or bonds, two numbers a row.
 pub fn rows(pairs: &[(usize, usize)]) -> Vec<u32> {
-    pairs.iter().flat_map(|&(i, j)| [atom(i), atom(j)]).collect()
+    pairs.iter().map(|&(i, j)| [atom(i), atom(j)]).collect::<Vec<_>>().into_flattened()
 }
