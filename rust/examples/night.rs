@@ -4,7 +4,7 @@
 //! cargo run --release --example night -- examples/argon.run
 //! ```
 //!
-//! One thing a line, blank lines and what follows a `#` left out; Å, fs, eV, amu, K, e:
+//! Without a file it runs examples/argon.run. One thing a line, blank lines and what follows a `#` left out; Å, fs, eV, amu, K, e:
 //!
 //! ```text
 //! cell LX LY LZ                    or nine numbers, the vectors a, b, c; without this line there is no cell
@@ -49,7 +49,7 @@ struct Run {
 }
 
 fn main() -> Result<(), Box<dyn Error>> {
-    let path = std::env::args().nth(1).ok_or("night wants a run description, such as examples/argon.run")?;
+    let path = std::env::args().nth(1).unwrap_or(concat!(env!("CARGO_MANIFEST_DIR"), "/examples/argon.run").into());
     let mut run = Run::default();
     for (at, line) in std::fs::read_to_string(&path)?.lines().enumerate() {
         let words: Vec<&str> = line.split('#').next().unwrap_or("").split_whitespace().collect();

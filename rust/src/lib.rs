@@ -1,7 +1,8 @@
 //! Pair lists, Lennard-Jones, Coulomb, harmonic bonds and velocity Verlet with Berendsen's thermostat: the `field` module of the Rust repository
 //! ecto/phyz, answered by a static library (libfield.a) of which every function is proved to meet its contract.
 //!
-//! Names, argument order and types are the original's, so that a program changes over by its Cargo.toml alone where it handles errors:
+//! Names, argument order and types are the original's. A program changes over by one line of its Cargo.toml; what then does not compile is a result that
+//! is not taken and the closure of a step:
 //!
 //! ```toml
 //! phyz-md = { package = "tyngyrlak", path = "../tyngyrlak/rust" }
