@@ -75,3 +75,8 @@ update(after,(256,256,256),8,p[:16384],refs,32768)
 update(after,(256,256,256),8,p,refs,32769)
 print(2,16385,'')
 update(new,(3,3,3641),1,[(1,1,1),(1,1,1)],[0.0]*6,32771,2,2)
+
+# ---- verlet: masses 1, velocities 0.5, units 1. Each atom has 0.375; the target is four times the temperature, so that velocities are doubled
+def bits(x): return struct.unpack('>Q',struct.pack('>d',x))[0]
+print(0,0,bits(0.375*16384),0,0,bits(0.25),0,0,digest(halves([1.0]*49152)))
+print(*[2,16385]*3,digest(halves([0.5]*49155)))

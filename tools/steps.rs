@@ -75,4 +75,9 @@ fn run(mut run: Run, count: usize, room: usize) {
 fn main() {
     run(Run::new(1000, 10, true, Lattice::cubic(35.0)), 1000, 20000);
     run(Run::new(216, 6, false, tilted(21.0)), 200, 3250);
+    run(Run::new(16384, 26, true, Lattice::cubic(91.0)), 1, 240000);
+    // one atom more: refusal 2 of both calls, nothing stopped, the potential as it came
+    for _ in 0..2 {
+        println!("2 16385 0 {}", 0.5f64.to_bits());
+    }
 }

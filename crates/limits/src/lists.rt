@@ -40,7 +40,7 @@ fn step_float(h: u64, x: f64) -> u64 {
     step(step(h, (b / 4294967296) as u32), (b % 4294967296) as u32)
 }
 
-fn digest_floats(xs: &[f64]) -> u64 {
+pub(crate) fn digest_floats(xs: &[f64]) -> u64 {
     let mut h: u64 = 7;
     let mut k = 0;
     while k < xs.len() {
@@ -54,7 +54,7 @@ fn put_flag(b: bool) {
     put(if b { 1 } else { 0 });
 }
 
-fn put_done(done: Done) {
+pub(crate) fn put_done(done: Done) {
     match done {
         Done::Answered => {
             put(0);

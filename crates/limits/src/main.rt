@@ -1,5 +1,5 @@
-// What a line of the replay can't reach: 16,384 atoms and one more, 32,768 cells and one more, one start too few, of the whole-number frame and of the
-// pair list. It makes its own inputs by whole-number
+// What a line of the replay can't reach: 16,384 atoms and one more, 32,768 cells and one more, one start too few, of the whole-number frame, of the
+// pair list and of verlet's calls. It makes its own inputs by whole-number
 // arithmetic and writes, a line a build: the refusal's number and place, then the pairs, the checks, the fallback and a digest of each lent memory.
 use frame::Built;
 use frame::Frame;
@@ -7,6 +7,7 @@ use frame::Side;
 use libc::STDOUT_FILENO;
 
 mod lists;
+mod speeds;
 
 ghost use Prim.Native.Nat.{_<_};
 
@@ -134,4 +135,5 @@ fn main() {
         &mut items,
     );
     lists::run();
+    speeds::run();
 }

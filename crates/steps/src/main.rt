@@ -1,7 +1,8 @@
 // Runs of velocity Verlet with every term and the thermostat: 1,000 steps at 1,000 atoms in a cubic cell, and 200 at 216 in a tilted one where the room for
 // pairs is too small for later builds, so that steps stop with an 8 and are finished with more. A line at the start, at steps 1, 10 and 100 and
 // at the end: the step, refusal and place, the builds, the pairs, the potential's bits and the temperature's, and digests of positions, velocities and
-// forces; and one at each stop: the step, refusal and place, the builds, a digest of the drifted positions. `tools/steps.rs` is the same over the Rust, which never stops: crates/steps/stdout is what that one writes.
+// forces; and one at each stop: the step, refusal and place, the builds, a digest of the drifted positions. Then a step of 16,384 atoms, and a step and its
+// finish refused for one more: refusal and place, stopped, the potential's bits. `tools/steps.rs` is the same over the Rust, which never stops: crates/steps/stdout is what that one writes.
 use answer::Number;
 use evaluate::Evaluated;
 use liquid::show;
@@ -30,8 +31,8 @@ fn started(
     refs: &mut [f64],
     forces: &mut [f64],
 ) -> Stepped {
-    let mut starts = [0u32; 1000];
-    let mut items = [0u32; 1000];
+    let mut starts = [0u32; 4096];
+    let mut items = [0u32; 16385];
     let e = evaluate::evaluate(
         terms::lj(shift),
         terms::coulomb(),
@@ -85,8 +86,8 @@ fn stepped(
     refs: &mut [f64],
     forces: &mut [f64],
 ) -> Stepped {
-    let mut starts = [0u32; 1000];
-    let mut items = [0u32; 1000];
+    let mut starts = [0u32; 4096];
+    let mut items = [0u32; 16385];
     step::step(
         1.0,
         heat(),
@@ -131,8 +132,8 @@ fn finished(
     refs: &mut [f64],
     forces: &mut [f64],
 ) -> Stepped {
-    let mut starts = [0u32; 1000];
-    let mut items = [0u32; 1000];
+    let mut starts = [0u32; 4096];
+    let mut items = [0u32; 16385];
     step::finish(
         1.0,
         heat(),
@@ -613,9 +614,89 @@ fn stopped(pairs: &mut [u32], refs: &mut [f64]) {
     );
 }
 
+// One step of the most atoms.
+fn most(pairs: &mut [u32], refs: &mut [f64]) {
+    let mut species = [0u32; 16384];
+    let mut charges = [0.0; 16384];
+    let mut bonds = [0u32; 21844];
+    let mut masses = [0.0; 16384];
+    let mut xs = [0.0; 49152];
+    let mut vs = [0.0; 49152];
+    let mut forces = [0.0; 49152];
+    let mut few = [0u32; 480000];
+    fill(
+        25,
+        &mut few,
+        1,
+        49152.0,
+        true,
+        91.0,
+        &mut species,
+        &mut charges,
+        &mut bonds,
+        &mut masses,
+        &mut xs,
+        &mut vs,
+        pairs,
+        refs,
+        &mut forces,
+    );
+}
+
+fn put_refused(r: Stepped) {
+    let done = r.done;
+    show::put_done(done);
+    show::put_flag(r.stopped);
+    show::end(float::to_bits(r.potential));
+}
+
+// One atom more.
+fn over() {
+    let species = [1u32; 16385];
+    let charges = [0.0; 16385];
+    let masses = [1.0; 16385];
+    let mut xs = [0.0; 49155];
+    let mut vs = [0.0; 49155];
+    let mut forces = [0.0; 49155];
+    let mut pairs = [0u32; 2];
+    let mut refs = [0.0; 49155];
+    put_refused(stepped(
+        terms::list(),
+        0.5,
+        true,
+        91.0,
+        &species,
+        &charges,
+        &[],
+        &masses,
+        &mut xs,
+        &mut vs,
+        &mut pairs,
+        &mut refs,
+        &mut forces,
+    ));
+    put_refused(finished(
+        terms::list(),
+        0.5,
+        true,
+        91.0,
+        &species,
+        &charges,
+        &[],
+        &masses,
+        &xs,
+        &mut vs,
+        &mut pairs,
+        &mut refs,
+        &mut forces,
+    ));
+}
+
 fn main() {
     let mut pairs = [0u32; 40000];
-    let mut refs = [0.0; 3000];
+    let mut refs = [0.0; 49155];
     thousand(&mut pairs, &mut refs);
     stopped(&mut pairs, &mut refs);
+    most(&mut pairs, &mut refs);
+    over();
 }
