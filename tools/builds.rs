@@ -1,7 +1,7 @@
 //! Times `neighbor::build` beside the Rust's, in one run, and compares pairs, order and checks to the element; docs/PERFORMANCE.md has the ratios.
 //! The library here is a crate `builds: cell neighbor` of the lines below, which is proved with no proof file:
 //!     rt staticlib builds
-//! Then, with cell.rs and neighbor.rs of the Rust and libbuilds.a copied beside this file:
+//! Then, with cell.rs and neighbor.rs of the Rust and libbuilds.a copied beside this file and measure.rs:
 //!     rustc -O builds.rs -L . -l static=builds && ./builds [passes] [atoms,atoms,..]
 //! One word more, `rust` or `here`, runs that side alone, for instruction counts: valgrind --tool=callgrind ./builds 1 16000 here
 //!
@@ -53,9 +53,11 @@
 //! }
 #[allow(dead_code)]
 mod cell;
+mod measure;
 #[allow(dead_code)]
 mod neighbor;
 use cell::Lattice;
+use measure::{cpu, liquid};
 use neighbor::NeighborList;
 use std::hint::black_box;
 
@@ -65,46 +67,6 @@ extern "C" {
         pairs: *mut u32, pairs_len: usize, refs: *mut f64, refs_len: usize, starts: *mut u32, starts_len: usize, items: *mut u32, items_len: usize) -> u64;
 }
 
-/// This thread's time in nanoseconds, so that other work on the machine counts little.
-fn cpu() -> f64 {
-    #[repr(C)]
-    struct Time(i64, i64);
-    extern "C" {
-        fn clock_gettime(clock: i32, t: *mut Time) -> i32;
-    }
-    let mut t = Time(0, 0);
-    unsafe { clock_gettime(3, &mut t) };
-    t.0 as f64 * 1e9 + t.1 as f64
-}
-
-struct Chance(u64);
-
-impl Chance {
-    fn next(&mut self) -> u64 {
-        self.0 = self.0.wrapping_add(0x9e3779b97f4a7c15);
-        let mut z = self.0;
-        z = (z ^ (z >> 30)).wrapping_mul(0xbf58476d1ce4e5b9);
-        z = (z ^ (z >> 27)).wrapping_mul(0x94d049bb133111eb);
-        z ^ (z >> 31)
-    }
-
-    fn range(&mut self, a: f64, b: f64) -> f64 {
-        a + (b - a) * ((self.next() >> 11) as f64 / (1u64 << 53) as f64)
-    }
-}
-
-/// A liquid: n places of a cubic lattice, in any order, each atom up to a fifth of the spacing off its place.
-fn liquid(n: usize, edge: f64) -> Vec<[f64; 3]> {
-    let mut r = Chance(42 + n as u64);
-    let k = (n as f64).cbrt().ceil() as usize;
-    let a = edge / k as f64;
-    let mut places: Vec<[usize; 3]> = (0..k * k * k).map(|p| [p / (k * k), p / k % k, p % k]).collect();
-    for i in 0..n {
-        let j = i + (r.next() % (places.len() - i) as u64) as usize;
-        places.swap(i, j);
-    }
-    places[..n].iter().map(|p| p.map(|x| a * (x as f64 + 0.5 + r.range(-0.2, 0.2)))).collect()
-}
 
 fn main() {
     let args: Vec<String> = std::env::args().collect();

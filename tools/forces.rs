@@ -2,7 +2,7 @@
 //! The list is made by the Rust; `field_maybe_build` stands in the library since a step calls both, and what the compiler inlines depends on the callers.
 //! The library here is a crate `forces: answer cell neighbor potentials pulls virial` of the lines below, which is proved with no proof file:
 //!     rt staticlib forces
-//! Then, with cell.rs, neighbor.rs, potentials.rs and virial.rs of the Rust and libforces.a copied beside this file:
+//! Then, with cell.rs, neighbor.rs, potentials.rs and virial.rs of the Rust and libforces.a copied beside this file and measure.rs:
 //!     rustc -O forces.rs -L . -l static=forces && ./forces [passes] [atoms,atoms,..]
 //! One word more, `rust` or `here`, runs that side alone, for instruction counts: valgrind --tool=callgrind ./forces 1 16000 here; one more, lines that begin so.
 //!
@@ -98,6 +98,7 @@
 //! }
 #[allow(dead_code)]
 mod cell;
+mod measure;
 #[allow(dead_code)]
 mod neighbor;
 #[allow(dead_code)]
@@ -111,6 +112,7 @@ mod units {
     pub const EV_PER_A3_TO_GPA: f64 = 1.0;
 }
 use cell::Lattice;
+use measure::{cpu, liquid, Chance};
 use neighbor::NeighborList;
 use potentials::{Coulomb, HarmonicBonds, LennardJones};
 use std::collections::HashMap;
@@ -139,46 +141,6 @@ extern "C" {
         ks: *const f64, ks_len: usize, xs: *const f64, xs_len: usize, forces: *mut f64, forces_len: usize) -> Sum;
 }
 
-/// This thread's time in nanoseconds, so that other work on the machine counts little.
-fn cpu() -> f64 {
-    #[repr(C)]
-    struct Time(i64, i64);
-    extern "C" {
-        fn clock_gettime(clock: i32, t: *mut Time) -> i32;
-    }
-    let mut t = Time(0, 0);
-    unsafe { clock_gettime(3, &mut t) };
-    t.0 as f64 * 1e9 + t.1 as f64
-}
-
-struct Chance(u64);
-
-impl Chance {
-    fn next(&mut self) -> u64 {
-        self.0 = self.0.wrapping_add(0x9e3779b97f4a7c15);
-        let mut z = self.0;
-        z = (z ^ (z >> 30)).wrapping_mul(0xbf58476d1ce4e5b9);
-        z = (z ^ (z >> 27)).wrapping_mul(0x94d049bb133111eb);
-        z ^ (z >> 31)
-    }
-
-    fn range(&mut self, a: f64, b: f64) -> f64 {
-        a + (b - a) * ((self.next() >> 11) as f64 / (1u64 << 53) as f64)
-    }
-}
-
-/// A liquid: n places of a cubic lattice, in any order, each atom up to a fifth of the spacing off its place.
-fn liquid(n: usize, edge: f64) -> Vec<[f64; 3]> {
-    let mut r = Chance(42 + n as u64);
-    let k = (n as f64).cbrt().ceil() as usize;
-    let a = edge / k as f64;
-    let mut places: Vec<[usize; 3]> = (0..k * k * k).map(|p| [p / (k * k), p / k % k, p % k]).collect();
-    for i in 0..n {
-        let j = i + (r.next() % (places.len() - i) as u64) as usize;
-        places.swap(i, j);
-    }
-    places[..n].iter().map(|p| p.map(|x| a * (x as f64 + 0.5 + r.range(-0.2, 0.2)))).collect()
-}
 
 fn equal(c: &Contribution, s: &Sum, forces: &[f64]) -> bool {
     let same = |(a, b): (&f64, &f64)| a.to_bits() == b.to_bits();
