@@ -10,7 +10,7 @@ use lib.Dec.{eqb, ltb}
 use lib.IntN.{ℤ, pos, negsuc}
 use Rattle.bins.specs.declared.Axis.{Axis}
 use Rattle.bins.specs.declared.Bin.the-variants.{Is, Off}
-use Rattle.bins.specs.Axis.{Good, after, touch, remEuclid, within, stepped}
+use Rattle.bins.specs.Axis.{Good, touch, remEuclid, within, stepped, follows}
 use Rattle.lists.proofs.Cases.{below-or, or-cases, or-left, or-right, and-both, both-and}
 
 -- the three steps
@@ -29,7 +29,7 @@ turned back = on
 turned stay = stay
 turned on = back
 
--- b is the bin after a
+-- b is the bin follows a
 abbrev pub After : Axis → ℕ → ℕ → Type 0
 After ax a b = (b ≡ a + 1) ⊎ ((ax .round ≡ true) × (a + 1 ≡ ax .size) × (b ≡ 0))
 
@@ -45,8 +45,8 @@ leads-turned ax stay a b h = sym h
 leads-turned ax on a b h = h
 
 -- ---- the tests
-pub after-After : (ax : Axis) (a b : ℕ) → after ax a b ≡ true → After ax a b
-unfolding after
+pub after-After : (ax : Axis) (a b : ℕ) → follows ax a b ≡ true → After ax a b
+unfolding follows
 after-After ax a b h =
     ⊎-elim (λ e. inl (eqb-true b (a + 1) e))
     (λ e.
@@ -55,8 +55,8 @@ after-After ax a b h =
     inr (p .0, eqb-true _ _ (q .0), eqb-true _ _ (q .1)))
     (or-cases (eqb b (a + 1)) _ h)
 
-pub After-after : (ax : Axis) (a b : ℕ) → After ax a b → after ax a b ≡ true
-unfolding after
+pub After-after : (ax : Axis) (a b : ℕ) → After ax a b → follows ax a b ≡ true
+unfolding follows
 After-after ax a b (inl e) = or-left _ _ (eq-eqb b (a + 1) e)
 After-after ax a b (inr e) = or-right (eqb b (a + 1)) _ (both-and _ _ (e .0) (both-and _ _ (eq-eqb _ _ (e .1)) (eq-eqb _ _ (e .2))))
 
@@ -64,14 +64,14 @@ pub touch-Leads : (ax : Axis) (a b : ℕ) → touch ax a b ≡ true → (d : Dir
 unfolding touch
 touch-Leads ax a b h =
     ⊎-elim (λ e. (stay, eqb-true a b e))
-    (λ e. ⊎-elim (λ f. (on, after-After ax a b f)) (λ f. (back, after-After ax b a f)) (or-cases (after ax a b) _ e))
+    (λ e. ⊎-elim (λ f. (on, after-After ax a b f)) (λ f. (back, after-After ax b a f)) (or-cases (follows ax a b) _ e))
     (or-cases (eqb a b) _ h)
 
 pub Leads-touch : (ax : Axis) (a b : ℕ) (d : Dir) → Leads ax d a b → touch ax a b ≡ true
 unfolding touch
-Leads-touch ax a b back h = or-right (eqb a b) _ (or-right (after ax a b) _ (After-after ax b a h))
+Leads-touch ax a b back h = or-right (eqb a b) _ (or-right (follows ax a b) _ (After-after ax b a h))
 Leads-touch ax a b stay h = or-left _ _ (eq-eqb a b h)
-Leads-touch ax a b on h = or-right (eqb a b) _ (or-left _ (after ax b a) (After-after ax a b h))
+Leads-touch ax a b on h = or-right (eqb a b) _ (or-left _ (follows ax b a) (After-after ax a b h))
 
 -- ---- the only step
 off : (ax : Axis) → Good ax → (a b : ℕ) → After ax a b → a ≡ b → ⊥

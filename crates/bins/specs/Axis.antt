@@ -12,14 +12,14 @@ use lib.IntN.{ℤ, pos, negsuc, _+ℤ_}
 abbrev pub Good : Axis → Type 0
 Good ax = (1 ≤ ax .size) × (ax .round ≡ true → 3 ≤ ax .size)
 
--- b is the bin after a; on a periodic axis the first comes after the last
-unfoldable pub after : Axis → ℕ → ℕ → Bool
-after ax a b = eqb b (a + 1) || (ax .round && (eqb (a + 1) (ax .size) && eqb b 0))
+-- b is the bin follows a; on a periodic axis the first comes follows the last
+unfoldable pub follows : Axis → ℕ → ℕ → Bool
+follows ax a b = eqb b (a + 1) || (ax .round && (eqb (a + 1) (ax .size) && eqb b 0))
 
 -- 01: equal, or differing by one, or, on a periodic axis, first and last
 unfoldable pub touch : Axis → ℕ → ℕ → Bool
-unfolding after
-touch ax a b = eqb a b || (after ax a b || after ax b a)
+unfolding follows
+touch ax a b = eqb a b || (follows ax a b || follows ax b a)
 
 -- Rust's `rem_euclid`: v modulo n, from 0 to n - 1, also where v is negative
 unfoldable pub remEuclid : ℤ → ℕ → ℕ

@@ -5,9 +5,9 @@ use lib.Dec.{T}
 use lib.Ieee.{Float, binary64, fits, ofBits}
 use Rattle.float.specs.Def.{absOf}
 use Rattle.float.specs.Arith.{bits}
-use Rattle.image.specs.Image.{axisOf, fractionOf, inReach, FarSays}
-use Rattle.image.proofs.Law.{both}
-use Rattle.image.proofs.Unit.{nearest-one}
+use Rattle.cell_axis.specs.Image.{axisOf, fractionOf, inReach, FarSays}
+use Rattle.cell_axis.proofs.Law.{both}
+use Rattle.cell_axis.proofs.Unit.{nearest-one}
 use Rattle.cell.specs.Cell.{one, roundAxisOf}
 use Rattle.cell.specs.General.{boxBy, fractionBy}
 

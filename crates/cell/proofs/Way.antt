@@ -3,11 +3,11 @@ use mathlib.Core.Path.{_≡_, refl}
 use mathlib.Core.Bool.{Bool, true, false, cond}
 use Rattle.cell.specs.Matrix.{timesOf}
 use Rattle.cell.specs.Cell.{roundFractionOf, generalImageOf, boxImageOf, skewedOf, latticeImageOf}
-use Rattle.cell.specs.General.{askedOf, unasked, generalOf, generalBy, imageBy}
+use Rattle.cell.specs.General.{unasked, generalOf, generalBy, imageBy, asGeneral}
 use Rattle.cell.specs.declared.Vec3.{Vec3}
 use Rattle.cell.specs.declared.Lattice.{Lattice}
 
-by-way : (l : Lattice) (d : Vec3) (b : Bool) → imageBy l (cond b (askedOf l) unasked) d ≡ cond b (generalImageOf l d) (boxImageOf l d)
+by-way : (l : Lattice) (d : Vec3) (b : Bool) → imageBy l (cond b (asGeneral l) unasked) d ≡ cond b (generalImageOf l d) (boxImageOf l d)
 unfolding imageBy generalBy generalImageOf roundFractionOf timesOf
 by-way l d true = refl
 by-way l d false = refl

@@ -8,12 +8,12 @@ use lib.Ieee.Fits.{round-is}
 use lib.Ieee.Order.{kept, drop}
 use Rattle.float.specs.Arith.{_⊕_, bits}
 use Rattle.float.specs.Def.{absOf}
-use Rattle.image.proofs.Law.{both}
-use Rattle.ranges.specs.Range.{within}
+use Rattle.cell_axis.proofs.Law.{both}
+use Rattle.ranges.specs.Ranged.{within}
 use Rattle.ranges.proofs.Finite.{Finite, within-finite}
 use Rattle.cell.specs.declared.Vec3.{Vec3}
 use Rattle.cell.specs.declared.Lattice.{Lattice}
-use Rattle.cell.specs.Range.{entryLimit, vecWithin, latticeInRange}
+use Rattle.cell.specs.Ranged.{entryLimit, vecWithin, latticeInRange}
 use Rattle.cell.specs.Cell.{offDiagonalOf, isOrthorhombicOf, skewedOf, nano}
 use Rattle.cell.specs.Ways.{Upright, Ways}
 use Rattle.cell.proofs.Order.{lt-not-gt, lt-not-ge, eq-not-lt, compared}

@@ -6,7 +6,7 @@ use lib.Ieee.{Float}
 use Rattle.answer.specs.Seen.{Seen, answered, refused, seenDone, seenNumber, seenYesNo}
 use Rattle.answer.specs.declared.Number.{Number}
 use Rattle.answer.specs.declared.YesNo.{YesNo}
-use Rattle.ranges.specs.Range.{within}
+use Rattle.ranges.specs.Ranged.{within}
 use Rattle.cell.specs.declared.Vec3.{Vec3}
 use Rattle.cell.specs.declared.Lattice.{Lattice}
 use Rattle.cell.specs.declared.Cell.{Cell}
@@ -15,7 +15,7 @@ use Rattle.cell.specs.declared.LatticeAnswer.{LatticeAnswer}
 use Rattle.cell.specs.declared.ImageAnswer.{ImageAnswer}
 use Rattle.cell.specs.declared.RowsAnswer.{RowsAnswer}
 use Rattle.cell.specs.declared.InverseAnswer.{InverseAnswer}
-use Rattle.cell.specs.Range.{entryLimit, otherLimit, vecWithin, latticeInRange, cellInRange}
+use Rattle.cell.specs.Ranged.{entryLimit, otherLimit, vecWithin, latticeInRange, cellInRange}
 use Rattle.cell.specs.Matrix.{matrixOf, volumeOf, singularOf, inverseOf}
 use Rattle.cell.specs.Cell.{orthorhombicOf, cubicOf, isOrthorhombicOf, toFractionalOf, toCartesianOf, wrapOf, perpWidthsOf, imageOf}
 use Rattle.cell.specs.Seen.{seenVector, seenLattice, seenImage, rowsOf, zeroRows}

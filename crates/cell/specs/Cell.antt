@@ -1,11 +1,12 @@
 -- What cell.rs computes of a lattice and a vector, beside the matrix: one definition for each function, in the source's order, on every float. Definitions only.
 use lib.Ieee.{Float, inf, lt, le}
 use mathlib.Core.Bool.{Bool, true, false, cond, _||_}
+use Rattle.float.specs.Literals.{tiny}
 use Rattle.float.specs.Arith.{_⊕_, _⊘_, bits}
 use Rattle.float.specs.Def.{absOf, remEuclidOf}
-use Rattle.image.specs.Image.{axisOf, fractionOf}
+use Rattle.cell_axis.specs.Image.{axisOf, fractionOf}
 use Rattle.cell.specs.Vec.{crossOf, normOf}
-use Rattle.cell.specs.Matrix.{matrixOf, volumeOf, singularOf, inverseOf, timesOf, tiny}
+use Rattle.cell.specs.Matrix.{matrixOf, volumeOf, singularOf, inverseOf, timesOf}
 use Rattle.cell.specs.declared.Vec3.{Vec3}
 use Rattle.cell.specs.declared.Lattice.{Lattice}
 use Rattle.cell.specs.declared.Cell.{Cell}

@@ -5,7 +5,7 @@ use lib.Ieee.{Float, neg, lt}
 use mathlib.Core.Bool.{Bool, true, false, cond}
 use mathlib.Core.List.{List}
 use Rattle.float.specs.Arith.{at, row}
-use Rattle.image.specs.Image.{axisOf}
+use Rattle.cell_axis.specs.Image.{axisOf}
 use Rattle.cell.specs.Vec.{zeroVec, dotOf}
 use Rattle.cell.specs.Matrix.{matrixOf, singularOf, inverseOf, timesOf}
 use Rattle.cell.specs.Cell.{roundAxisOf, boxImageOf, skewedOf}
@@ -34,8 +34,8 @@ abbrev pub rowVec : List Float → Vec3
 rowVec r = record { x = at r 0; y = at r 1; z = at r 2 }
 
 -- of a lattice that takes the general way
-abbrev pub askedOf : Lattice → General
-askedOf l =
+abbrev pub asGeneral : Lattice → General
+asGeneral l =
     record {
       skewed = true;
       singular = singularOf l;
@@ -49,7 +49,7 @@ abbrev pub unasked : General
 unasked = record { skewed = false; singular = true; ix = zeroVec; iy = zeroVec; iz = zeroVec }
 
 unfoldable pub generalOf : Lattice → General
-generalOf l = cond (skewedOf l) (askedOf l) unasked
+generalOf l = cond (skewedOf l) (asGeneral l) unasked
 
 unfoldable pub generalBy : Lattice → General → Vec3 → Vec3
 generalBy l g d =

@@ -2,6 +2,7 @@
 use lib.Ieee.{Float, le}
 use mathlib.Core.List.{List, [], _∷_}
 use mathlib.Core.Bool.{Bool}
+use Rattle.float.specs.Literals.{tiny}
 use Rattle.float.specs.Arith.{_⊕_, _⊖_, _⊗_, _⊘_, bits, at, row, entry}
 use Rattle.float.specs.Def.{absOf, maxOf}
 use Rattle.cell.specs.Vec.{minorOf}
@@ -57,10 +58,6 @@ largestOf h =
     (entry h 2 0)
     (entry h 2 1)
     (entry h 2 2)
-
--- 1e-12
-abbrev pub tiny : Float
-tiny = bits 0x3d71_9799_812d_ea11
 
 -- |det| <= 1e-12 * scale * scale * scale (72; 01, "Cell rules": "No inverse when ..")
 abbrev pub tooSmall : Float → Float → Bool

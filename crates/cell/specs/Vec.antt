@@ -1,6 +1,8 @@
 -- The helpers on three floats (cell.rs 175-181, `cross`, and 278-309, `vec3`), over the record Vec3, in the source's order. Definitions only.
+use Prim.Native.Nat.{ℕ, _+_, _*_}
+use mathlib.Core.List.{List}
 use lib.Ieee.{Float}
-use Rattle.float.specs.Arith.{_⊕_, _⊖_, _⊗_, bits}
+use Rattle.float.specs.Arith.{_⊕_, _⊖_, _⊗_, bits, at}
 use Rattle.float.specs.Def.{rootOf}
 use Rattle.cell.specs.declared.Vec3.{Vec3}
 
@@ -32,3 +34,7 @@ minorOf a b c d = a ⊗ b ⊖ c ⊗ d
 
 unfoldable pub crossOf : Vec3 → Vec3 → Vec3
 crossOf a b = record { x = minorOf (a .y) (b .z) (a .z) (b .y); y = minorOf (a .z) (b .x) (a .x) (b .z); z = minorOf (a .x) (b .y) (a .y) (b .x) }
+
+-- an atom's position in a list of three floats an atom
+unfoldable pub positionAt : List Float → ℕ → Vec3
+positionAt xs i = record { x = at xs (3 * i); y = at xs (3 * i + 1); z = at xs (3 * i + 2) }

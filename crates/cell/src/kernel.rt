@@ -132,7 +132,7 @@ fn round_axis(periodic: bool, s: f64) -> f64
     ensures { λ r. ⌜ r ≡ roundAxisOf periodic s ⌝ }
 {
     if periodic {
-        return image::fraction(s);
+        return cell_axis::fraction(s);
     }
     s
 }
@@ -154,18 +154,20 @@ fn box_image(
     let ax = float::abs(dx);
     let ay = float::abs(dy);
     let az = float::abs(dz);
-    let reach = image::in_reach(ax, lx) & image::in_reach(ay, ly) & image::in_reach(az, lz);
+    let reach = cell_axis::in_reach(ax, lx)
+        & cell_axis::in_reach(ay, ly)
+        & cell_axis::in_reach(az, lz);
     if px & py & pz & reach {
         return Vec3 {
-            x: image::far(ax, lx, dx),
-            y: image::far(ay, ly, dy),
-            z: image::far(az, lz, dz),
+            x: cell_axis::far(ax, lx, dx),
+            y: cell_axis::far(ay, ly, dy),
+            z: cell_axis::far(az, lz, dz),
         };
     }
     Vec3 {
-        x: image::axis(px, lx, dx),
-        y: image::axis(py, ly, dy),
-        z: image::axis(pz, lz, dz),
+        x: cell_axis::axis(px, lx, dx),
+        y: cell_axis::axis(py, ly, dy),
+        z: cell_axis::axis(pz, lz, dz),
     }
 }
 
@@ -176,12 +178,14 @@ fn round_fraction(px: bool, py: bool, pz: bool, x: f64, y: f64, z: f64) -> Vec3
     let ax = float::abs(x);
     let ay = float::abs(y);
     let az = float::abs(z);
-    let reach = image::in_reach(ax, 1.0) & image::in_reach(ay, 1.0) & image::in_reach(az, 1.0);
+    let reach = cell_axis::in_reach(ax, 1.0)
+        & cell_axis::in_reach(ay, 1.0)
+        & cell_axis::in_reach(az, 1.0);
     if px & py & pz & reach {
         return Vec3 {
-            x: image::far(ax, 1.0, x),
-            y: image::far(ay, 1.0, y),
-            z: image::far(az, 1.0, z),
+            x: cell_axis::far(ax, 1.0, x),
+            y: cell_axis::far(ay, 1.0, y),
+            z: cell_axis::far(az, 1.0, z),
         };
     }
     Vec3 {

@@ -1,6 +1,6 @@
 // The range tests of vectors and cells (01, "Ranges").
 ghost use mathlib.Core.Path.{_≡_};
-ghost use Rattle.cell.specs.Range.{vecWithin, latticeInRange, cellInRange};
+ghost use Rattle.cell.specs.Ranged.{vecWithin, latticeInRange, cellInRange};
 use crate::Cell;
 use crate::Lattice;
 use crate::Vec3;

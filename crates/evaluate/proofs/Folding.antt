@@ -7,7 +7,7 @@ use lib.ListN.{length}
 use Rattle.virial.specs.declared.Sum.{Sum}
 use Rattle.virial.specs.Virial.{zeroSum, zeroForces, mergedSum, mergedForces}
 use Rattle.virial.proofs.Forces.{merged-length, zeros-length}
-use Rattle.pulls.specs.Pull.{Total, held}
+use Rattle.potentials_pair.specs.Pull.{Total, held}
 use Rattle.potentials.specs.Terms.{zeroTotal}
 use Rattle.evaluate.specs.Terms.{merged, mergedInto, mergedAll}
 

@@ -19,11 +19,11 @@ use Rattle.lists.proofs.Cases.{and-both, or-neither}
 use Rattle.cell.specs.declared.Cell.{Cell}
 use Rattle.virial.specs.declared.Sum.{Sum}
 use Rattle.virial.specs.Virial.{zeroSum}
-use Rattle.pulls.specs.declared.Lj.{Lj}
-use Rattle.pulls.specs.declared.Mixed.{Mixed}
-use Rattle.pulls.specs.Pull.{Total, held}
-use Rattle.pulls.specs.Species.{lookBy, lookOf, rising}
-use Rattle.pulls.proofs.Lookup.{looks-all}
+use Rattle.potentials_pair.specs.declared.Lj.{Lj}
+use Rattle.potentials_pair.specs.declared.Mixed.{Mixed}
+use Rattle.potentials_pair.specs.Pull.{Total, held}
+use Rattle.potentials_pair.specs.Species.{lookBy, lookOf, rising}
+use Rattle.potentials_pair.proofs.Lookup.{looks-all}
 use Rattle.potentials.specs.declared.LjTerm.{LjTerm}
 use Rattle.potentials.specs.declared.LjTerm.the-variants.{Absent, Present}
 use Rattle.potentials.specs.Terms.{ljOver}
@@ -35,7 +35,7 @@ use Rattle.neighbor.proofs.Asking.{pass}
 use Rattle.evaluate.proofs.Folding.{merged-room}
 use Rattle.evaluate.specs.declared.Evaluated.{Evaluated}
 use Rattle.evaluate.specs.Terms.{Terms, ljGives, contributions, mergedAll}
-use Rattle.evaluate.specs.Asked.{termsFit, bondsAsked, idsAsked, namesAsked, inTurn, askedOf}
+use Rattle.evaluate.specs.Asked.{termsFit, bondsAsked, idsAsked, namesAsked, inTurn, jobAsked}
 use Rattle.evaluate.specs.Calls.{Job, Outcome, totalOf, afterList, settledBy, settledOf, afterAsked, evaluatedOf, shown}
 use Rattle.evaluate.specs.Steps.{scratchLength, settledIn, evaluatedFrom, totalAfter}
 
@@ -134,30 +134,30 @@ first-room s cell xs table pairs refs items e =
     (z, omega arith)
 
 -- what an evaluation, or a step, that passed its tests may count on
-module _ (fits inRange : Bool) (t : Terms) (g : Given) (forces : ℕ) (e : askedOf fits inRange t g forces ≡ Answered) where
+module _ (fits inRange : Bool) (t : Terms) (g : Given) (forces : ℕ) (e : jobAsked fits inRange t g forces ≡ Answered) where
   pub asked-rising : rising (t .ids) ≡ true
-  unfolding askedOf
+  unfolding jobAsked
   asked-rising = names-rising _ _ _ _ (turn-names _ _ _ _ _ e)
 
   pub asked-forces : forces ≡ length (g .positions)
-  unfolding askedOf
+  unfolding jobAsked
   asked-forces = fit-forces _ _ _ _ _ _ _ (and-both fits _ (turn-fits _ _ _ _ _ e) .1)
 
   pub asked-few : length (g .positions) ≤ 49152
-  unfolding askedOf
+  unfolding jobAsked
   asked-few = first-room _ _ _ _ _ _ _ (turn-first _ _ _ _ _ e) .1
 
   pub asked-thirds : length (g .positions) % 3 ≡ 0
-  unfolding askedOf
+  unfolding jobAsked
   asked-thirds = first-room _ _ _ _ _ _ _ (turn-first _ _ _ _ _ e) .0
 
   -- what a step asks besides
   pub asked-fits : fits ≡ true
-  unfolding askedOf
+  unfolding jobAsked
   asked-fits = and-both fits _ (turn-fits _ _ _ _ _ e) .0
 
   pub asked-inside : inRange ≡ true
-  unfolding askedOf
+  unfolding jobAsked
   asked-inside = and-both inRange _ (turn-inside _ _ _ _ _ e) .0
 
 -- ---- the lookup by halving is the one by membership
@@ -196,7 +196,7 @@ module _ (look : List ℕ → List Float → Lj → ℕ → Mixed) (room : ℕ) 
   settled-length = after-length _ _
 
 -- ---- the call
-module _ (j : Job) {d : Done} (is : d ≡ askedOf true true (j .terms) (j .given) (length (j .forces))) where
+module _ (j : Job) {d : Done} (is : d ≡ jobAsked true true (j .terms) (j .given) (length (j .forces))) where
   pub evaluated-refused : {why : Refusal} → d ≡ Refused why → {r : Evaluated} → r ≡ record { done = Refused why; rebuilt = false; state = j .given .state; sum = zeroSum }
       → shown r (j .given .pairs) (j .given .references) (j .given .starts) (j .given .items) (j .forces) ≡ evaluatedOf j
   unfolding evaluatedOf afterAsked

@@ -5,22 +5,22 @@ use mathlib.Core.List.{List}
 use lib.Dec.{eqb, ltb}
 use lib.Ieee.{Float}
 use lib.ListN.{length}
+use Rattle.lists.specs.Atoms.{atomsOf}
 use Rattle.answer.specs.declared.Done.{Done}
 use Rattle.answer.specs.declared.Done.the-variants.{Answered, Refused}
 use Rattle.answer.specs.declared.Refusal.the-variants.{Lengths, Range, NotThere, Order}
 use Rattle.lists.specs.Lists.{every, rows}
-use Rattle.rows.specs.Rows.{absentOf}
+use Rattle.ranges.specs.Rows.{absentOf}
 use Rattle.virial.specs.declared.Units.{Units}
-use Rattle.virial.specs.Limits.{unitsInRange}
-use Rattle.virial.specs.Virial.{atomsOf}
-use Rattle.pulls.specs.Species.{rising}
+use Rattle.virial.specs.Ranged.{unitsInRange}
+use Rattle.potentials_pair.specs.Species.{rising}
 use Rattle.potentials.specs.declared.LjTerm as LjTerm
 use Rattle.potentials.specs.declared.LjTerm.the-variants as LjTerm·cases
 use Rattle.potentials.specs.declared.CoulombTerm as CoulombTerm
 use Rattle.potentials.specs.declared.CoulombTerm.the-variants as CoulombTerm·cases
 use Rattle.potentials.specs.declared.BondTerm as BondTerm
 use Rattle.potentials.specs.declared.BondTerm.the-variants as BondTerm·cases
-use Rattle.potentials.specs.Limits.{coordinate, depth, cutoffOk, charge, ljInRange, bondInRange}
+use Rattle.potentials.specs.Ranged.{coordinate, depth, cutoffOk, charge, ljInRange, bondInRange}
 use Rattle.neighbor.specs.Update.{Given, firstOf, keptAsked, tableAsked, andThen}
 use Rattle.evaluate.specs.Terms.{Terms}
 
@@ -66,8 +66,8 @@ inTurn fits first inRange kept names =
     andThen (cond fits Answered (Refused Lengths)) (andThen first (andThen (cond inRange Answered (Refused Range)) (andThen kept names)))
 
 -- The tests. `fits` and `inRange` are what a step asks besides, at 1 and at 3; an evaluation asks nothing besides
-unfoldable pub askedOf : (fits inRange : Bool) → Terms → Given → (forces : ℕ) → Done
-askedOf fits inRange t g forces =
+unfoldable pub jobAsked : (fits inRange : Bool) → Terms → Given → (forces : ℕ) → Done
+jobAsked fits inRange t g forces =
     inTurn
     (fits && termsFit (length (t .ids)) (length (t .params)) (length (t .species)) (length (t .charges)) (length (t .bonds)) (length (g .positions)) forces)
     (firstOf (g .state) (g .cell) (g .positions) (length (g .exclusions)) (length (g .pairs)) (length (g .references)) (length (g .items)))

@@ -5,20 +5,20 @@ use mathlib.Core.Bool.{true}
 use mathlib.Core.List.{List}
 use lib.Ieee.{Float}
 use lib.ListN.{length}
+use Rattle.evaluate.specs.Asked.{jobAsked}
 use Rattle.answer.specs.declared.Done.{Done}
 use Rattle.answer.specs.declared.Done.the-variants as Done·cases
 use Rattle.answer.specs.Seen.{Seen, answered, refused, seenDone}
 use Rattle.lists.specs.Lists.{rows}
 use Rattle.virial.specs.Virial.{zeroSum}
-use Rattle.pulls.specs.declared.Lj.{Lj}
-use Rattle.pulls.specs.declared.Mixed.{Mixed}
-use Rattle.pulls.specs.Pull.{Total}
-use Rattle.pulls.specs.Species.{lookOf}
+use Rattle.potentials_pair.specs.declared.Lj.{Lj}
+use Rattle.potentials_pair.specs.declared.Mixed.{Mixed}
+use Rattle.potentials_pair.specs.Pull.{Total}
+use Rattle.potentials_pair.specs.Species.{lookOf}
 use Rattle.neighbor.specs.Update.{Given, updateOf, listedOf, stays}
 use Rattle.neighbor.specs.Update as Update
 use Rattle.evaluate.specs.declared.Evaluated.{Evaluated}
 use Rattle.evaluate.specs.Terms.{Terms, contributions, mergedAll}
-use Rattle.evaluate.specs.Asked.{askedOf}
 
 -- everything that an evaluation is given: the terms and their tables, what a build is given, and the forces, lent to be written
 pub record Job : Type 0 where
@@ -60,7 +60,7 @@ afterAsked j (Done·cases.Refused r) = without j (stays (j .given) r)
 afterAsked j Done·cases.Answered = settledOf j
 
 unfoldable pub evaluatedOf : Job → Outcome
-evaluatedOf j = afterAsked j (askedOf true true (j .terms) (j .given) (length (j .forces)))
+evaluatedOf j = afterAsked j (jobAsked true true (j .terms) (j .given) (length (j .forces)))
 
 abbrev pub shown : Evaluated → (pairs : List ℕ) → (references : List Float) → (starts items : List ℕ) → (forces : List Float) → Outcome
 shown r pairs references starts items forces =

@@ -9,8 +9,8 @@ use Rattle.lists.specs.Lists.{rows}
 use Rattle.cell.specs.declared.Cell.{Cell}
 use Rattle.virial.specs.declared.Sum.{Sum}
 use Rattle.virial.specs.Virial.{zeroSum}
-use Rattle.pulls.specs.Pull.{Total, held}
-use Rattle.pulls.specs.Species.{lookBy}
+use Rattle.potentials_pair.specs.Pull.{Total, held}
+use Rattle.potentials_pair.specs.Species.{lookBy}
 use Rattle.neighbor.specs.declared.State.{State}
 use Rattle.neighbor.specs.declared.Updated.{Updated}
 use Rattle.neighbor.specs.Update.{listedOf}

@@ -5,9 +5,9 @@ use lib.Ieee.{Float}
 use Rattle.cell.specs.declared.Cell.{Cell}
 use Rattle.virial.specs.declared.Units.{Units}
 use Rattle.virial.specs.Virial.{mergedSum, mergedForces}
-use Rattle.pulls.specs.declared.Lj.{Lj}
-use Rattle.pulls.specs.declared.Mixed.{Mixed}
-use Rattle.pulls.specs.Pull.{Total}
+use Rattle.potentials_pair.specs.declared.Lj.{Lj}
+use Rattle.potentials_pair.specs.declared.Mixed.{Mixed}
+use Rattle.potentials_pair.specs.Pull.{Total}
 use Rattle.potentials.specs.declared.LjTerm as LjTerm
 use Rattle.potentials.specs.declared.LjTerm.the-variants as LjTerm·cases
 use Rattle.potentials.specs.declared.CoulombTerm as CoulombTerm

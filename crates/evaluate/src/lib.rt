@@ -1,5 +1,5 @@
 // The evaluator, which replaces the Rust's closure: the pair list brought up to date, then each present term, Lennard-Jones, Coulomb, bonds, from zero and
-// merged in this order. specs/Calls.antt says what it answers and leaves; `kernel` has the work and `tests` the tests, for the crates above.
+// merged in this order. specs/Calls.antt says what it answers and leaves; `kernel` has the work and `asked` the tests, for the crates above.
 use answer::Done;
 use answer::Refusal;
 use cell::Cell;
@@ -10,9 +10,9 @@ use potentials::LjTerm;
 use virial::Sum;
 use virial::Units;
 
+pub mod asked;
 pub mod kernel;
 mod merging;
-pub mod tests;
 
 ghost use mathlib.Core.Path.{_≡_};
 ghost use mathlib.Core.Bool.{false};
@@ -69,7 +69,7 @@ pub fn evaluate(
 ) -> Evaluated
     ensures { λ r. ⌜ EvaluateSays (job (terms lj coulomb bond units (now (ids .entry)) (now (params .entry)) (now (species .entry)) (now (charges .entry)) (now (bonds .entry)) (now (lengths .entry)) (now (ks .entry))) (given s cell (now (positions .entry)) (now (exclusions .entry)) (now (pairs .entry)) (now (references .entry)) (now (starts .entry)) (now (items .entry))) (now (forces .entry))) r (now (pairs .exit)) (now (references .exit)) (now (starts .exit)) (now (items .exit)) (now (forces .exit)) ⌝ }
 {
-    let a = tests::asked(
+    let a = asked::asked(
         true,
         true,
         lj,

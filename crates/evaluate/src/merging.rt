@@ -8,8 +8,8 @@ use virial::Units;
 ghost use mathlib.Core.Path.{_≡_};
 ghost use lib.ListN.{length};
 ghost use Rattle.lists.specs.Lists.{rows};
-ghost use Rattle.pulls.specs.Species.{lookBy};
-ghost use Rattle.pulls.specs.Pull.{held};
+ghost use Rattle.potentials_pair.specs.Species.{lookBy};
+ghost use Rattle.potentials_pair.specs.Pull.{held};
 ghost use Rattle.evaluate.specs.Terms.{terms, ljGives, coulombGives, bondGives, contributions, merged, mergedInto, mergedAll};
 
 // A term's own sum and forces, added.

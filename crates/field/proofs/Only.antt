@@ -3,9 +3,9 @@ use Prim.Native.Nat.{ℕ}
 use mathlib.Core.Path.{_≡_, refl, sym, _∙_}
 use mathlib.Core.List.{List}
 use Rattle.answer.specs.declared.Done.{Done}
-use Rattle.flat.proofs.Only.{shown-only}
-use Rattle.flat.specs.Flat.{flatDone}
-use Rattle.flat.specs.declared.FlatPart.{FlatPart}
+use Rattle.field_structs.proofs.Only.{shown-only}
+use Rattle.field_structs.specs.Flat.{flatDone}
+use Rattle.field_structs.specs.declared.FlatPart.{FlatPart}
 use Rattle.field.specs.Parts.{PartSays}
 
 pub part-only : (asked : Done → Type 0) (first : ℕ) (part table : List ℕ) → ((a b : Done) → asked a → asked b → a ≡ b) → (r s : FlatPart)

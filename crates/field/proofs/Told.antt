@@ -16,8 +16,8 @@ use Rattle.exclusions.specs.Calls.{excludedRows}
 use Rattle.exclusions.specs.Table.{room}
 use Rattle.neighbor.specs.declared.State.{State}
 use Rattle.neighbor.specs.Update.{listedOf}
-use Rattle.flat.specs.Flat.{flatDone}
-use Rattle.flat.specs.declared.FlatDone.{FlatDone}
+use Rattle.field_structs.specs.Flat.{flatDone}
+use Rattle.field_structs.specs.declared.FlatDone.{FlatDone}
 use Rattle.field.specs.Parts.{PartSays, startOf}
 
 own-part : (n : ℕ) (xs : List ℕ) → take (length (take n xs)) xs ≡ take n xs

@@ -7,9 +7,9 @@ use lib.ListN.{length, getD, take, drop}
 use Rattle.answer.specs.declared.Done.{Done}
 use Rattle.answer.specs.declared.Refusal.the-variants.{Range}
 use Rattle.bins.specs.Sort.{heldOf}
-use Rattle.flat.specs.Flat.{flatDone, flatRefusal}
-use Rattle.flat.specs.Shown.{Shown}
-use Rattle.flat.specs.declared.FlatPart.{FlatPart}
+use Rattle.field_structs.specs.Flat.{flatDone, flatRefusal}
+use Rattle.field_structs.specs.Shown.{Shown}
+use Rattle.field_structs.specs.declared.FlatPart.{FlatPart}
 
 -- `asked` is what the call beside the part says of its answer (CALLS.md, "Parts handed out"); so many elements from `start` on are the part
 pub record PartSays (asked : Done → Type 0) (first : ℕ) (part table : List ℕ) (r : FlatPart) : Type 0 where

@@ -1,9 +1,9 @@
 -- The struct that stands for a step's answer. Definitions only.
 use lib.Ieee.{Float}
 use Rattle.answer.specs.declared.Refusal.the-variants.{Range}
-use Rattle.flat.specs.Flat.{flag, flatDone, flatRefusal, flatState}
-use Rattle.flat.specs.declared.FlatState.{FlatState}
-use Rattle.step.specs.declared.Stepped.{Stepped}
+use Rattle.field_structs.specs.Flat.{flag, flatDone, flatRefusal, flatState}
+use Rattle.field_structs.specs.declared.FlatState.{FlatState}
+use Rattle.verlet_step.specs.declared.Stepped.{Stepped}
 use Rattle.field.specs.declared.motion.FlatStepped.{FlatStepped}
 
 unfoldable pub flatStepped : Stepped → FlatStepped

@@ -1,26 +1,26 @@
 // The whole-number frame, and job sheets.
 use answer::Refusal;
 use answer::Whole;
-use flat::FlatBuilt;
-use flat::FlatFrame;
-use flat::FlatSheet;
-use flat::FlatWhole;
-use flat::flags;
-use flat::give;
-use flat::take;
+use field_structs::FlatBuilt;
+use field_structs::FlatFrame;
+use field_structs::FlatSheet;
+use field_structs::FlatWhole;
+use field_structs::flags;
+use field_structs::give;
+use field_structs::take;
 use frame::Built;
 use frame::Spot;
 ghost use Rattle.answer.specs.declared.Refusal.the-variants.{Range};
 ghost use Rattle.answer.specs.declared.Whole.the-variants as Whole·cases;
-ghost use Rattle.flat.specs.Flat.{flatBuilt, flatSheet, flatWhole};
-ghost use Rattle.flat.specs.Shown.{Flagged, Shown};
-ghost use Rattle.flat.specs.Taken.{frameFlags, frameOf};
+ghost use Rattle.field_structs.specs.Flat.{flatBuilt, flatSheet, flatWhole};
+ghost use Rattle.field_structs.specs.Shown.{Flagged, Shown};
+ghost use Rattle.field_structs.specs.Taken.{frameFlags, frameOf};
 ghost use Rattle.frame.specs.Build.{BuildSays, given};
 ghost use Rattle.frame.specs.Distance.{SquaredSays};
 ghost use Rattle.frame.specs.Listed.{BuildLists};
 ghost use Rattle.frame.specs.declared.Built.the-variants as Built·cases;
 ghost use Rattle.sheet.specs.Read.{ReadSays};
-ghost use Rattle.solve.specs.Solve.{SolveFits, SolveSays};
+ghost use Rattle.sheet_answer.specs.Solve.{SolveFits, SolveSays};
 ghost use mathlib.Core.Path.{_≡_};
 
 // The exact squared distance of the nearest images of two atoms. Refusal 3.
@@ -77,5 +77,5 @@ pub extern "C" fn tyn_read(
 pub extern "C" fn tyn_solve(input: &[u8], out: &mut [u8]) -> FlatWhole
     ensures { λ r. ⌜ Shown flatWhole (λ a. SolveSays (now (input .entry)) (now (out .entry)) a (now (out .exit)) × SolveFits (now (input .entry)) a (now (out .exit))) r ⌝ }
 {
-    give::whole(solve::solve(input, out))
+    give::whole(sheet_answer::solve(input, out))
 }

@@ -1,24 +1,24 @@
 // The step (verlet.rs).
 use answer::Refusal;
-use flat::FlatBondTerm;
-use flat::FlatCell;
-use flat::FlatCoulombTerm;
-use flat::FlatDone;
-use flat::FlatLjTerm;
-use flat::FlatState;
-use flat::FlatThermostat;
-use flat::flags;
-use flat::give;
-use flat::take;
-use step::Stepped;
+use field_structs::FlatBondTerm;
+use field_structs::FlatCell;
+use field_structs::FlatCoulombTerm;
+use field_structs::FlatDone;
+use field_structs::FlatLjTerm;
+use field_structs::FlatState;
+use field_structs::FlatThermostat;
+use field_structs::flags;
+use field_structs::give;
+use field_structs::take;
+use verlet_step::Stepped;
 use virial::Units;
 ghost use Rattle.evaluate.specs.Calls.{job};
 ghost use Rattle.evaluate.specs.Terms.{terms};
 ghost use Rattle.field.specs.Stepped.{flatStepped, unaskedStep};
-ghost use Rattle.flat.specs.Shown.{Flagged};
-ghost use Rattle.flat.specs.Taken.{bondTermOf, cellFlags, cellOf, coulombTermOf, ljTermOf, stateFlags, stateOf, termFlags, thermostatFlags, thermostatOf};
+ghost use Rattle.field_structs.specs.Shown.{Flagged};
+ghost use Rattle.field_structs.specs.Taken.{bondTermOf, cellFlags, cellOf, coulombTermOf, ljTermOf, stateFlags, stateOf, termFlags, thermostatFlags, thermostatOf};
 ghost use Rattle.neighbor.specs.Update.{given};
-ghost use Rattle.step.specs.Calls.{FinishSays, StepSays, motion};
+ghost use Rattle.verlet_step.specs.Calls.{FinishSays, StepSays, motion};
 ghost use mathlib.Core.Bool.{_&&_};
 ghost use mathlib.Core.Path.{_≡_};
 
@@ -99,7 +99,7 @@ pub extern "C" fn tyn_step(
         & flags::cell(cell)) {
         return unasked_step(s, potential);
     }
-    stepped(step::step(
+    stepped(verlet_step::step(
         dt,
         take::thermostat(thermostat),
         take::lj_term(lj),
@@ -165,7 +165,7 @@ pub extern "C" fn tyn_finish(
         & flags::cell(cell)) {
         return unasked_step(s, potential);
     }
-    stepped(step::finish(
+    stepped(verlet_step::finish(
         dt,
         take::thermostat(thermostat),
         take::lj_term(lj),

@@ -1,19 +1,19 @@
 // Parts of lent tables, told by their first element and length.
 use answer::Done;
 use answer::Refusal;
-use flat::FlatPart;
-use flat::FlatState;
-use flat::flags;
-use flat::give;
-use flat::take;
+use field_structs::FlatPart;
+use field_structs::FlatState;
+use field_structs::flags;
+use field_structs::give;
+use field_structs::take;
 ghost use mathlib.Core.Path.{_≡_};
 ghost use Rattle.bins.specs.Sort.{atomsIn};
 ghost use Rattle.bins.specs.Sort as Bins;
 ghost use Rattle.exclusions.specs.Calls.{excludedRows};
 ghost use Rattle.exclusions.specs.Calls as Exclusions;
 ghost use Rattle.neighbor.specs.Update.{listedOf, ListedSays};
-ghost use Rattle.flat.specs.Shown.{Flagged};
-ghost use Rattle.flat.specs.Taken.{stateFlags, stateOf};
+ghost use Rattle.field_structs.specs.Shown.{Flagged};
+ghost use Rattle.field_structs.specs.Taken.{stateFlags, stateOf};
 ghost use Rattle.field.specs.Parts.{PartSays, noPart, startOf};
 
 // No part: 3.

@@ -1,10 +1,10 @@
 // Kinetic energy, temperature and thermostat (verlet.rs).
-use flat::FlatDone;
-use flat::FlatNumber;
-use flat::give;
+use field_structs::FlatDone;
+use field_structs::FlatNumber;
+use field_structs::give;
 use virial::Units;
-ghost use Rattle.flat.specs.Flat.{flatDone, flatNumber};
-ghost use Rattle.flat.specs.Shown.{Shown};
+ghost use Rattle.field_structs.specs.Flat.{flatDone, flatNumber};
+ghost use Rattle.field_structs.specs.Shown.{Shown};
 ghost use Rattle.verlet.specs.Calls.{BerendsenSays, KineticEnergySays, TemperatureSays};
 
 // The kinetic energy; velocities are three floats a mass. Refusals 1, 2, 3.

@@ -1,16 +1,16 @@
 // Energy, forces and virial, and the pressures that they feed (virial.rs).
 use cell::Rows;
 use cell::Vec3;
-use flat::FlatNumber;
-use flat::FlatRowsAnswer;
-use flat::FlatSummed;
-use flat::give;
-use flat::take;
+use field_structs::FlatNumber;
+use field_structs::FlatRowsAnswer;
+use field_structs::FlatSummed;
+use field_structs::give;
+use field_structs::take;
 use virial::Sum;
 use virial::Units;
-ghost use Rattle.flat.specs.Flat.{flatNumber, flatRows, flatSummed};
-ghost use Rattle.flat.specs.Shown.{Shown};
-ghost use Rattle.flat.specs.Taken.{rowsTable};
+ghost use Rattle.field_structs.specs.Flat.{flatNumber, flatRows, flatSummed};
+ghost use Rattle.field_structs.specs.Shown.{Shown};
+ghost use Rattle.field_structs.specs.Taken.{rowsTable};
 ghost use Rattle.virial.specs.Calls.{AddPairForceSays, MergeSays, PressureSays, PressureTensorSays, ScalarVirialSays, ToGpaSays, VirialFromPairSays, ZerosSays};
 
 // A sum of zeros, the forces all +0. Refusals 1, 2.

@@ -1,4 +1,5 @@
-pub mod Def
 pub mod Arith
-pub mod Theorems
+pub mod Def
+pub mod Literals
 pub mod Steps
+pub mod Theorems

@@ -23,9 +23,9 @@ use Rattle.bins.proofs.EdgeLaws.{axis-good}
 use Rattle.bins.proofs.Found.{plain-checks, binned-checks, binned-ready}
 use Rattle.exclusions.specs.Table.{isTable}
 use Rattle.exclusions.proofs.Search.{looked-up}
-use Rattle.checks.specs.Checks.{rowsBelow, rowsTouching}
-use Rattle.checks.proofs.Counted.{plain-less, binned-less}
-use Rattle.checks.proofs.Runs.{Ended, ended}
+use Rattle.candidates.specs.Checks.{rowsBelow, rowsTouching}
+use Rattle.candidates.proofs.Counted.{plain-less, binned-less}
+use Rattle.candidates.proofs.Runs.{Ended, ended}
 use Rattle.frame.specs.declared.Side.{Side}
 use Rattle.frame.specs.declared.Frame.{Frame}
 use Rattle.frame.specs.declared.laying.Plan.{Plan}

@@ -14,8 +14,8 @@ use Rattle.bins.specs.Sort.{atomsIn}
 use Rattle.bins.specs.Listing.{Listing, considerOf, Below}
 use Rattle.bins.proofs.TraversalLaws.{bin-less}
 use Rattle.bins.proofs.Runs.{step-rising, step-falling}
-use Rattle.checks.specs.Checks.{lazy}
-use Rattle.checks.specs.Steps.{judged}
+use Rattle.candidates.specs.Checks.{lazy}
+use Rattle.candidates.specs.Steps.{judged}
 use Rattle.frame.specs.declared.Side.{Side}
 use Rattle.frame.specs.declared.Frame.{Frame}
 use Rattle.frame.specs.declared.Spot.{Spot}

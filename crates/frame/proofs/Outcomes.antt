@@ -20,7 +20,7 @@ use Rattle.exclusions.specs.Table.{isTable}
 use Rattle.frame.specs.declared.Frame.{Frame}
 use Rattle.frame.specs.declared.Built.{Built}
 use Rattle.frame.specs.Laying.{plainOf, crowded}
-use Rattle.frame.specs.Build.{Given, Counts, Outcome, stays, sceneOf, nearPairs, checksOf, lengthsBad, rangesOk, askedOf, shownOf, runOf, startsLaid, itemsLaid, afterOf, buildOf, BuildSays}
+use Rattle.frame.specs.Build.{Given, Counts, Outcome, stays, sceneOf, nearPairs, checksOf, lengthsBad, rangesOk, shownOf, runOf, startsLaid, itemsLaid, afterOf, buildOf, BuildSays, frameAsked}
 use Rattle.frame.specs.Listed.{Listed, BuildLists}
 use Rattle.frame.specs.Steps.{Framed}
 use Rattle.frame.proofs.Ranges.{ranges-framed}
@@ -40,7 +40,7 @@ pub record Fine (f : Frame) (xs table : List ℕ) (items : ℕ) : Type 0 where
   pub few : length xs / 3 ≤ 16384
   pub room : length xs / 3 ≤ items
 
-module _ (f : Frame) (xs table : List ℕ) (items : ℕ) (h : askedOf f xs table items ≡ Answered) where
+module _ (f : Frame) (xs table : List ℕ) (items : ℕ) (h : frameAsked f xs table items ≡ Answered) where
   abbrev last : Done
   last = cond (not (isTable (rows table))) (Refused Order) Answered
 
@@ -51,7 +51,7 @@ module _ (f : Frame) (xs table : List ℕ) (items : ℕ) (h : askedOf f xs table
   second = cond (ltb 16384 (length xs / 3)) (Refused (TooMany (length xs / 3))) third
 
   one : (lengthsBad (length xs) (length table) items ≡ false) × (second ≡ Answered)
-  unfolding askedOf
+  unfolding frameAsked
   one = pass (lengthsBad (length xs) (length table) items) Lengths second h
 
   two : (ltb 16384 (length xs / 3) ≡ false) × (third ≡ Answered)
@@ -74,7 +74,7 @@ module _ (f : Frame) (xs table : List ℕ) (items : ℕ) (h : askedOf f xs table
       }
 
 -- ---- the build by its cases, for the code
-module _ (i : Given) {a : Done} (is : a ≡ askedOf (i .frame) (i .coordinates) (i .exclusions) (length (i .items))) where
+module _ (i : Given) {a : Done} (is : a ≡ frameAsked (i .frame) (i .coordinates) (i .exclusions) (length (i .items))) where
   pub build-refused : {r : Refusal} → a ≡ Refused r → stays i (refusedBy r) ≡ buildOf i
   unfolding buildOf afterOf
   build-refused e = rw (← is, e)
@@ -168,7 +168,7 @@ after-lists i framed c =
     (run-lists i framed c false _ _)
 
 -- whatever the tests say
-asked-lists : (i : Given) (a : Done) → askedOf (i .frame) (i .coordinates) (i .exclusions) (length (i .items)) ≡ a → (c : Counts) → afterOf i a .answer ≡ answered c → Listed i c (afterOf i a .pairs)
+asked-lists : (i : Given) (a : Done) → frameAsked (i .frame) (i .coordinates) (i .exclusions) (length (i .items)) ≡ a → (c : Counts) → afterOf i a .answer ≡ answered c → Listed i c (afterOf i a .pairs)
 unfolding afterOf
 asked-lists i (Refused r) e c q = impossible (cc)
 asked-lists i Answered e c q = after-lists i (asked-passed (i .frame) (i .coordinates) (i .exclusions) (length (i .items)) e .framed) c q
@@ -177,7 +177,7 @@ asked-lists i Answered e c q = after-lists i (asked-passed (i .frame) (i .coordi
 pub build-lists : (i : Given) (r : Built) (pairs starts items : List ℕ) → BuildSays i r pairs starts items → BuildLists i r pairs
 unfolding buildOf
 build-lists i r pairs starts items h c q =
-    let a = askedOf (i .frame) (i .coordinates) (i .exclusions) (length (i .items)) in
+    let a = frameAsked (i .frame) (i .coordinates) (i .exclusions) (length (i .items)) in
     let answer : afterOf i a .answer ≡ answered c = sym (ap (λ (o : Outcome). o .answer) h) ∙ q in
     rw (ap (λ (o : Outcome). o .pairs) h) (asked-lists i a refl c answer)
 
@@ -194,4 +194,4 @@ after-kept i Answered =
 
 pub pairs-kept : (i : Given) → length (buildOf i .pairs) ≡ length (i .pairs)
 unfolding buildOf
-pairs-kept i = after-kept i (askedOf (i .frame) (i .coordinates) (i .exclusions) (length (i .items)))
+pairs-kept i = after-kept i (frameAsked (i .frame) (i .coordinates) (i .exclusions) (length (i .items)))

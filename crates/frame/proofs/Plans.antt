@@ -20,7 +20,7 @@ use Rattle.bins.proofs.FlatLaws.{flatten-less}
 use Rattle.frame.specs.declared.Frame.{Frame}
 use Rattle.frame.specs.declared.Spot.{Spot}
 use Rattle.frame.specs.declared.laying.Plan.the-variants.{AllPairs, Laid, TooMany}
-use Rattle.frame.specs.Laying.{gridOf, cellOf, placeAt, narrow, plainOf, crowded}
+use Rattle.frame.specs.Laying.{gridOf, cellOf, narrow, plainOf, crowded, homeAt}
 use Rattle.frame.specs.Steps.{Inside, Gridded, planOf}
 
 -- a factor of a product that is at most m
@@ -98,18 +98,18 @@ module _ (f : Frame) (a : Spot) where
 pub record Filling (f : Frame) (xs old new : List ℕ) (i : ℕ) : Type 0 where
   pub within : i ≤ length old
   pub same : length new ≡ length old
-  pub part : new ≡ partAt (λ k _. placeAt f xs k) i old
+  pub part : new ≡ partAt (λ k _. homeAt f xs k) i old
 
 module _ (f : Frame) (xs old : List ℕ) where
   pub filling-begin : Filling f xs old old 0
-  filling-begin = record { within = omega arith; same = refl; part = part-none (λ k _. placeAt f xs k) 0 old }
+  filling-begin = record { within = omega arith; same = refl; part = part-none (λ k _. homeAt f xs k) 0 old }
 
-  pub filling-turn : {new : List ℕ} {i p : ℕ} → Filling f xs old new i → i < length new → p ≡ placeAt f xs i → Filling f xs old (set new i p) (i + 1)
+  pub filling-turn : {new : List ℕ} {i p : ℕ} → Filling f xs old new i → i < length new → p ≡ homeAt f xs i → Filling f xs old (set new i p) (i + 1)
   filling-turn {new} {i} {p} h l e =
       let lt : i < length old = omega (arith, h .same) in
-      let q = part-turn (λ k _. placeAt f xs k) 0 i old lt (h .part) e in
-      record { within = omega arith; same = part-length (λ k _. placeAt f xs k) 0 (i + 1) old q; part = q }
+      let q = part-turn (λ k _. homeAt f xs k) 0 i old lt (h .part) e in
+      record { within = omega arith; same = part-length (λ k _. homeAt f xs k) 0 (i + 1) old q; part = q }
 
-  pub filling-end : {new : List ℕ} {i : ℕ} → Filling f xs old new i → length new ≤ i → new ≡ mapAt (λ k _. placeAt f xs k) old
+  pub filling-end : {new : List ℕ} {i : ℕ} → Filling f xs old new i → length new ≤ i → new ≡ mapAt (λ k _. homeAt f xs k) old
   filling-end {new} {i} h l =
-      let e : i ≡ length old = omega (arith, h .within, h .same) in part-done (λ k _. placeAt f xs k) 0 i old e (h .part)
+      let e : i ≡ length old = omega (arith, h .within, h .same) in part-done (λ k _. homeAt f xs k) 0 i old e (h .part)

@@ -16,7 +16,7 @@ use Rattle.lists.proofs.Walks.{numbers-next, numbers-end, every-at}
 use Rattle.frame.specs.declared.Frame.{Frame}
 use Rattle.frame.specs.declared.Spot.{Spot}
 use Rattle.frame.specs.Distance.{spotOf, edgeOk, frameOk, spotOk, squaredOf, squaredSeen}
-use Rattle.frame.specs.Build.{lengthsBad, rangesOk, askedOf}
+use Rattle.frame.specs.Build.{lengthsBad, rangesOk, frameAsked}
 use Rattle.exclusions.specs.Table.{isTable}
 use Rattle.answer.specs.declared.Done.the-variants.{Answered, Refused}
 use Rattle.answer.specs.declared.Refusal.the-variants.{Lengths, TooMany, Range, Order}
@@ -126,25 +126,25 @@ module _ (f : Frame) (xs : List ℕ) where
 
 -- ---- the tests before a build, by their cases
 module _ (f : Frame) (xs table : List ℕ) (items : ℕ) where
-  pub asked-lengths : lengthsBad (length xs) (length table) items ≡ true → Refused Lengths ≡ askedOf f xs table items
-  unfolding askedOf
+  pub asked-lengths : lengthsBad (length xs) (length table) items ≡ true → Refused Lengths ≡ frameAsked f xs table items
+  unfolding frameAsked
   asked-lengths h = rw h
 
   module _ (h : lengthsBad (length xs) (length table) items ≡ false) where
-    pub asked-many : 16384 < length xs / 3 → Refused (TooMany (length xs / 3)) ≡ askedOf f xs table items
-    unfolding askedOf
+    pub asked-many : 16384 < length xs / 3 → Refused (TooMany (length xs / 3)) ≡ frameAsked f xs table items
+    unfolding frameAsked
     asked-many k = rw (h, lt-ltb 16384 (length xs / 3) k)
 
     module _ (k : length xs / 3 ≤ 16384) where
-      pub asked-range : rangesOk f xs ≡ false → Refused Range ≡ askedOf f xs table items
-      unfolding askedOf
+      pub asked-range : rangesOk f xs ≡ false → Refused Range ≡ frameAsked f xs table items
+      unfolding frameAsked
       asked-range l = rw (h, le-ltb 16384 (length xs / 3) k, l)
 
       module _ (l : rangesOk f xs ≡ true) where
-        pub asked-order : isTable (rows table) ≡ false → Refused Order ≡ askedOf f xs table items
-        unfolding askedOf
+        pub asked-order : isTable (rows table) ≡ false → Refused Order ≡ frameAsked f xs table items
+        unfolding frameAsked
         asked-order m = rw (h, le-ltb 16384 (length xs / 3) k, l, m)
 
-        pub asked-fine : isTable (rows table) ≡ true → Answered ≡ askedOf f xs table items
-        unfolding askedOf
+        pub asked-fine : isTable (rows table) ≡ true → Answered ≡ frameAsked f xs table items
+        unfolding frameAsked
         asked-fine m = rw (h, le-ltb 16384 (length xs / 3) k, l, m)

@@ -6,6 +6,7 @@ use mathlib.Core.Bool.{Bool, true, false, cond, not, _&&_, _||_}
 use mathlib.Core.List.{List, _++_}
 use lib.ListN.{length, drop}
 use lib.Dec.{eqb, ltb, leb}
+use Rattle.lists.specs.Atoms.{atomsOf, mostAtoms}
 use Rattle.answer.specs.declared.Done.{Done}
 use Rattle.answer.specs.declared.Done.the-variants as Done·cases
 use Rattle.answer.specs.declared.Refusal.the-variants.{Lengths, TooMany, Range, Order, Cells, Room}
@@ -20,7 +21,7 @@ use Rattle.frame.specs.declared.Frame.{Frame}
 use Rattle.frame.specs.declared.Built.{Built}
 use Rattle.frame.specs.declared.Built.the-variants as Built·cases
 use Rattle.frame.specs.Distance.{spotOf, nearOf, frameOk, spotOk}
-use Rattle.frame.specs.Laying.{gridOf, cellAt, placeAt, plainOf, crowded}
+use Rattle.frame.specs.Laying.{gridOf, cellAt, plainOf, crowded, homeAt}
 
 -- everything that a build is given; the last three are lent to be written
 pub record Given : Type 0 where
@@ -46,10 +47,6 @@ seenBuilt (Built·cases.Answered p c f) = answered (record { pairs = p; checks =
 seenBuilt (Built·cases.Refused r) = refusedBy r
 
 -- ---- which pairs there are
--- how many atoms: three coordinates each
-abbrev pub atomsOf : List ℕ → ℕ
-atomsOf xs = length xs / 3
-
 -- two atoms are excluded where the table has the row low, high; they are near where their distance is within the radius
 unfoldable pub sceneOf : Frame → List ℕ → List ℕ → Scene
 sceneOf f xs table =
@@ -81,10 +78,10 @@ unfoldable pub rangesOk : Frame → List ℕ → Bool
 rangesOk f xs = frameOk f && every (λ k. spotOk f (spotOf xs k)) (upTo (atomsOf xs))
 
 -- 1, 2, 3, 5
-unfoldable pub askedOf : Frame → List ℕ → List ℕ → ℕ → Done
-askedOf f xs table items =
+unfoldable pub frameAsked : Frame → List ℕ → List ℕ → ℕ → Done
+frameAsked f xs table items =
     cond (lengthsBad (length xs) (length table) items) (Done·cases.Refused Lengths)
-    (cond (ltb 16384 (atomsOf xs)) (Done·cases.Refused (TooMany (atomsOf xs)))
+    (cond (ltb mostAtoms (atomsOf xs)) (Done·cases.Refused (TooMany (atomsOf xs)))
     (cond (not (rangesOk f xs)) (Done·cases.Refused Range) (cond (not (isTable (rows table))) (Done·cases.Refused Order) Done·cases.Answered)))
 
 -- ---- the outcome
@@ -117,10 +114,10 @@ runOf i starts items fallback =
 
 -- the grid tables: where each cell's atoms start, and the atoms cell by cell; what lies past them stays
 abbrev pub startsLaid : Frame → List ℕ → List ℕ → List ℕ
-startsLaid f xs starts = startsOf (placeAt f xs) (atomsOf xs) (cells (gridOf f)) ++ drop (cells (gridOf f) + 1) starts
+startsLaid f xs starts = startsOf (homeAt f xs) (atomsOf xs) (cells (gridOf f)) ++ drop (cells (gridOf f) + 1) starts
 
 abbrev pub itemsLaid : Frame → List ℕ → List ℕ → List ℕ
-itemsLaid f xs items = itemsOf (placeAt f xs) (atomsOf xs) (cells (gridOf f)) ++ drop (atomsOf xs) items
+itemsLaid f xs items = itemsOf (homeAt f xs) (atomsOf xs) (cells (gridOf f)) ++ drop (atomsOf xs) items
 
 -- Below two atoms nothing is listed, checked or laid, and it is no fallback. The fallback rules come before refusal 7.
 unfoldable pub afterOf : Given → Done → Outcome
@@ -132,7 +129,7 @@ afterOf i Done·cases.Answered =
     (runOf i (startsLaid (i .frame) (i .coordinates) (i .starts)) (itemsLaid (i .frame) (i .coordinates) (i .items)) false)))
 
 unfoldable pub buildOf : Given → Outcome
-buildOf i = afterOf i (askedOf (i .frame) (i .coordinates) (i .exclusions) (length (i .items)))
+buildOf i = afterOf i (frameAsked (i .frame) (i .coordinates) (i .exclusions) (length (i .items)))
 
 -- The contract of `build`: what the answer shows, and what everything lent holds at exit.
 abbrev pub BuildSays : Given → Built → List ℕ → List ℕ → List ℕ → Type 0

@@ -32,8 +32,8 @@ cellOf f a = record { x = binIn (f .x) (f .radius) (a .x); y = binIn (f .y) (f .
 abbrev pub cellAt : Frame → List ℕ → ℕ → Cell
 cellAt f xs i = cellOf f (spotOf xs i)
 
-abbrev pub placeAt : Frame → List ℕ → ℕ → ℕ
-placeAt f xs i = flatten (gridOf f) (cellAt f xs i)
+abbrev pub homeAt : Frame → List ℕ → ℕ → ℕ
+homeAt f xs i = flatten (gridOf f) (cellAt f xs i)
 
 -- "any periodic axis has floor(width/radius) below 3"
 unfoldable pub narrow : Side → ℕ → Bool

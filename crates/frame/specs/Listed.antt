@@ -4,13 +4,14 @@ use mathlib.Core.Path.{_≡_}
 use mathlib.Core.Bool.{false, not, _&&_}
 use mathlib.Core.List.{List}
 use lib.ListN.{take}
+use Rattle.lists.specs.Atoms.{atomsOf}
 use Rattle.answer.specs.Seen.{answered}
 use Rattle.lists.specs.Exact.{Exactly}
 use Rattle.lists.specs.Lists.{howMany, allPairs, rows, Two}
 use Rattle.exclusions.specs.Table.{isRow}
 use Rattle.frame.specs.declared.Built.{Built}
 use Rattle.frame.specs.Distance.{spotOf, squareOf, squaredOf}
-use Rattle.frame.specs.Build.{Given, Counts, seenBuilt, atomsOf, beside}
+use Rattle.frame.specs.Build.{Given, Counts, seenBuilt, beside}
 
 -- "exactly the unexcluded pairs whose exact nearest-image squared distance is at most the squared radius": bins excuse nothing
 abbrev pub Close : Given → ℕ × ℕ → Type 0

@@ -12,7 +12,7 @@ use Rattle.bins.specs.Traversal.{bin}
 use Rattle.bins.specs.declared.Tally.{Tally}
 use Rattle.bins.specs.Listing.{Scene, listOf}
 use Rattle.exclusions.specs.Table.{lookedUp}
-use Rattle.checks.specs.Checks.{lazy}
+use Rattle.candidates.specs.Checks.{lazy}
 use Rattle.frame.specs.declared.Frame.{Frame}
 use Rattle.frame.specs.declared.Spot.{Spot}
 use Rattle.frame.specs.declared.laying.Plan.{Plan}

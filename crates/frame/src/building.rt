@@ -57,7 +57,7 @@ fn run_plain(f: Frame, xs: &[u32], table: &[u32], pairs: &mut [u32]) -> Built
         },
         n,
     );
-    let excluded = checks::kernel::rows_below(table, n as usize);
+    let excluded = candidates::kernel::rows_below(table, n as usize);
     finish(t, excluded, pairs.len() / 2, true)
 }
 

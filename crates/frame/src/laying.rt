@@ -11,11 +11,11 @@ ghost use lib.ListN.{length};
 ghost use Rattle.bins.specs.Edge.{binsOn, binOn};
 ghost use Rattle.bins.specs.Stencil.{flatten, cells};
 ghost use Rattle.bins.specs.Sort.{startsAfter, itemsAfter};
-ghost use Rattle.checks.specs.Checks.{cellIn, rowsTouching};
+ghost use Rattle.candidates.specs.Checks.{cellIn, rowsTouching};
 ghost use Rattle.lists.specs.Lists.{rows};
 ghost use Rattle.lists.specs.Loops.{mapAt};
 ghost use Rattle.frame.specs.Distance.{spotOf};
-ghost use Rattle.frame.specs.Laying.{gridOf, cellAt, cellOf, narrow, placeAt};
+ghost use Rattle.frame.specs.Laying.{gridOf, cellAt, cellOf, narrow, homeAt};
 ghost use Rattle.frame.specs.Build.{startsLaid, itemsLaid};
 ghost use Rattle.frame.specs.Steps.{Sized, Inside, Framed, Gridded, planOf};
 
@@ -127,7 +127,7 @@ pub(crate) fn spot_at(xs: &[u32], i: usize) -> Spot
 fn bin_atoms(f: Frame, g: Grid, xs: &[u32], places: &mut [u32])
     requires { ⌜ Framed f (now xs) × Gridded f g ⌝ }
     requires { ⌜ length (now places) ≤ length (now xs) / 3 ⌝ }
-    ensures { λ _. ⌜ now (places .exit) ≡ mapAt (λ i _. placeAt f (now (xs .entry)) i) (now (places .entry)) ⌝ }
+    ensures { λ _. ⌜ now (places .exit) ≡ mapAt (λ i _. homeAt f (now (xs .entry)) i) (now (places .entry)) ⌝ }
 {
     let mut i = 0;
     while i < places.len() {
@@ -152,7 +152,7 @@ fn sort_in(g: Grid, places: &[u32], table: &[u32], starts: &mut [u32], items: &m
 {
     let count = bins::kernel::cell_count(g) as usize;
     bins::kernel::sort(places, count, starts, items);
-    checks::kernel::rows_touching(g, places, table)
+    candidates::kernel::rows_touching(g, places, table)
 }
 
 // The atoms sorted by their cells into the lent tables; and the exclusion rows whose atoms' cells touch: only here are the atoms' places at hand.

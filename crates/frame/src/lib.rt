@@ -4,12 +4,12 @@ use answer::Done;
 use answer::Refusal;
 use answer::Whole;
 
+mod asked;
 mod building;
 mod distance;
 mod laying;
 mod listing;
 mod sweep;
-mod tests;
 
 ghost use Rattle.frame.specs.Build.{given, BuildSays};
 ghost use Rattle.frame.specs.Distance.{SquaredSays};
@@ -50,13 +50,13 @@ pub enum Built {
 pub fn squared_distance(f: Frame, a: Spot, b: Spot) -> Whole
     ensures { λ r. ⌜ SquaredSays f a b r ⌝ }
 {
-    if !tests::frame_ok(f) {
+    if !asked::frame_ok(f) {
         return Whole::Refused(Refusal::Range);
     }
-    if !tests::spot_ok(f, a) {
+    if !asked::spot_ok(f, a) {
         return Whole::Refused(Refusal::Range);
     }
-    if !tests::spot_ok(f, b) {
+    if !asked::spot_ok(f, b) {
         return Whole::Refused(Refusal::Range);
     }
     Whole::Answered(distance::squared(f, a, b))
@@ -74,7 +74,7 @@ pub fn build(
     ensures says { λ r. ⌜ BuildSays (given f (now (coordinates .entry)) (now (exclusions .entry)) (now (pairs .entry)) (now (starts .entry)) (now (items .entry))) r (now (pairs .exit)) (now (starts .exit)) (now (items .exit)) ⌝ }
     ensures lists { λ r. ⌜ BuildLists (given f (now (coordinates .entry)) (now (exclusions .entry)) (now (pairs .entry)) (now (starts .entry)) (now (items .entry))) r (now (pairs .exit)) ⌝ }
 {
-    let a = tests::asked(f, coordinates, exclusions, items.len());
+    let a = asked::asked(f, coordinates, exclusions, items.len());
     if let Done::Refused(why) = a {
         return Built::Refused(why);
     }

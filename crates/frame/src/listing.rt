@@ -10,7 +10,7 @@ ghost use Prim.Native.Nat.{_+_, _-_, _/_, _≤_, _<_};
 ghost use lib.ListN.{length};
 ghost use Rattle.lists.specs.Lists.{numbers, ordered, withEach, inside, across, allPairs};
 ghost use Rattle.bins.specs.Listing.{considerOf, Ready, Below};
-ghost use Rattle.checks.specs.Steps.{judged};
+ghost use Rattle.candidates.specs.Steps.{judged};
 ghost use Rattle.frame.specs.Distance.{spotOf};
 ghost use Rattle.frame.specs.Steps.{Framed, sceneBy, Lists};
 

@@ -1,3 +1,4 @@
+pub mod Atoms
 pub mod Exact
 pub mod Lists
 pub mod Loops

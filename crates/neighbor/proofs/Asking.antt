@@ -10,31 +10,31 @@ use lib.Seq.{take-all, length-take-le}
 use lib.Dec.{eqb, ltb}
 use lib.Ieee.{Float, lt, le}
 use borrow.Author.Tests.{lt-ltb, le-ltb, ltb-false, eqb-true, not-true, not-false}
+use Rattle.float.specs.Literals.{half}
 use Rattle.answer.specs.declared.Done.{Done}
 use Rattle.answer.specs.declared.Done.the-variants.{Answered, Refused}
 use Rattle.answer.specs.declared.Refusal.{Refusal}
 use Rattle.answer.specs.declared.Refusal.the-variants.{Lengths, TooMany, Range, NotThere, Order, Claims}
 use Rattle.answer.specs.Seen.{answered, refusedBy}
 use Rattle.float.specs.Arith.{_⊗_, bits}
-use Rattle.ranges.specs.Range.{within}
+use Rattle.ranges.specs.Ranged.{within}
 use Rattle.lists.specs.Lists.{numbers, upTo, some, every, rows}
 use Rattle.lists.proofs.Cases.{or-neither}
 use Rattle.lists.proofs.Walks.{numbers-next, numbers-end}
-use Rattle.rows.specs.Rows.{absentOf}
+use Rattle.ranges.specs.Rows.{absentOf}
 use Rattle.cell.specs.declared.Cell.{Cell}
 use Rattle.cell.specs.declared.Image.{Image}
-use Rattle.cell.specs.Vec.{subOf, norm2Of}
-use Rattle.cell.specs.Range.{entryLimit, cellInRange}
-use Rattle.prepared.specs.declared.Prepared.{Prepared}
-use Rattle.prepared.specs.Facts.{prepareOf}
-use Rattle.prepared.proofs.Law.{prepared-image}
+use Rattle.cell.specs.Vec.{subOf, norm2Of, positionAt}
+use Rattle.cell.specs.Ranged.{entryLimit, cellInRange}
+use Rattle.cell_prepared.specs.declared.Prepared.{Prepared}
+use Rattle.cell_prepared.specs.Facts.{prepareOf}
+use Rattle.cell_prepared.proofs.Law.{prepared-image}
 use Rattle.exclusions.specs.Table.{isTable}
-use Rattle.grid.specs.Grid.{spotOf}
 use Rattle.neighbor.specs.declared.State.{State}
 use Rattle.neighbor.specs.State.{settingsOk, skinOf}
 use Rattle.neighbor.specs.Steps.{strayed}
-use Rattle.neighbor.specs.Rebuild.{half, allowance, movedOf, needsOf, claimsMore, referencesOk, rangesOk, questionOf, needsSeen}
-use Rattle.neighbor.specs.Update.{lengthsBad, listedOf, firstOf, misnamed, keptAsked, tableAsked, andThen, askedOf}
+use Rattle.neighbor.specs.Rebuild.{allowance, needsOf, claimsMore, referencesOk, rangesOk, questionOf, needsSeen, strayedOf}
+use Rattle.neighbor.specs.Update.{lengthsBad, listedOf, firstOf, misnamed, keptAsked, tableAsked, andThen, listAsked}
 
 impossible : {A : Type 0} → _≡_ {A = ℕ} 0 1 → A
 impossible e = absurd (omega arith)
@@ -156,12 +156,12 @@ module _ (table : List ℕ) {t : Bool} (is : t ≡ isTable (rows table)) where
   table-bad h = rw (← is, h)
 
 module _ (may : Bool) (s : State) (cell : Cell) (xs : List Float) (table pairs : List ℕ) (refs : List Float) (items : ℕ) {d : Done} (is : d ≡ firstOf s cell xs (length table) (length pairs) (length refs) items) where
-  pub asked-refused : {r : Refusal} → d ≡ Refused r → Refused r ≡ askedOf may s cell xs table pairs refs items
-  unfolding askedOf andThen
+  pub asked-refused : {r : Refusal} → d ≡ Refused r → Refused r ≡ listAsked may s cell xs table pairs refs items
+  unfolding listAsked andThen
   asked-refused q = rw (← is, q)
 
-  pub asked-on : d ≡ Answered → {e : Done} → e ≡ andThen (cond may (keptAsked s (length xs / 3) pairs refs) Answered) (tableAsked table) → e ≡ askedOf may s cell xs table pairs refs items
-  unfolding askedOf andThen
+  pub asked-on : d ≡ Answered → {e : Done} → e ≡ andThen (cond may (keptAsked s (length xs / 3) pairs refs) Answered) (tableAsked table) → e ≡ listAsked may s cell xs table pairs refs items
+  unfolding listAsked andThen
   asked-on q p = rw (← is, q) p
 
 -- ---- single tests
@@ -193,13 +193,13 @@ module _ (s : State) (cell : Cell) (xs refs : List Float) {b : Bool} (ib : b ≡
     unfolding needsOf
     needs-none e = rw (← ib, not-false b h, ← is, e)
 
-    moved-at : {p : Prepared} → p ≡ prepareOf cell → (k : ℕ) → strayed p ((half ⊗ skin) ⊗ (half ⊗ skin)) (spotOf xs k) (spotOf refs k) ≡ movedOf s cell xs refs k
-    unfolding movedOf allowance strayed
+    moved-at : {p : Prepared} → p ≡ prepareOf cell → (k : ℕ) → strayed p ((half ⊗ skin) ⊗ (half ⊗ skin)) (positionAt xs k) (positionAt refs k) ≡ strayedOf s cell xs refs k
+    unfolding strayedOf allowance strayed
     moved-at ip k =
-        rw (ip, is) (ap (λ (v : Image). lt ((half ⊗ skinOf s) ⊗ (half ⊗ skinOf s)) (norm2Of (v .diff))) (prepared-image cell (subOf (spotOf xs k) (spotOf refs k))))
+        rw (ip, is) (ap (λ (v : Image). lt ((half ⊗ skinOf s) ⊗ (half ⊗ skinOf s)) (norm2Of (v .diff))) (prepared-image cell (subOf (positionAt xs k) (positionAt refs k))))
 
     pub needs-moved : le skin (bits 0) ≡ false → {r : Bool} {p : Prepared} → p ≡ prepareOf cell
-        → r ≡ some (λ k. strayed p ((half ⊗ skin) ⊗ (half ⊗ skin)) (spotOf xs k) (spotOf refs k)) (upTo (length xs / 3)) → r ≡ needsOf s cell xs refs
+        → r ≡ some (λ k. strayed p ((half ⊗ skin) ⊗ (half ⊗ skin)) (positionAt xs k) (positionAt refs k)) (upTo (length xs / 3)) → r ≡ needsOf s cell xs refs
     unfolding needsOf
     needs-moved e ip q = rw (← ib, not-false b h, ← is, e) (q ∙ (λ i. some (λ k. moved-at ip k i) (upTo (length xs / 3))))
 

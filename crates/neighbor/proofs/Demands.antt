@@ -9,6 +9,7 @@ use lib.ListN.{length}
 use lib.Dec.{ltb, leb}
 use lib.Ieee.{Float}
 use borrow.Author.Tests.{ltb-true, leb-true}
+use Rattle.lists.specs.Atoms.{atomsOf}
 use Rattle.answer.specs.declared.Done.{Done}
 use Rattle.answer.specs.declared.Done.the-variants.{Answered, Refused}
 use Rattle.answer.specs.declared.Refusal.the-variants.{Lengths}
@@ -23,13 +24,13 @@ use Rattle.bins.specs.Listing.{Chosen, laidOf}
 use Rattle.bins.proofs.Laid.{laid-rows}
 use Rattle.bins.proofs.Found.{plain-found, binned-found}
 use Rattle.exclusions.specs.Table.{isRow}
-use Rattle.grid.specs.Grid.{atomsOf, gridOf, cellAt, plainOf, crowded}
-use Rattle.grid.specs.Layout.{startsLaid, itemsLaid}
-use Rattle.grid.proofs.Layouts.{good-grid, placed}
-use Rattle.listing.specs.declared.Listed.{Listed as Told}
-use Rattle.listing.specs.declared.Listed.the-variants.{Found, Full, Crowded, Unfit}
-use Rattle.listing.specs.Found.{nearOf, sceneOf, candidates, nearPairs, beside, checksOf}
-use Rattle.listing.specs.Listed.{Outcome as Found·outcome, outcome, shownOf, runOf, unlisted, listedOf}
+use Rattle.neighbor_grid.specs.Grid.{gridOf, cellAt, plainOf, crowded}
+use Rattle.neighbor_grid.specs.Layout.{startsLaid, itemsLaid}
+use Rattle.neighbor_grid.proofs.Layouts.{good-grid, placed}
+use Rattle.neighbor_listing.specs.declared.Listed.{Listed as Told}
+use Rattle.neighbor_listing.specs.declared.Listed.the-variants.{Found, Full, Crowded, Unfit}
+use Rattle.neighbor_listing.specs.Found.{nearOf, sceneOf, candidates, nearPairs, beside, checksOf}
+use Rattle.neighbor_listing.specs.Listed.{Outcome as Found·outcome, outcome, shownOf, runOf, unlisted, listingOf}
 use Rattle.neighbor.specs.declared.State.{State}
 use Rattle.neighbor.specs.declared.Updated.{Updated}
 use Rattle.neighbor.specs.State.{radiusOf, builtOf}
@@ -112,8 +113,8 @@ module _ (i : Given) where
       (λ e. found-lists fallback starts items (leb-true (length found) (length (i .pairs) / 2) e))
       (λ _ q. never q)
 
-  list-lists : Says i (listedBy i (listedOf (i .cell) (radiusOf (i .state)) (i .positions) (i .exclusions) (i .pairs) (i .starts) (i .items)))
-  unfolding listedOf listedAll
+  list-lists : Says i (listedBy i (listingOf (i .cell) (radiusOf (i .state)) (i .positions) (i .exclusions) (i .pairs) (i .starts) (i .items)))
+  unfolding listingOf listedAll
   list-lists =
       by-test (λ t. Says i (listedBy i (fits t))) (unlisted (i .positions) (i .exclusions) (i .items)) (λ _ q. never q)
       (λ _.
@@ -137,7 +138,7 @@ module _ (i : Given) where
   rebuilt-lists : Says i (rebuiltAll i)
   unfolding rebuiltAll
   rebuilt-lists =
-      by-test (λ t. Says i (cond t (builtAll i 0 0 false (i .pairs) (i .starts) (i .items)) (listedBy i (listedOf (i .cell) (radiusOf (i .state)) (i .positions) (i .exclusions) (i .pairs) (i .starts) (i .items)))))
+      by-test (λ t. Says i (cond t (builtAll i 0 0 false (i .pairs) (i .starts) (i .items)) (listedBy i (listingOf (i .cell) (radiusOf (i .state)) (i .positions) (i .exclusions) (i .pairs) (i .starts) (i .items)))))
       (ltb (atomsOf (i .positions)) 2)
       (λ e. few-lists i (ltb-true (atomsOf (i .positions)) 2 e))
       (λ _. list-lists)

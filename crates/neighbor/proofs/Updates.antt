@@ -8,6 +8,7 @@ use lib.ListN.{length}
 use lib.Dec.{ltb}
 use lib.Ieee.{Float}
 use borrow.Author.Tests.{lt-ltb, le-ltb, ltb-false, not-true, not-false}
+use Rattle.lists.specs.Atoms.{atomsOf}
 use Rattle.float.specs.Arith.{at}
 use Rattle.answer.specs.declared.Done.{Done}
 use Rattle.answer.specs.declared.Done.the-variants.{Answered, Refused}
@@ -15,10 +16,9 @@ use Rattle.answer.specs.declared.Refusal.{Refusal}
 use Rattle.answer.specs.declared.Refusal.the-variants.{Lengths, Cells, Room}
 use Rattle.lists.specs.Loops.{partAt}
 use Rattle.lists.proofs.Cases.{or-neither}
-use Rattle.grid.specs.Grid.{atomsOf}
-use Rattle.listing.specs.declared.Listed.{Listed}
-use Rattle.listing.specs.declared.Listed.the-variants.{Found, Full, Crowded, Unfit}
-use Rattle.listing.specs.Listed.{outcome, listedOf}
+use Rattle.neighbor_listing.specs.declared.Listed.{Listed}
+use Rattle.neighbor_listing.specs.declared.Listed.the-variants.{Found, Full, Crowded, Unfit}
+use Rattle.neighbor_listing.specs.Listed.{outcome, listingOf}
 use Rattle.neighbor.specs.declared.State.{State}
 use Rattle.neighbor.specs.declared.Updated.{Updated}
 use Rattle.neighbor.specs.State.{radiusOf, keptOf, builtOf, emptiedOf}
@@ -44,7 +44,7 @@ module _ (i : Given) where
   rebuilt-few h e q = rw (lt-ltb (length (i .positions) / 3) 2 h, e, q)
 
   module _ (many : 2 ≤ length (i .positions) / 3) {found : Listed} {radius : Float} (er : radius ≡ radiusOf (i .state)) {p s t : List ℕ}
-      (is : outcome found p s t ≡ listedOf (i .cell) radius (i .positions) (i .exclusions) (i .pairs) (i .starts) (i .items)) where
+      (is : outcome found p s t ≡ listingOf (i .cell) radius (i .positions) (i .exclusions) (i .pairs) (i .starts) (i .items)) where
     pub rebuilt-found : {count checks : ℕ} {fallback : Bool} → found ≡ Found count checks fallback → {r : Updated} {refs : List Float}
         → r ≡ answeredBy (i .state) (length (i .positions) / 3) count checks fallback → refs ≡ referred i → shown r p refs s t ≡ rebuiltAll i
     unfolding rebuiltAll listedAll builtAll

@@ -4,11 +4,11 @@ use mathlib.Core.Path.{_≡_}
 use mathlib.Core.Bool.{true, false, not, _&&_}
 use mathlib.Core.List.{List}
 use lib.ListN.{take}
+use Rattle.lists.specs.Atoms.{atomsOf}
 use Rattle.lists.specs.Exact.{Exactly}
 use Rattle.lists.specs.Lists.{howMany, allPairs, rows, Two}
 use Rattle.exclusions.specs.Table.{isRow}
-use Rattle.grid.specs.Grid.{atomsOf}
-use Rattle.listing.specs.Found.{nearOf, beside}
+use Rattle.neighbor_listing.specs.Found.{nearOf, beside}
 use Rattle.neighbor.specs.declared.State.{State}
 use Rattle.neighbor.specs.declared.Updated.{Updated}
 use Rattle.neighbor.specs.State.{radiusOf}

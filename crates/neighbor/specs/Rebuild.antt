@@ -7,35 +7,32 @@ use mathlib.Core.List.{List}
 use lib.ListN.{length, take}
 use lib.Dec.{eqb, ltb}
 use lib.Ieee.{Float, lt, le}
+use Rattle.lists.specs.Atoms.{atomsOf, mostAtoms}
+use Rattle.float.specs.Literals.{half}
 use Rattle.float.specs.Arith.{_⊗_, bits}
 use Rattle.lists.specs.Lists.{upTo, some, every}
-use Rattle.ranges.specs.Range.{within}
+use Rattle.ranges.specs.Ranged.{within}
 use Rattle.answer.specs.declared.Done.{Done}
 use Rattle.answer.specs.declared.Done.the-variants.{Answered, Refused}
 use Rattle.answer.specs.declared.Refusal.the-variants.{Lengths, TooMany, Range, Claims}
 use Rattle.answer.specs.declared.YesNo.{YesNo}
 use Rattle.answer.specs.Seen.{Seen, answered, refusedBy, seenYesNo}
 use Rattle.cell.specs.declared.Cell.{Cell}
-use Rattle.cell.specs.Vec.{subOf, norm2Of}
+use Rattle.cell.specs.Vec.{subOf, norm2Of, positionAt}
 use Rattle.cell.specs.Cell.{imageOf}
-use Rattle.cell.specs.Range.{entryLimit, cellInRange}
-use Rattle.grid.specs.Grid.{spotOf, atomsOf}
+use Rattle.cell.specs.Ranged.{entryLimit, cellInRange}
 use Rattle.neighbor.specs.declared.State.{State}
 use Rattle.neighbor.specs.State.{settingsOk, skinOf}
-
--- `limit * limit` of `0.5 * self.skin` (138-139)
-abbrev pub half : Float
-half = bits 0x3fe0_0000_0000_0000
 
 unfoldable pub allowance : State → Float
 allowance s = (half ⊗ skinOf s) ⊗ (half ⊗ skinOf s)
 
 -- an atom's squared displacement exceeds it (141-142)
-unfoldable pub movedOf : State → Cell → List Float → List Float → ℕ → Bool
-movedOf s cell xs refs k = lt (allowance s) (norm2Of (imageOf (subOf (spotOf xs k) (spotOf refs k)) cell .diff))
+unfoldable pub strayedOf : State → Cell → List Float → List Float → ℕ → Bool
+strayedOf s cell xs refs k = lt (allowance s) (norm2Of (imageOf (subOf (positionAt xs k) (positionAt refs k)) cell .diff))
 
 unfoldable pub needsOf : State → Cell → List Float → List Float → Bool
-needsOf s cell xs refs = not (eqb (s .references) (atomsOf xs)) || (le (skinOf s) (bits 0) || some (movedOf s cell xs refs) (upTo (atomsOf xs)))
+needsOf s cell xs refs = not (eqb (s .references) (atomsOf xs)) || (le (skinOf s) (bits 0) || some (strayedOf s cell xs refs) (upTo (atomsOf xs)))
 
 -- ---- the tests
 -- 6: "list state claims more pairs or references than the lent room"
@@ -54,7 +51,7 @@ rangesOk s cell xs = settingsOk (s .cutoff) (s .skin) && cellInRange cell && eve
 unfoldable pub questionOf : State → Cell → List Float → List Float → Done
 questionOf s cell xs refs =
     cond (not (eqb (length xs % 3) 0) || ltb (length refs) (length xs)) (Refused Lengths)
-    (cond (ltb 16384 (atomsOf xs)) (Refused (TooMany (atomsOf xs)))
+    (cond (ltb mostAtoms (atomsOf xs)) (Refused (TooMany (atomsOf xs)))
     (cond (claimsMore 0 0 (s .references) (length refs / 3)) (Refused Claims)
     (cond (not (rangesOk s cell xs && referencesOk s (atomsOf xs) refs)) (Refused Range) Answered)))
 

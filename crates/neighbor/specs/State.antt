@@ -6,8 +6,8 @@ use mathlib.Core.Bool.{Bool, false, cond, _&&_}
 use lib.Ieee.{Float}
 use Rattle.float.specs.Arith.{_⊕_, bits}
 use Rattle.float.specs.Def.{maxOf}
-use Rattle.ranges.specs.Range.{within, between}
-use Rattle.cell.specs.Range.{entryLimit}
+use Rattle.ranges.specs.Ranged.{within, between}
+use Rattle.cell.specs.Ranged.{entryLimit}
 use Rattle.answer.specs.Seen.{Seen, answered, refused, refusedBy, seenNumber}
 use Rattle.answer.specs.declared.Number.{Number}
 use Rattle.neighbor.specs.declared.State.{State}

@@ -3,8 +3,8 @@ use mathlib.Core.Bool.{Bool}
 use lib.Ieee.{Float, lt}
 use Rattle.cell.specs.declared.Vec3.{Vec3}
 use Rattle.cell.specs.Vec.{subOf, norm2Of}
-use Rattle.prepared.specs.declared.Prepared.{Prepared}
-use Rattle.prepared.specs.Facts.{imageIn}
+use Rattle.cell_prepared.specs.declared.Prepared.{Prepared}
+use Rattle.cell_prepared.specs.Facts.{imageIn}
 
 -- whether an atom at a, referred to b, has moved further than the limit
 unfoldable pub strayed : Prepared → Float → Vec3 → Vec3 → Bool

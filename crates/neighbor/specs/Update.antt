@@ -7,6 +7,7 @@ use mathlib.Core.List.{List, []}
 use lib.ListN.{length, take}
 use lib.Dec.{eqb, ltb}
 use lib.Ieee.{Float}
+use Rattle.lists.specs.Atoms.{atomsOf, mostAtoms}
 use Rattle.answer.specs.declared.Done.{Done}
 use Rattle.answer.specs.declared.Done.the-variants as Done·cases
 use Rattle.answer.specs.declared.Refusal.{Refusal}
@@ -15,13 +16,12 @@ use Rattle.answer.specs.Seen.{Seen, answered, refusedBy, seenDone}
 use Rattle.float.specs.Arith.{at}
 use Rattle.lists.specs.Lists.{rows}
 use Rattle.lists.specs.Loops.{partAt}
-use Rattle.rows.specs.Rows.{absentOf}
+use Rattle.ranges.specs.Rows.{absentOf}
 use Rattle.cell.specs.declared.Cell.{Cell}
 use Rattle.exclusions.specs.Table.{isTable}
-use Rattle.grid.specs.Grid.{atomsOf}
-use Rattle.listing.specs.declared.Listed.{Listed}
-use Rattle.listing.specs.declared.Listed.the-variants as Listed·cases
-use Rattle.listing.specs.Listed as List·specs
+use Rattle.neighbor_listing.specs.declared.Listed.{Listed}
+use Rattle.neighbor_listing.specs.declared.Listed.the-variants as Listed·cases
+use Rattle.neighbor_listing.specs.Listed as List·specs
 use Rattle.neighbor.specs.declared.State.{State}
 use Rattle.neighbor.specs.declared.Updated.{Updated}
 use Rattle.neighbor.specs.State.{radiusOf, keptOf, builtOf, emptiedOf}
@@ -131,11 +131,11 @@ unfoldable pub rebuiltAll : Given → Outcome
 rebuiltAll i =
     cond (ltb (atomsOf (i .positions)) 2) (builtAll i 0 0 false (i .pairs) (i .starts) (i .items))
     (listedBy i
-    (List·specs.listedOf (i .cell) (radiusOf (i .state)) (i .positions) (i .exclusions) (i .pairs) (i .starts) (i .items)))
+    (List·specs.listingOf (i .cell) (radiusOf (i .state)) (i .positions) (i .exclusions) (i .pairs) (i .starts) (i .items)))
 
 -- what the tests leave no case of
 unfoldable pub unfit : ℕ → ℕ → Bool
-unfit positions references = ltb references positions || ltb 16384 (positions / 3)
+unfit positions references = ltb references positions || ltb mostAtoms (positions / 3)
 
 -- The list brought up to date, after the tests: with the question (neighbor.rs, `maybe_build`) or without it (`build`)
 unfoldable pub updateOf : Bool → Given → Outcome
@@ -157,7 +157,7 @@ listedOf s pairs = cond (ltb (length pairs / 2) (s .pairs)) [] (take (2 * s .pai
 unfoldable pub firstOf : State → Cell → List Float → ℕ → ℕ → ℕ → ℕ → Done
 firstOf s cell xs table pairs refs items =
     cond (lengthsBad (length xs) table refs items) (Done·cases.Refused Lengths)
-    (cond (ltb 16384 (atomsOf xs)) (Done·cases.Refused (TooMany (atomsOf xs)))
+    (cond (ltb mostAtoms (atomsOf xs)) (Done·cases.Refused (TooMany (atomsOf xs)))
     (cond (claimsMore (s .pairs) (pairs / 2) (s .references) (refs / 3)) (Done·cases.Refused Claims)
     (cond (not (rangesOk s cell xs)) (Done·cases.Refused Range) Done·cases.Answered)))
 
@@ -181,13 +181,13 @@ andThen (Done·cases.Refused r) d = Done·cases.Refused r
 andThen Done·cases.Answered d = d
 
 -- 1, 2, 6, 3, 4, 5
-unfoldable pub askedOf : Bool → State → Cell → List Float → List ℕ → List ℕ → List Float → ℕ → Done
-askedOf may s cell xs table pairs refs items =
+unfoldable pub listAsked : Bool → State → Cell → List Float → List ℕ → List ℕ → List Float → ℕ → Done
+listAsked may s cell xs table pairs refs items =
     andThen (firstOf s cell xs (length table) (length pairs) (length refs) items)
     (andThen (cond may (keptAsked s (atomsOf xs) pairs refs) Done·cases.Answered) (tableAsked table))
 
 abbrev pub askedBy : Bool → Given → Done
-askedBy may i = askedOf may (i .state) (i .cell) (i .positions) (i .exclusions) (i .pairs) (i .references) (length (i .items))
+askedBy may i = listAsked may (i .state) (i .cell) (i .positions) (i .exclusions) (i .pairs) (i .references) (length (i .items))
 
 -- ---- the calls
 unfoldable pub afterOf : Bool → Given → Done → Outcome

@@ -6,7 +6,7 @@ use crate::states;
 use answer::Done;
 use answer::Refusal;
 use cell::Cell;
-use listing::Listed;
+use neighbor_listing::Listed;
 ghost use mathlib.Core.Path.{_≡_};
 ghost use Prim.Native.Nat.{_/_, _≤_};
 ghost use lib.ListN.{length};
@@ -57,7 +57,7 @@ fn build(
     if xs.len() / 3 < 2 {
         return answer(s, xs, refs, 0, 0, false);
     }
-    let found = listing::list(cell, states::radius(s), xs, table, pairs, starts, items);
+    let found = neighbor_listing::list(cell, states::radius(s), xs, table, pairs, starts, items);
     match found {
         Listed::Found {
             pairs: count,

@@ -6,10 +6,10 @@ use answer::Refusal;
 use answer::YesNo;
 use cell::Cell;
 
+pub mod asked;
 pub mod kernel;
 mod rebuild;
 mod states;
-pub mod tests;
 
 ghost use mathlib.Core.Path.{_≡_};
 ghost use mathlib.Core.Bool.{true, false};
@@ -46,7 +46,7 @@ pub struct Updated {
 pub fn new(cutoff: f64, skin: f64) -> StateAnswer
     ensures { λ r. ⌜ NewSays cutoff skin r ⌝ }
 {
-    if !tests::settings_ok(cutoff, skin) {
+    if !asked::settings_ok(cutoff, skin) {
         return StateAnswer::Refused(Refusal::Range);
     }
     StateAnswer::Answered(states::fresh(cutoff, skin))
@@ -56,7 +56,7 @@ pub fn new(cutoff: f64, skin: f64) -> StateAnswer
 pub fn search_radius(s: State) -> Number
     ensures { λ r. ⌜ RadiusSays s r ⌝ }
 {
-    if !tests::settings_ok(s.cutoff, s.skin) {
+    if !asked::settings_ok(s.cutoff, s.skin) {
         return Number::Refused(Refusal::Range);
     }
     Number::Answered(states::radius(s))
@@ -73,7 +73,7 @@ pub fn builds_since(s: State, earlier: u32) -> u32
 pub fn needs_rebuild(s: State, cell: Cell, positions: &[f64], references: &[f64]) -> YesNo
     ensures { λ r. ⌜ NeedsSays s cell (now (positions .entry)) (now (references .entry)) r ⌝ }
 {
-    let a = tests::question(s, cell, positions, references);
+    let a = asked::question(s, cell, positions, references);
     if let Done::Refused(why) = a {
         return YesNo::Refused(why);
     }
@@ -94,7 +94,7 @@ pub fn build(
     ensures says { λ r. ⌜ UpdateSays false (given s cell (now (positions .entry)) (now (exclusions .entry)) (now (pairs .entry)) (now (references .entry)) (now (starts .entry)) (now (items .entry))) r (now (pairs .exit)) (now (references .exit)) (now (starts .exit)) (now (items .exit)) ⌝ }
     ensures lists { λ r. ⌜ UpdateLists (given s cell (now (positions .entry)) (now (exclusions .entry)) (now (pairs .entry)) (now (references .entry)) (now (starts .entry)) (now (items .entry))) r (now (pairs .exit)) ⌝ }
 {
-    let a = tests::asked(
+    let a = asked::asked(
         false,
         s,
         cell,
@@ -134,7 +134,7 @@ pub fn maybe_build(
     ensures says { λ r. ⌜ UpdateSays true (given s cell (now (positions .entry)) (now (exclusions .entry)) (now (pairs .entry)) (now (references .entry)) (now (starts .entry)) (now (items .entry))) r (now (pairs .exit)) (now (references .exit)) (now (starts .exit)) (now (items .exit)) ⌝ }
     ensures lists { λ r. ⌜ UpdateLists (given s cell (now (positions .entry)) (now (exclusions .entry)) (now (pairs .entry)) (now (references .entry)) (now (starts .entry)) (now (items .entry))) r (now (pairs .exit)) ⌝ }
 {
-    let a = tests::asked(
+    let a = asked::asked(
         true,
         s,
         cell,

@@ -1,24 +1,24 @@
 // Whether a list must be built anew, and the references that a build leaves.
 use crate::State;
+use crate::asked;
 use crate::states;
-use crate::tests;
 use cell::Cell;
 use cell::Vec3;
 use cell::vectors;
-use prepared::Prepared;
+use cell_prepared::Prepared;
 ghost use mathlib.Core.Path.{_≡_};
 ghost use Prim.Native.Nat.{_/_, _≤_, _<_};
 ghost use lib.ListN.{length};
+ghost use Rattle.cell.specs.Vec.{positionAt};
 ghost use Rattle.float.specs.Arith.{at};
 ghost use Rattle.lists.specs.Lists.{some, upTo};
 ghost use Rattle.lists.specs.Loops.{partAt};
-ghost use Rattle.grid.specs.Grid.{spotOf};
 ghost use Rattle.neighbor.specs.Rebuild.{needsOf};
 ghost use Rattle.neighbor.specs.Steps.{strayed};
 
 fn spot_at(xs: &[f64], i: usize) -> Vec3
     requires { ⌜ i < length (now xs) / 3 ⌝ }
-    ensures { λ r. ⌜ r ≡ spotOf (now (xs .entry)) i ⌝ }
+    ensures { λ r. ⌜ r ≡ positionAt (now (xs .entry)) i ⌝ }
 {
     Vec3 {
         x: xs[3 * i],
@@ -31,14 +31,14 @@ fn spot_at(xs: &[f64], i: usize) -> Vec3
 fn is_far(p: Prepared, limit: f64, a: Vec3, b: Vec3) -> bool
     ensures { λ r. ⌜ r ≡ strayed p limit a b ⌝ }
 {
-    let image = prepared::image_in(p, vectors::sub(a, b));
+    let image = cell_prepared::image_in(p, vectors::sub(a, b));
     let d = image.diff;
     limit < vectors::norm2(d)
 }
 
 fn some_far(p: Prepared, limit: f64, xs: &[f64], refs: &[f64]) -> bool
     requires { ⌜ length (now xs) ≤ length (now refs) ⌝ }
-    ensures { λ r. ⌜ r ≡ some (λ k. strayed p limit (spotOf (now (xs .entry)) k) (spotOf (now (refs .entry)) k)) (upTo (length (now (xs .entry)) / 3)) ⌝ }
+    ensures { λ r. ⌜ r ≡ some (λ k. strayed p limit (positionAt (now (xs .entry)) k) (positionAt (now (refs .entry)) k)) (upTo (length (now (xs .entry)) / 3)) ⌝ }
 {
     let n = xs.len() / 3;
     let mut i = 0;
@@ -56,7 +56,7 @@ pub(crate) fn needs(s: State, cell: Cell, xs: &[f64], refs: &[f64]) -> bool
     requires { ⌜ length (now xs) ≤ length (now refs) ⌝ }
     ensures { λ r. ⌜ r ≡ needsOf s cell (now (xs .entry)) (now (refs .entry)) ⌝ }
 {
-    if !tests::is_same(s.references, xs.len() / 3) {
+    if !asked::is_same(s.references, xs.len() / 3) {
         return true;
     }
     let skin = states::skin(s);
@@ -64,7 +64,7 @@ pub(crate) fn needs(s: State, cell: Cell, xs: &[f64], refs: &[f64]) -> bool
         return true;
     }
     let limit = 0.5 * skin;
-    some_far(prepared::prepare(cell), limit * limit, xs, refs)
+    some_far(cell_prepared::prepare(cell), limit * limit, xs, refs)
 }
 
 // The positions, into the references.

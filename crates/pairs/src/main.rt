@@ -1,4 +1,4 @@
 // The program `pairs`: a job sheet in, its pair list out.
 fn main() {
-    console::run();
+    sheet_console::run();
 }

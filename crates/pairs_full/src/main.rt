@@ -1,4 +1,4 @@
 // `pairs` on a sheet of exactly 65,536 bytes.
 fn main() {
-    console::run();
+    sheet_console::run();
 }

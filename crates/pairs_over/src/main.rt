@@ -1,4 +1,4 @@
 // `pairs` on a sheet of one byte too many.
 fn main() {
-    console::run();
+    sheet_console::run();
 }

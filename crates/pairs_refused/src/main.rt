@@ -1,4 +1,4 @@
 // `pairs` on a sheet whose last line has a digit too many.
 fn main() {
-    console::run();
+    sheet_console::run();
 }

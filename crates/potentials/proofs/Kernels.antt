@@ -7,23 +7,24 @@ use borrow.Author.Tests.{ltb-true, not-false}
 use lib.Dec.{ltb}
 use lib.Ieee.{Float}
 use lib.ListN.{length}
+use Rattle.lists.specs.Atoms.{atomsOf}
 use Rattle.cell.specs.declared.Cell.{Cell}
 use Rattle.cell.specs.declared.Vec3.{Vec3}
 use Rattle.cell.specs.declared.Image.{Image}
-use Rattle.cell.specs.Vec.{subOf}
+use Rattle.cell.specs.Vec.{subOf, positionAt}
 use Rattle.lists.specs.Lists.{upTo, rows}
 use Rattle.lists.proofs.Cases.{and-both}
-use Rattle.prepared.specs.declared.Prepared.{Prepared}
-use Rattle.prepared.specs.Facts.{prepareOf, imageIn}
-use Rattle.prepared.proofs.Law.{prepared-all}
-use Rattle.rows.specs.Rows.{isAbsent}
+use Rattle.cell_prepared.specs.declared.Prepared.{Prepared}
+use Rattle.cell_prepared.specs.Facts.{prepareOf, imageIn}
+use Rattle.cell_prepared.proofs.Law.{prepared-all}
+use Rattle.ranges.specs.Rows.{isAbsent}
 use Rattle.virial.specs.declared.Sum.{Sum}
-use Rattle.virial.specs.Virial.{atomsOf, zeroSum, zeroForces}
-use Rattle.pulls.specs.declared.Lj.{Lj}
-use Rattle.pulls.specs.Pull.{held, Total}
-use Rattle.pulls.specs.Species.{lookBy}
+use Rattle.virial.specs.Virial.{zeroSum, zeroForces}
+use Rattle.potentials_pair.specs.declared.Lj.{Lj}
+use Rattle.potentials_pair.specs.Pull.{held, Total}
+use Rattle.potentials_pair.specs.Species.{lookBy}
 use Rattle.potentials.specs.declared.Bond.{Bond}
-use Rattle.potentials.specs.Terms.{zeroTotal, placeAt, displaced, step, overPairs, ljPair, ljOver, coulombPair, coulombOver, bondStep, bondsOver}
+use Rattle.potentials.specs.Terms.{zeroTotal, displaced, step, overPairs, ljPair, ljOver, coulombPair, coulombOver, bondStep, bondsOver}
 use Rattle.potentials.specs.Steps.{ljStep, coulombStep}
 
 -- both atoms of a pair are there
@@ -33,7 +34,7 @@ both-there n i j e =
     (ltb-true i n (p .0), ltb-true j n (p .1))
 
 -- the difference of two atoms, as the code makes it
-pub displaced-by : (p : Prepared) (xs : List Float) (i j : ℕ) {a b d : Vec3} {r : Image} → a ≡ placeAt xs i → b ≡ placeAt xs j → d ≡ subOf a b → r ≡ imageIn p d → r .diff ≡ displaced (λ v. imageIn p v) xs (i, j)
+pub displaced-by : (p : Prepared) (xs : List Float) (i j : ℕ) {a b d : Vec3} {r : Image} → a ≡ positionAt xs i → b ≡ positionAt xs j → d ≡ subOf a b → r ≡ imageIn p d → r .diff ≡ displaced (λ v. imageIn p v) xs (i, j)
 unfolding displaced
 displaced-by p xs i j A B D R = ap (λ (v : Image). v .diff) (R ∙ ap (imageIn p) (D ∙ ap₂ subOf A B))
 

@@ -7,13 +7,13 @@ use lib.Ieee.{Float}
 use lib.ListN.{length}
 use Rattle.cell.specs.declared.Cell.{Cell}
 use Rattle.lists.specs.Lists.{upTo, rows}
-use Rattle.rows.specs.Rows.{isAbsent}
+use Rattle.ranges.specs.Rows.{isAbsent}
 use Rattle.virial.proofs.Forces.{zeros-length, pair-length}
-use Rattle.pulls.specs.declared.Lj.{Lj}
-use Rattle.pulls.specs.declared.Mixed.{Mixed}
-use Rattle.pulls.specs.declared.Pull.{Pull}
-use Rattle.pulls.specs.declared.Pull.the-variants.{Skip, Add}
-use Rattle.pulls.specs.Pull.{Total, after}
+use Rattle.potentials_pair.specs.declared.Lj.{Lj}
+use Rattle.potentials_pair.specs.declared.Mixed.{Mixed}
+use Rattle.potentials_pair.specs.declared.Pull.{Pull}
+use Rattle.potentials_pair.specs.declared.Pull.the-variants.{Skip, Add}
+use Rattle.potentials_pair.specs.Pull.{Total, after}
 use Rattle.potentials.specs.declared.Bond.{Bond}
 use Rattle.potentials.specs.Terms.{zeroTotal, step, overPairs, ljOver, coulombOver, bondStep, bondsOver}
 

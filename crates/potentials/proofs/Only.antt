@@ -8,7 +8,7 @@ use Rattle.cell.specs.declared.Cell.{Cell}
 use Rattle.virial.specs.declared.Summed.{Summed}
 use Rattle.virial.specs.declared.Units.{Units}
 use Rattle.virial.proofs.Only.{summed-only}
-use Rattle.pulls.specs.declared.Lj.{Lj}
+use Rattle.potentials_pair.specs.declared.Lj.{Lj}
 use Rattle.potentials.specs.declared.Bond.{Bond}
 use Rattle.potentials.specs.declared.LjAnswer.{LjAnswer}
 use Rattle.potentials.specs.declared.LjAnswer.the-variants as LjAnswer·cases

@@ -14,11 +14,11 @@ use Rattle.cell.specs.declared.Cell.{Cell}
 use Rattle.virial.specs.declared.Sum.{Sum}
 use Rattle.virial.specs.declared.Summed.the-variants as Summed·cases
 use Rattle.virial.specs.Calls.{fewAtoms}
-use Rattle.pulls.specs.declared.Lj.{Lj}
-use Rattle.pulls.specs.declared.Mixed.{Mixed}
-use Rattle.pulls.specs.Pull.{held, Total}
-use Rattle.pulls.specs.Species.{lookBy, lookOf, rising}
-use Rattle.pulls.proofs.Lookup.{looks-all}
+use Rattle.potentials_pair.specs.declared.Lj.{Lj}
+use Rattle.potentials_pair.specs.declared.Mixed.{Mixed}
+use Rattle.potentials_pair.specs.Pull.{held, Total}
+use Rattle.potentials_pair.specs.Species.{lookBy, lookOf, rising}
+use Rattle.potentials_pair.proofs.Lookup.{looks-all}
 use Rattle.potentials.specs.Terms.{ljOver}
 use Rattle.potentials.specs.Calls.{askedBy, ljAsked, outcomeOf, left}
 

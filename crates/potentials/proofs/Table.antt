@@ -10,13 +10,13 @@ use lib.ListN.{length, getD, set, length-set, replicate, length-replicate, getD-
 use lib.Seq.{getD-set-same, getD-set-other}
 use Rattle.float.specs.Arith.{at}
 use Rattle.cell.specs.declared.Vec3.{Vec3}
-use Rattle.pulls.specs.declared.Lj.{Lj}
-use Rattle.pulls.specs.declared.Numbers.{Numbers}
-use Rattle.pulls.specs.declared.Pull.{Pull}
-use Rattle.pulls.specs.Lj.{mixOf, ljNear}
-use Rattle.pulls.specs.Once.{nearBy}
-use Rattle.pulls.specs.Species.{lookBy}
-use Rattle.pulls.proofs.Once.{near-numbers}
+use Rattle.potentials_pair.specs.declared.Lj.{Lj}
+use Rattle.potentials_pair.specs.declared.Numbers.{Numbers}
+use Rattle.potentials_pair.specs.declared.Pull.{Pull}
+use Rattle.potentials_pair.specs.Lj.{mixOf, ljNear}
+use Rattle.potentials_pair.specs.Once.{nearBy}
+use Rattle.potentials_pair.specs.Species.{lookBy}
+use Rattle.potentials_pair.proofs.Once.{near-numbers}
 use Rattle.potentials.specs.Steps.{numbersFor, numbersAt, Kept}
 
 module _ (lj : Lj) (ids : List ℕ) (params : List Float) where

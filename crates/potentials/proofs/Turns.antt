@@ -10,9 +10,9 @@ use Rattle.lists.specs.Lists.{numbers, withEach, rows}
 use Rattle.lists.proofs.Exactness.{ordered-rising}
 use Rattle.lists.proofs.Rows.{rows-at, length-rows}
 use Rattle.lists.proofs.Walks.{fold-next, fold-past}
-use Rattle.prepared.specs.declared.Prepared.{Prepared}
-use Rattle.pulls.specs.declared.Lj.{Lj}
-use Rattle.pulls.specs.Pull.{Total}
+use Rattle.cell_prepared.specs.declared.Prepared.{Prepared}
+use Rattle.potentials_pair.specs.declared.Lj.{Lj}
+use Rattle.potentials_pair.specs.Pull.{Total}
 use Rattle.potentials.specs.Steps.{ljStep, ljTurn, firstAt, secondAt}
 
 module _ {B : Type 0} (f : B → ℕ × ℕ → B) (i : ℕ) where

@@ -6,6 +6,7 @@ use Prim.Native.Nat.{ℕ, _/_, _%_}
 use lib.Dec.{eqb, ltb}
 use lib.Ieee.{Float}
 use lib.ListN.{length}
+use Rattle.lists.specs.Atoms.{atomsOf}
 use Rattle.answer.specs.Seen.{Seen, answered, refusedBy}
 use Rattle.answer.specs.declared.Done.{Done}
 use Rattle.answer.specs.declared.Done.the-variants as Done·cases
@@ -14,23 +15,22 @@ use Rattle.float.specs.Arith.{_⊗_, bits}
 use Rattle.lists.specs.Lists.{every, rows, allPairs}
 use Rattle.cell.specs.declared.Cell.{Cell}
 use Rattle.cell.specs.Calls.{when}
-use Rattle.cell.specs.Range.{cellInRange}
+use Rattle.cell.specs.Ranged.{cellInRange}
 use Rattle.virial.specs.declared.Sum.{Sum}
 use Rattle.virial.specs.declared.Summed.{Summed}
 use Rattle.virial.specs.declared.Units.{Units}
 use Rattle.virial.specs.Calls.{seenSummed, fewAtoms}
-use Rattle.virial.specs.Limits.{unitsInRange}
-use Rattle.virial.specs.Virial.{atomsOf}
-use Rattle.rows.specs.Rows.{absentOf}
-use Rattle.pulls.specs.declared.Lj.{Lj}
-use Rattle.pulls.specs.Pull.{Total}
-use Rattle.pulls.specs.Species.{rising, lookOf}
+use Rattle.virial.specs.Ranged.{unitsInRange}
+use Rattle.ranges.specs.Rows.{absentOf}
+use Rattle.potentials_pair.specs.declared.Lj.{Lj}
+use Rattle.potentials_pair.specs.Pull.{Total}
+use Rattle.potentials_pair.specs.Species.{rising, lookOf}
 use Rattle.potentials.specs.declared.Bond.{Bond}
 use Rattle.potentials.specs.declared.LjAnswer as LjAnswer
 use Rattle.potentials.specs.declared.LjAnswer.the-variants as LjAnswer·cases
 use Rattle.potentials.specs.declared.BondAnswer as BondAnswer
 use Rattle.potentials.specs.declared.BondAnswer.the-variants as BondAnswer·cases
-use Rattle.potentials.specs.Limits.{coordinate, depth, cutoffOk, charge, ljInRange, bondInRange}
+use Rattle.potentials.specs.Ranged.{coordinate, depth, cutoffOk, charge, ljInRange, bondInRange}
 use Rattle.potentials.specs.Terms.{ljOver, coulombOver, bondsOver}
 
 -- ---- terms made of their numbers

@@ -1,4 +1,4 @@
 pub mod Calls
-pub mod Limits
+pub mod Ranged
 pub mod Steps
 pub mod Terms

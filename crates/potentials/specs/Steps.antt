@@ -6,16 +6,16 @@ use Prim.Native.Nat.{ℕ, _+_, _*_, _/_, _%_, _^_, _<_}
 use lib.Dec.{ltb}
 use lib.Ieee.{Float}
 use lib.ListN.{length, getD}
+use Rattle.lists.specs.Atoms.{atomsOf}
 use Rattle.float.specs.Arith.{at}
-use Rattle.prepared.specs.declared.Prepared.{Prepared}
-use Rattle.prepared.specs.Facts.{imageIn}
-use Rattle.virial.specs.Virial.{atomsOf}
-use Rattle.pulls.specs.declared.Lj.{Lj}
-use Rattle.pulls.specs.declared.Numbers.{Numbers}
-use Rattle.pulls.specs.Lj.{mixOf}
-use Rattle.pulls.specs.Once.{numbersOf}
-use Rattle.pulls.specs.Pull.{Total}
-use Rattle.pulls.specs.Species.{lookBy}
+use Rattle.cell_prepared.specs.declared.Prepared.{Prepared}
+use Rattle.cell_prepared.specs.Facts.{imageIn}
+use Rattle.potentials_pair.specs.declared.Lj.{Lj}
+use Rattle.potentials_pair.specs.declared.Numbers.{Numbers}
+use Rattle.potentials_pair.specs.Lj.{mixOf}
+use Rattle.potentials_pair.specs.Once.{numbersOf}
+use Rattle.potentials_pair.specs.Pull.{Total}
+use Rattle.potentials_pair.specs.Species.{lookBy}
 use Rattle.potentials.specs.Terms.{step, ljPair, coulombPair}
 
 unfoldable pub ljStep : Lj → Prepared → List ℕ → List Float → List ℕ → List Float → Total → ℕ × ℕ → Total

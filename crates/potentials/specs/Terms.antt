@@ -4,23 +4,25 @@ use mathlib.Core.List.{List, foldl}
 use Prim.Native.Nat.{ℕ, _+_, _*_}
 use lib.Ieee.{Float}
 use lib.ListN.{length, getD}
+use Rattle.lists.specs.Atoms.{atomsOf}
+use Rattle.float.specs.Literals.{f0}
 use Rattle.float.specs.Arith.{at}
 use Rattle.lists.specs.Lists.{upTo, rows}
 use Rattle.cell.specs.declared.Vec3.{Vec3}
 use Rattle.cell.specs.declared.Cell.{Cell}
 use Rattle.cell.specs.declared.Image.{Image}
-use Rattle.cell.specs.Vec.{subOf}
+use Rattle.cell.specs.Vec.{subOf, positionAt}
 use Rattle.cell.specs.Cell.{imageOf}
-use Rattle.virial.specs.Virial.{f0, atomsOf, zeroSum, zeroForces}
-use Rattle.rows.specs.Rows.{isAbsent}
-use Rattle.pulls.specs.declared.Lj.{Lj}
-use Rattle.pulls.specs.declared.Mixed.{Mixed}
-use Rattle.pulls.specs.declared.Pull.{Pull}
-use Rattle.pulls.specs.declared.Pull.the-variants.{Skip}
-use Rattle.pulls.specs.Pull.{Total, after}
-use Rattle.pulls.specs.Lj.{mixOf, ljPull}
-use Rattle.pulls.specs.Coulomb.{neutral, coulombPull}
-use Rattle.pulls.specs.Bond.{bondPull}
+use Rattle.virial.specs.Virial.{zeroSum, zeroForces}
+use Rattle.ranges.specs.Rows.{isAbsent}
+use Rattle.potentials_pair.specs.declared.Lj.{Lj}
+use Rattle.potentials_pair.specs.declared.Mixed.{Mixed}
+use Rattle.potentials_pair.specs.declared.Pull.{Pull}
+use Rattle.potentials_pair.specs.declared.Pull.the-variants.{Skip}
+use Rattle.potentials_pair.specs.Pull.{Total, after}
+use Rattle.potentials_pair.specs.Lj.{mixOf, ljPull}
+use Rattle.potentials_pair.specs.Coulomb.{neutral, coulombPull}
+use Rattle.potentials_pair.specs.Bond.{bondPull}
 use Rattle.potentials.specs.declared.Bond.{Bond}
 
 -- ---- pairs in their order
@@ -39,13 +41,9 @@ overPairs n pull room l = foldl (step n pull) (zeroTotal room) l
 
 -- ---- how two atoms lie to each other
 
--- positions[i]
-unfoldable pub placeAt : List Float → ℕ → Vec3
-placeAt xs i = record { x = at xs (3 * i); y = at xs (3 * i + 1); z = at xs (3 * i + 2) }
-
 -- lines 134, 260 and 395: min_image(positions[i] - positions[j], cell); `image` is the minimum image in the cell
 unfoldable pub displaced : (Vec3 → Image) → List Float → ℕ × ℕ → Vec3
-displaced image xs p = image (subOf (placeAt xs (p .0)) (placeAt xs (p .1))) .diff
+displaced image xs p = image (subOf (positionAt xs (p .0)) (positionAt xs (p .1))) .diff
 
 -- ---- Lennard-Jones. `look` gives a species' epsilon and sigma
 

@@ -3,15 +3,15 @@ ghost use mathlib.Core.Path.{_≡_};
 ghost use mathlib.Core.List.{foldl};
 ghost use Prim.Native.Nat.{_/_, _<_};
 ghost use lib.ListN.{length};
+ghost use Rattle.lists.specs.Atoms.{atomsOf};
 ghost use Rattle.lists.specs.Lists.{upTo, rows};
-ghost use Rattle.prepared.specs.Facts.{imageIn};
-ghost use Rattle.virial.specs.Virial.{atomsOf};
-ghost use Rattle.pulls.specs.Pull.{held};
+ghost use Rattle.cell_prepared.specs.Facts.{imageIn};
+ghost use Rattle.potentials_pair.specs.Pull.{held};
 ghost use Rattle.potentials.specs.Terms.{bondPair, bondStep};
 use crate::Bond;
 use crate::pairs;
-use prepared::Prepared;
-use pulls::Pull;
+use cell_prepared::Prepared;
+use potentials_pair::Pull;
 use virial::Sum;
 
 fn pair(
@@ -27,10 +27,10 @@ fn pair(
     requires { ⌜ (i < atomsOf (now xs)) × (j < atomsOf (now xs)) ⌝ }
     ensures { λ r. ⌜ r ≡ bondPair (λ d. imageIn p d) bond (now (lengths .entry)) (now (ks .entry)) (now (xs .entry)) b (i, j) ⌝ }
 {
-    let r0 = pulls::kernel::table_at(lengths, b, bond.r0);
-    let k = pulls::kernel::table_at(ks, b, bond.k);
+    let r0 = potentials_pair::kernel::table_at(lengths, b, bond.r0);
+    let k = potentials_pair::kernel::table_at(ks, b, bond.k);
     let d = pairs::displacement(p, xs, i, j);
-    pulls::bonds::pull(k, r0, d)
+    potentials_pair::bonds::pull(k, r0, d)
 }
 
 // Row b added.
@@ -54,7 +54,7 @@ fn one(
         return sum;
     }
     let pull = pair(bond, p, lengths, ks, xs, b, i, j);
-    pulls::kernel::apply(sum, forces, i, j, pull)
+    potentials_pair::kernel::apply(sum, forces, i, j, pull)
 }
 
 // The rows of a table, in order.

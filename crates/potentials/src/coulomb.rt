@@ -2,28 +2,28 @@
 ghost use mathlib.Core.Path.{_≡_};
 ghost use mathlib.Core.List.{foldl};
 ghost use Prim.Native.Nat.{_+_, _-_, _<_};
+ghost use Rattle.lists.specs.Atoms.{atomsOf};
 ghost use Rattle.lists.specs.Lists.{numbers, withEach, allPairs, rows};
-ghost use Rattle.prepared.specs.Facts.{imageIn};
-ghost use Rattle.virial.specs.Virial.{atomsOf};
-ghost use Rattle.pulls.specs.Pull.{held};
+ghost use Rattle.cell_prepared.specs.Facts.{imageIn};
+ghost use Rattle.potentials_pair.specs.Pull.{held};
 ghost use Rattle.potentials.specs.Terms.{coulombPair};
 ghost use Rattle.potentials.specs.Steps.{coulombStep};
 use crate::pairs;
-use prepared::Prepared;
-use pulls::Pull;
+use cell_prepared::Prepared;
+use potentials_pair::Pull;
 use virial::Sum;
 
 fn pair(ke: f64, cutoff: f64, p: Prepared, charges: &[f64], xs: &[f64], i: usize, j: usize) -> Pull
     requires { ⌜ (i < atomsOf (now xs)) × (j < atomsOf (now xs)) ⌝ }
     ensures { λ r. ⌜ r ≡ coulombPair (λ d. imageIn p d) ke cutoff (now (charges .entry)) (now (xs .entry)) (i, j) ⌝ }
 {
-    let a = pulls::kernel::table_at(charges, i, 0.0);
-    let b = pulls::kernel::table_at(charges, j, 0.0);
-    if pulls::coulomb::is_neutral(a, b) {
+    let a = potentials_pair::kernel::table_at(charges, i, 0.0);
+    let b = potentials_pair::kernel::table_at(charges, j, 0.0);
+    if potentials_pair::coulomb::is_neutral(a, b) {
         return Pull::Skip;
     }
     let d = pairs::displacement(p, xs, i, j);
-    pulls::coulomb::pull(ke, cutoff, a, b, d)
+    potentials_pair::coulomb::pull(ke, cutoff, a, b, d)
 }
 
 // One pair added.
@@ -44,7 +44,7 @@ fn one(
         return sum;
     }
     let pull = pair(ke, cutoff, p, charges, xs, i, j);
-    pulls::kernel::apply(sum, forces, i, j, pull)
+    potentials_pair::kernel::apply(sum, forces, i, j, pull)
 }
 
 // The rows of a list, in order.

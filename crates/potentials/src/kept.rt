@@ -2,14 +2,14 @@
 ghost use mathlib.Core.Path.{_≡_};
 ghost use Prim.Native.Nat.{_+_, _*_, _^_, _<_};
 ghost use Rattle.potentials.specs.Steps.{numbersFor, Kept};
-use pulls::Lj;
-use pulls::Numbers;
+use potentials_pair::Lj;
+use potentials_pair::Numbers;
 
 pub(crate) fn numbers_for(ids: &[u32], params: &[f64], lj: Lj, y: u32, z: u32) -> Numbers
     ensures { λ r. ⌜ r ≡ numbersFor lj (now (ids .entry)) (now (params .entry)) y z ⌝ }
 {
-    let m = pulls::species::mixed(ids, params, lj, y, z);
-    pulls::lennard_jones::numbers_of(lj, m)
+    let m = potentials_pair::species::mixed(ids, params, lj, y, z);
+    potentials_pair::lennard_jones::numbers_of(lj, m)
 }
 
 fn key_of(y: u32, z: u32) -> u64

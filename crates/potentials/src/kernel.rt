@@ -2,15 +2,15 @@
 // overwritten with the term's own, from zero. No public call.
 ghost use mathlib.Core.Path.{_≡_};
 ghost use lib.ListN.{length};
+ghost use Rattle.lists.specs.Atoms.{atomsOf};
 ghost use Rattle.lists.specs.Lists.{rows, allPairs};
-ghost use Rattle.virial.specs.Virial.{atomsOf};
-ghost use Rattle.pulls.specs.Species.{lookBy};
-ghost use Rattle.pulls.specs.Pull.{held};
+ghost use Rattle.potentials_pair.specs.Species.{lookBy};
+ghost use Rattle.potentials_pair.specs.Pull.{held};
 ghost use Rattle.potentials.specs.Terms.{ljOver, coulombOver, bondsOver};
 ghost use Rattle.potentials.specs.Calls.{monatomicOf};
 use crate::Bond;
 use cell::Cell;
-use pulls::Lj;
+use potentials_pair::Lj;
 use virial::Sum;
 use virial::Units;
 
@@ -39,7 +39,7 @@ pub fn lj_pairs(
     ensures { λ r. ⌜ held r (now (forces .exit)) ≡ ljOver (lookBy (now (ids .entry)) (now (params .entry)) lj) lj cell (now (species .entry)) (now (positions .entry)) (length (now (forces .entry))) (rows (now (pairs .entry))) ⌝ }
 {
     virial::kernel::clear(forces);
-    let p = prepared::prepare(cell);
+    let p = cell_prepared::prepare(cell);
     let sum = virial::kernel::zero();
     crate::lennard_jones::over(lj, p, ids, params, species, positions, pairs, forces, sum)
 }
@@ -56,7 +56,7 @@ pub fn lj_all(
     ensures { λ r. ⌜ held r (now (forces .exit)) ≡ ljOver (lookBy (now (ids .entry)) (now (params .entry)) lj) lj cell (now (species .entry)) (now (positions .entry)) (length (now (forces .entry))) (allPairs (atomsOf (now (positions .entry)))) ⌝ }
 {
     virial::kernel::clear(forces);
-    let p = prepared::prepare(cell);
+    let p = cell_prepared::prepare(cell);
     let sum = virial::kernel::zero();
     crate::lennard_jones::all(lj, p, ids, params, species, positions, forces, sum)
 }
@@ -73,7 +73,7 @@ pub fn coulomb_pairs(
     ensures { λ r. ⌜ held r (now (forces .exit)) ≡ coulombOver (units .«ke_coulomb») cutoff cell (now (charges .entry)) (now (positions .entry)) (length (now (forces .entry))) (rows (now (pairs .entry))) ⌝ }
 {
     virial::kernel::clear(forces);
-    let p = prepared::prepare(cell);
+    let p = cell_prepared::prepare(cell);
     let sum = virial::kernel::zero();
     crate::coulomb::over(
         units.ke_coulomb,
@@ -98,7 +98,7 @@ pub fn coulomb_all(
     ensures { λ r. ⌜ held r (now (forces .exit)) ≡ coulombOver (units .«ke_coulomb») cutoff cell (now (charges .entry)) (now (positions .entry)) (length (now (forces .entry))) (allPairs (atomsOf (now (positions .entry)))) ⌝ }
 {
     virial::kernel::clear(forces);
-    let p = prepared::prepare(cell);
+    let p = cell_prepared::prepare(cell);
     let sum = virial::kernel::zero();
     crate::coulomb::all(units.ke_coulomb, cutoff, p, charges, positions, forces, sum)
 }
@@ -116,7 +116,7 @@ pub fn bonds_all(
     ensures { λ r. ⌜ held r (now (forces .exit)) ≡ bondsOver bond cell (now (bonds .entry)) (now (lengths .entry)) (now (ks .entry)) (now (positions .entry)) (length (now (forces .entry))) ⌝ }
 {
     virial::kernel::clear(forces);
-    let p = prepared::prepare(cell);
+    let p = cell_prepared::prepare(cell);
     let sum = virial::kernel::zero();
     crate::bonds::over(bond, p, bonds, lengths, ks, positions, forces, sum)
 }

@@ -3,18 +3,18 @@ ghost use mathlib.Core.Path.{_≡_};
 ghost use mathlib.Core.List.{foldl};
 ghost use Prim.Native.Nat.{_-_, _<_};
 ghost use lib.ListN.{getD};
+ghost use Rattle.lists.specs.Atoms.{atomsOf};
 ghost use Rattle.lists.specs.Lists.{numbers, allPairs, rows};
-ghost use Rattle.prepared.specs.Facts.{imageIn};
-ghost use Rattle.virial.specs.Virial.{atomsOf};
-ghost use Rattle.pulls.specs.Species.{lookBy};
-ghost use Rattle.pulls.specs.Pull.{held};
+ghost use Rattle.cell_prepared.specs.Facts.{imageIn};
+ghost use Rattle.potentials_pair.specs.Species.{lookBy};
+ghost use Rattle.potentials_pair.specs.Pull.{held};
 ghost use Rattle.potentials.specs.Terms.{ljPair};
 ghost use Rattle.potentials.specs.Steps.{ljStep, ljTurn, firstAt, secondAt, Kept};
 use crate::kept;
 use crate::pairs;
-use prepared::Prepared;
-use pulls::Lj;
-use pulls::Pull;
+use cell_prepared::Prepared;
+use potentials_pair::Lj;
+use potentials_pair::Pull;
 use virial::Sum;
 
 fn species_of(species: &[u32], i: usize) -> u32
@@ -47,13 +47,13 @@ fn pair(
 {
     let d = pairs::displacement(p, xs, i, j);
     let r2 = cell::vectors::norm2(d);
-    if pulls::kernel::is_skipped(lj.cutoff, r2) {
+    if potentials_pair::kernel::is_skipped(lj.cutoff, r2) {
         return Pull::Skip;
     }
     let y = species_of(species, i);
     let z = species_of(species, j);
     let n = kept::recall(ids, params, lj, y, z, keys, depths, squares, shifts);
-    pulls::lennard_jones::near(lj.shift, n, d, r2)
+    potentials_pair::lennard_jones::near(lj.shift, n, d, r2)
 }
 
 // One pair added.
@@ -94,7 +94,7 @@ fn one(
         squares,
         shifts,
     );
-    pulls::kernel::apply(sum, forces, i, j, pull)
+    potentials_pair::kernel::apply(sum, forces, i, j, pull)
 }
 
 // The pair of number k: row k of the table, or i and k past the table's end.

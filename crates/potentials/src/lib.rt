@@ -5,10 +5,11 @@ ghost use Rattle.potentials.specs.Calls.{MonatomicSays, UniformSays, arg
 use answer::Done;
 use answer::Refusal;
 use cell::Cell;
-use pulls::Lj;
+use potentials_pair::Lj;
 use virial::Summed;
 use virial::Units;
 
+mod asked;
 mod bonds;
 mod coulomb;
 mod kept;
@@ -16,7 +17,6 @@ pub mod kernel;
 mod lennard_jones;
 mod pairs;
 pub mod ranged;
-mod tests;
 
 // A force constant, and a length at rest. (The Rust's `HarmonicBonds`; its tables are lent.)
 #[repr(C)]
@@ -92,8 +92,8 @@ pub fn lj_pairs(
 ) -> Summed
     ensures { λ r. ⌜ LjPairsSays lj cell (now (ids .entry)) (now (params .entry)) (now (species .entry)) (now (positions .entry)) (now (pairs .entry)) (now (forces .entry)) r (now (forces .exit)) ⌝ }
 {
-    let absent = rows::first_absent(pairs, positions.len() / 3);
-    let a = tests::lj_asked(
+    let absent = ranges::rows::first_absent(pairs, positions.len() / 3);
+    let a = asked::lj_asked(
         lj,
         cell,
         ids,
@@ -122,7 +122,7 @@ pub fn lj_all(
 ) -> Summed
     ensures { λ r. ⌜ LjAllSays lj cell (now (ids .entry)) (now (params .entry)) (now (species .entry)) (now (positions .entry)) (now (forces .entry)) r (now (forces .exit)) ⌝ }
 {
-    let a = tests::lj_asked(
+    let a = asked::lj_asked(
         lj,
         cell,
         ids,
@@ -151,8 +151,8 @@ pub fn coulomb_pairs(
 ) -> Summed
     ensures { λ r. ⌜ CoulombPairsSays units cutoff cell (now (charges .entry)) (now (positions .entry)) (now (pairs .entry)) (now (forces .entry)) r (now (forces .exit)) ⌝ }
 {
-    let absent = rows::first_absent(pairs, positions.len() / 3);
-    let a = tests::coulomb_asked(
+    let absent = ranges::rows::first_absent(pairs, positions.len() / 3);
+    let a = asked::coulomb_asked(
         units,
         cutoff,
         cell,
@@ -179,7 +179,7 @@ pub fn coulomb_all(
 ) -> Summed
     ensures { λ r. ⌜ CoulombAllSays units cutoff cell (now (charges .entry)) (now (positions .entry)) (now (forces .entry)) r (now (forces .exit)) ⌝ }
 {
-    let a = tests::coulomb_asked(units, cutoff, cell, charges, positions, forces.len(), 0, 0);
+    let a = asked::coulomb_asked(units, cutoff, cell, charges, positions, forces.len(), 0, 0);
     if let Done::Refused(why) = a {
         return Summed::Refused(why);
     }
@@ -198,8 +198,8 @@ pub fn bonds_all(
 ) -> Summed
     ensures { λ r. ⌜ BondsAllSays bond cell (now (bonds .entry)) (now («per_bond» .entry)) (now («per_bond_k» .entry)) (now (positions .entry)) (now (forces .entry)) r (now (forces .exit)) ⌝ }
 {
-    let absent = rows::first_absent(bonds, positions.len() / 3);
-    let a = tests::bonds_asked(
+    let absent = ranges::rows::first_absent(bonds, positions.len() / 3);
+    let a = asked::bonds_asked(
         bond,
         cell,
         bonds.len(),

@@ -2,12 +2,13 @@
 ghost use mathlib.Core.Path.{_≡_};
 ghost use Prim.Native.Nat.{_+_, _*_, _/_, _<_};
 ghost use lib.ListN.{length, getD};
-ghost use Rattle.rows.specs.Rows.{isAbsent};
-ghost use Rattle.prepared.specs.Facts.{imageIn};
-ghost use Rattle.virial.specs.Virial.{atomsOf};
-ghost use Rattle.potentials.specs.Terms.{placeAt, displaced};
+ghost use Rattle.cell.specs.Vec.{positionAt};
+ghost use Rattle.lists.specs.Atoms.{atomsOf};
+ghost use Rattle.ranges.specs.Rows.{isAbsent};
+ghost use Rattle.cell_prepared.specs.Facts.{imageIn};
+ghost use Rattle.potentials.specs.Terms.{displaced};
 use cell::Vec3;
-use prepared::Prepared;
+use cell_prepared::Prepared;
 
 // The two atoms of row k.
 pub(crate) fn first_of(pairs: &[u32], k: usize) -> usize
@@ -32,7 +33,7 @@ pub(crate) fn is_absent(n: usize, i: usize, j: usize) -> bool
 
 fn place(xs: &[f64], i: usize) -> Vec3
     requires { ⌜ i < atomsOf (now xs) ⌝ }
-    ensures { λ r. ⌜ r ≡ placeAt (now (xs .entry)) i ⌝ }
+    ensures { λ r. ⌜ r ≡ positionAt (now (xs .entry)) i ⌝ }
 {
     let k = 3 * i;
     Vec3 {
@@ -48,5 +49,5 @@ pub(crate) fn displacement(p: Prepared, xs: &[f64], i: usize, j: usize) -> Vec3
     ensures { λ r. ⌜ r ≡ displaced (λ d. imageIn p d) (now (xs .entry)) (i, j) ⌝ }
 {
     let d = cell::vectors::sub(place(xs, i), place(xs, j));
-    prepared::image_in(p, d).diff
+    cell_prepared::image_in(p, d).diff
 }

@@ -1,9 +1,9 @@
 // The range tests of the terms' numbers and tables (01, "Ranges"): refusal 3. Total, and also for the crates above.
 ghost use mathlib.Core.Path.{_≡_};
 ghost use Rattle.lists.specs.Lists.{every};
-ghost use Rattle.potentials.specs.Limits.{coordinate, depth, cutoffOk, charge, ljInRange, bondInRange};
+ghost use Rattle.potentials.specs.Ranged.{coordinate, depth, cutoffOk, charge, ljInRange, bondInRange};
 use crate::Bond;
-use pulls::Lj;
+use potentials_pair::Lj;
 
 const ENTRY: f64 = cell::ranged::ENTRY;
 

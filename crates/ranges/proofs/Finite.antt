@@ -3,7 +3,7 @@ use mathlib.Core.Path.{_≡_, refl, sym}
 use mathlib.Core.Bool.{Bool, true, false, _&&_, false≢true}
 use lib.Ieee.{Float, nan, inf, fin, le, lt, eq, isNan}
 use Rattle.float.specs.Def.{absOf}
-use Rattle.ranges.specs.Range.{within, between}
+use Rattle.ranges.specs.Ranged.{within, between}
 
 abbrev pub Finite : Float → Type 0
 Finite nan = ⊥

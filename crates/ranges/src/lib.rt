@@ -1,7 +1,9 @@
 // Range tests of numbers and of slices of numbers.
+pub mod rows;
+
 ghost use mathlib.Core.Path.{_≡_};
 ghost use Rattle.lists.specs.Lists.{every};
-ghost use Rattle.ranges.specs.Range.{within, between};
+ghost use Rattle.ranges.specs.Ranged.{within, between};
 
 pub fn is_within(limit: f64, x: f64) -> bool
     ensures { λ r. ⌜ r ≡ within limit x ⌝ }

@@ -7,10 +7,10 @@ use native.Mathlib.Omega.{arith}
 use lib.Dec.{ltb}
 use lib.ListN.{length, take, getD, length-take, List·getD-eq-default}
 use borrow.Author.Tests.{lt-ltb, le-ltb}
-use Rattle.words.specs.Put.{Put}
-use Rattle.words.specs.Text.{hex2, valuesAt, formedIn, held, lineText, noCaseText}
-use Rattle.words.proofs.Writing.{put-none, put-same, put-front, cases}
-use Rattle.words.proofs.Reading.{held-words}
+use Rattle.replay_words.specs.Put.{Put}
+use Rattle.replay_words.specs.Text.{hex2, valuesAt, formedIn, held, lineText, noCaseText}
+use Rattle.replay_words.proofs.Writing.{put-none, put-same, put-front, cases}
+use Rattle.replay_words.proofs.Reading.{held-words}
 use Rattle.replay.specs.Floats.{floatCases, floatAnswer, none}
 use Rattle.replay.specs.Calls.{answerOf, given, Told}
 use Rattle.replay.specs.Lines.{toldLine, lineAnswer, givenLine}

@@ -8,9 +8,9 @@ use lib.ListN.{length}
 use lib.Dec.{eqb}
 use lib.Ieee.{Float}
 use borrow.Author.Tests.{eq-eqb, ne-eqb}
-use Rattle.words.specs.Put.{Put}
-use Rattle.words.specs.Take.{after, floatAt}
-use Rattle.words.proofs.Writing.{put-none, put-then, put-same}
+use Rattle.replay_words.specs.Put.{Put}
+use Rattle.replay_words.specs.Take.{after, floatAt}
+use Rattle.replay_words.proofs.Writing.{put-none, put-then, put-same}
 use Rattle.replay.specs.Floats.{told, ofOne, ofTwo, ofThree}
 
 -- the answer after number and place

@@ -5,7 +5,7 @@ use mathlib.Core.Bool.{Bool, true, cond}
 use mathlib.Core.List.{List, []}
 use lib.ListN.{length}
 use lib.Dec.{ltb}
-use Rattle.words.specs.Put.{Put}
+use Rattle.replay_words.specs.Put.{Put}
 use Rattle.replay.specs.Floats.{floatAnswer}
 
 unfoldable pub answerOf : ℕ → List ℕ → List ℕ

@@ -6,8 +6,8 @@ use lib.ListN.{length, getD}
 use lib.Dec.{eqb}
 use lib.Ieee.{Float, binary64, toBits, toUnsigned, toSigned}
 use Rattle.float.specs.Def.{absOf, maxOf, minOf, clampOf, remEuclidOf, truncOf, floorOf, roundOf, rootOf}
-use Rattle.words.specs.Take.{floatAt}
-use Rattle.words.specs.Put.{signedBits}
+use Rattle.replay_words.specs.Take.{floatAt}
+use Rattle.replay_words.specs.Put.{signedBits}
 
 -- answered: number 0, place 0, the value
 abbrev pub told : ℕ → List ℕ

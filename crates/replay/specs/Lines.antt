@@ -3,7 +3,7 @@ use Prim.Native.Nat.{ℕ, _/_}
 use mathlib.Core.Bool.{Bool, true, cond}
 use mathlib.Core.List.{List, [], _∷_}
 use lib.ListN.{length, take}
-use Rattle.words.specs.Text.{hex2, valuesAt, formedIn, lineText, noCaseText}
+use Rattle.replay_words.specs.Text.{hex2, valuesAt, formedIn, lineText, noCaseText}
 use Rattle.replay.specs.Calls.{answerOf, given}
 
 -- the same two digits and the answer's words; `ff` alone where there is no answer

@@ -2,7 +2,7 @@
 use crate::floats;
 ghost use Prim.Native.Nat.{_≤_};
 ghost use lib.ListN.{length};
-ghost use Rattle.words.specs.Put.{Put};
+ghost use Rattle.replay_words.specs.Put.{Put};
 ghost use Rattle.replay.specs.Calls.{answerOf};
 
 // The answer's words, and how many there are: 0 where the call is unknown or the words are not its arguments.

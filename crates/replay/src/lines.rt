@@ -1,9 +1,9 @@
 // The answer to a line.
 use crate::calls;
-use words::Parsed;
+use replay_words::Parsed;
 ghost use Prim.Native.Nat.{_+_, _-_, _≤_};
 ghost use lib.ListN.{length, take};
-ghost use Rattle.words.specs.Put.{Put};
+ghost use Rattle.replay_words.specs.Put.{Put};
 ghost use Rattle.replay.specs.Calls.{answerOf, given, Told};
 ghost use Rattle.replay.specs.Lines.{toldLine, lineAnswer, givenLine};
 
@@ -13,9 +13,9 @@ fn told(call: u64, ws: &[u64], answer: &mut [u64], out: &mut [u8], at: usize) ->
 {
     let n = calls::answer(call, ws, answer);
     if n == 0 {
-        return words::print_no_case(out, at);
+        return replay_words::print_no_case(out, at);
     }
-    words::print(out, at, call, &answer[..n])
+    replay_words::print(out, at, call, &answer[..n])
 }
 
 // The same of a call whose answer is compared by running.
@@ -24,9 +24,9 @@ fn told_compared(call: u64, ws: &[u64], answer: &mut [u64], out: &mut [u8], at: 
 {
     let n = calls::compared_answer(call, ws, answer);
     if n == 0 {
-        return words::print_no_case(out, at);
+        return replay_words::print_no_case(out, at);
     }
-    words::print(out, at, call, &answer[..n])
+    replay_words::print(out, at, call, &answer[..n])
 }
 
 fn told_call(call: u64, ws: &[u64], answer: &mut [u64], out: &mut [u8], at: usize) -> usize
@@ -49,9 +49,9 @@ pub fn answer_line(
 ) -> usize
     ensures { λ r. ⌜ Told (givenLine (length (now (words .entry))) (now (line .entry))) (now (out .entry)) at (lineAnswer (length (now (words .entry))) (length (now (answer .entry))) (now (line .entry))) (now (out .exit)) r ⌝ }
 {
-    let parsed = words::parse(line, words);
+    let parsed = replay_words::parse(line, words);
     match parsed {
         Parsed::Case { call, count } => told_call(call, &words[..count], answer, out, at),
-        Parsed::NoCase => words::print_no_case(out, at),
+        Parsed::NoCase => replay_words::print_no_case(out, at),
     }
 }

@@ -44,7 +44,7 @@ fn hear(
         let filled = lines::answer_line(&line[..heard], words, answer, out, at);
         return Pending { heard: 0, filled };
     }
-    let more = words::put_byte(line, heard, b);
+    let more = replay_words::put_byte(line, heard, b);
     Pending {
         heard: more,
         filled: p.filled,
@@ -88,7 +88,7 @@ fn finish(out: &mut [u8], p: Pending)
         io::write_all(STDOUT_FILENO, &out[..at]);
         return;
     }
-    let end = words::print_no_case(out, at);
+    let end = replay_words::print_no_case(out, at);
     io::write_all(STDOUT_FILENO, &out[..end]);
 }
 

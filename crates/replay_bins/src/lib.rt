@@ -5,8 +5,8 @@ use answer::Whole;
 
 // The answer, then the table, whatever became of it.
 fn tell_whole_table(out: &mut [u64], answer: Whole, table: &[u32]) -> usize {
-    let at = arguments::put_whole(out, answer);
-    words::put_u32s(out, at, table)
+    let at = replay_records::put_whole(out, answer);
+    replay_words::put_u32s(out, at, table)
 }
 
 fn excluded(count: u32, i: u32, j: u32, table: &mut [u32], out: &mut [u64]) -> usize {
@@ -21,10 +21,10 @@ fn replaced(raw: &[u32], table: &mut [u32], out: &mut [u64]) -> usize {
 
 fn exclude_case(ws: &[u64], out: &mut [u64]) -> usize {
     let mut table = [0u32; 8192];
-    let count = words::take_u32(ws, 0);
-    let i = words::take_u32(ws, count.next);
-    let j = words::take_u32(ws, i.next);
-    let rows = arguments::take_u32s(ws, j.next, &mut table);
+    let count = replay_words::take_u32(ws, 0);
+    let i = replay_words::take_u32(ws, count.next);
+    let j = replay_words::take_u32(ws, i.next);
+    let rows = replay_records::take_u32s(ws, j.next, &mut table);
     if rows.next != ws.len() {
         return 0;
     }
@@ -35,8 +35,8 @@ fn exclude_case(ws: &[u64], out: &mut [u64]) -> usize {
 fn set_exclusions_case(ws: &[u64], out: &mut [u64]) -> usize {
     let mut raw = [0u32; 8192];
     let mut table = [0u32; 8192];
-    let pairs = arguments::take_u32s(ws, 0, &mut raw);
-    let rows = arguments::take_u32s(ws, pairs.next, &mut table);
+    let pairs = replay_records::take_u32s(ws, 0, &mut raw);
+    let rows = replay_records::take_u32s(ws, pairs.next, &mut table);
     if rows.next != ws.len() {
         return 0;
     }
@@ -58,5 +58,5 @@ pub fn answer(call: u64, ws: &[u64], out: &mut [u64]) -> usize
     ensures { λ r. ⌜ r ≤ length (now (out .exit)) ⌝ }
 {
     let count = picked(call, ws, out);
-    arguments::held(out, count)
+    replay_records::held(out, count)
 }

@@ -14,20 +14,20 @@ use cell::Vector;
 fn tell_lattice(out: &mut [u64], answer: LatticeAnswer) -> usize {
     match answer {
         LatticeAnswer::Answered(l) => {
-            let at = arguments::put_answered(out);
-            arguments::put_lattice(out, at, l)
+            let at = replay_records::put_answered(out);
+            replay_records::put_lattice(out, at, l)
         }
-        LatticeAnswer::Refused(why) => arguments::put_refusal(out, why),
+        LatticeAnswer::Refused(why) => replay_records::put_refusal(out, why),
     }
 }
 
 fn tell_vector(out: &mut [u64], answer: Vector) -> usize {
     match answer {
         Vector::Answered(v) => {
-            let at = arguments::put_answered(out);
-            arguments::put_vec3(out, at, v)
+            let at = replay_records::put_answered(out);
+            replay_records::put_vec3(out, at, v)
         }
-        Vector::Refused(why) => arguments::put_refusal(out, why),
+        Vector::Refused(why) => replay_records::put_refusal(out, why),
     }
 }
 
@@ -35,20 +35,20 @@ fn tell_image(out: &mut [u64], answer: ImageAnswer) -> usize {
     match answer {
         ImageAnswer::Answered(image) => {
             let diff = image.diff;
-            let at = arguments::put_answered(out);
-            arguments::put_vec3(out, at, diff)
+            let at = replay_records::put_answered(out);
+            replay_records::put_vec3(out, at, diff)
         }
-        ImageAnswer::Refused(why) => arguments::put_refusal(out, why),
+        ImageAnswer::Refused(why) => replay_records::put_refusal(out, why),
     }
 }
 
 fn tell_bool(out: &mut [u64], answer: YesNo) -> usize {
     match answer {
         YesNo::Answered(yes) => {
-            let at = arguments::put_answered(out);
-            words::put_bool(out, at, yes)
+            let at = replay_records::put_answered(out);
+            replay_words::put_bool(out, at, yes)
         }
-        YesNo::Refused(why) => arguments::put_refusal(out, why),
+        YesNo::Refused(why) => replay_records::put_refusal(out, why),
     }
 }
 
@@ -57,10 +57,10 @@ fn tell_rows(out: &mut [u64], answer: RowsAnswer) -> usize {
     let rows = answer.rows;
     match done {
         Done::Answered => {
-            let at = arguments::put_answered(out);
-            arguments::put_rows(out, at, rows)
+            let at = replay_records::put_answered(out);
+            replay_records::put_rows(out, at, rows)
         }
-        Done::Refused(why) => arguments::put_refusal(out, why),
+        Done::Refused(why) => replay_records::put_refusal(out, why),
     }
 }
 
@@ -70,23 +70,23 @@ fn tell_inverse(out: &mut [u64], answer: InverseAnswer) -> usize {
     let rows = answer.rows;
     match found {
         YesNo::Answered(there) => {
-            let at = arguments::put_answered(out);
-            let told = words::put_bool(out, at, there);
+            let at = replay_records::put_answered(out);
+            let told = replay_words::put_bool(out, at, there);
             if there {
-                return arguments::put_rows(out, told, rows);
+                return replay_records::put_rows(out, told, rows);
             }
             told
         }
-        YesNo::Refused(why) => arguments::put_refusal(out, why),
+        YesNo::Refused(why) => replay_records::put_refusal(out, why),
     }
 }
 
 // ---- the calls
 
 fn orthorhombic_case(ws: &[u64], out: &mut [u64]) -> usize {
-    let lx = words::take_float(ws, 0);
-    let ly = words::take_float(ws, lx.next);
-    let lz = words::take_float(ws, ly.next);
+    let lx = replay_words::take_float(ws, 0);
+    let ly = replay_words::take_float(ws, lx.next);
+    let lz = replay_words::take_float(ws, ly.next);
     if lz.next != ws.len() {
         return 0;
     }
@@ -94,7 +94,7 @@ fn orthorhombic_case(ws: &[u64], out: &mut [u64]) -> usize {
 }
 
 fn cubic_case(ws: &[u64], out: &mut [u64]) -> usize {
-    let l = words::take_float(ws, 0);
+    let l = replay_words::take_float(ws, 0);
     if l.next != ws.len() {
         return 0;
     }
@@ -102,7 +102,7 @@ fn cubic_case(ws: &[u64], out: &mut [u64]) -> usize {
 }
 
 fn is_orthorhombic_case(ws: &[u64], out: &mut [u64]) -> usize {
-    let l = arguments::take_lattice(ws, 0);
+    let l = replay_records::take_lattice(ws, 0);
     if l.next != ws.len() {
         return 0;
     }
@@ -110,7 +110,7 @@ fn is_orthorhombic_case(ws: &[u64], out: &mut [u64]) -> usize {
 }
 
 fn matrix_case(ws: &[u64], out: &mut [u64]) -> usize {
-    let l = arguments::take_lattice(ws, 0);
+    let l = replay_records::take_lattice(ws, 0);
     if l.next != ws.len() {
         return 0;
     }
@@ -118,15 +118,15 @@ fn matrix_case(ws: &[u64], out: &mut [u64]) -> usize {
 }
 
 fn volume_case(ws: &[u64], out: &mut [u64]) -> usize {
-    let l = arguments::take_lattice(ws, 0);
+    let l = replay_records::take_lattice(ws, 0);
     if l.next != ws.len() {
         return 0;
     }
-    arguments::put_number(out, cell::volume(l.value))
+    replay_records::put_number(out, cell::volume(l.value))
 }
 
 fn inverse_case(ws: &[u64], out: &mut [u64]) -> usize {
-    let l = arguments::take_lattice(ws, 0);
+    let l = replay_records::take_lattice(ws, 0);
     if l.next != ws.len() {
         return 0;
     }
@@ -134,8 +134,8 @@ fn inverse_case(ws: &[u64], out: &mut [u64]) -> usize {
 }
 
 fn to_fractional_case(ws: &[u64], out: &mut [u64]) -> usize {
-    let l = arguments::take_lattice(ws, 0);
-    let r = arguments::take_vec3(ws, l.next);
+    let l = replay_records::take_lattice(ws, 0);
+    let r = replay_records::take_vec3(ws, l.next);
     if r.next != ws.len() {
         return 0;
     }
@@ -143,8 +143,8 @@ fn to_fractional_case(ws: &[u64], out: &mut [u64]) -> usize {
 }
 
 fn to_cartesian_case(ws: &[u64], out: &mut [u64]) -> usize {
-    let l = arguments::take_lattice(ws, 0);
-    let s = arguments::take_vec3(ws, l.next);
+    let l = replay_records::take_lattice(ws, 0);
+    let s = replay_records::take_vec3(ws, l.next);
     if s.next != ws.len() {
         return 0;
     }
@@ -152,8 +152,8 @@ fn to_cartesian_case(ws: &[u64], out: &mut [u64]) -> usize {
 }
 
 fn wrap_case(ws: &[u64], out: &mut [u64]) -> usize {
-    let l = arguments::take_lattice(ws, 0);
-    let r = arguments::take_vec3(ws, l.next);
+    let l = replay_records::take_lattice(ws, 0);
+    let r = replay_records::take_vec3(ws, l.next);
     if r.next != ws.len() {
         return 0;
     }
@@ -161,7 +161,7 @@ fn wrap_case(ws: &[u64], out: &mut [u64]) -> usize {
 }
 
 fn perp_widths_case(ws: &[u64], out: &mut [u64]) -> usize {
-    let l = arguments::take_lattice(ws, 0);
+    let l = replay_records::take_lattice(ws, 0);
     if l.next != ws.len() {
         return 0;
     }
@@ -169,8 +169,8 @@ fn perp_widths_case(ws: &[u64], out: &mut [u64]) -> usize {
 }
 
 fn min_image_case(ws: &[u64], out: &mut [u64]) -> usize {
-    let d = arguments::take_vec3(ws, 0);
-    let there = arguments::take_cell(ws, d.next);
+    let d = replay_records::take_vec3(ws, 0);
+    let there = replay_records::take_cell(ws, d.next);
     if there.next != ws.len() {
         return 0;
     }
@@ -200,5 +200,5 @@ pub fn answer(call: u64, ws: &[u64], out: &mut [u64]) -> usize
     ensures { λ r. ⌜ r ≤ length (now (out .exit)) ⌝ }
 {
     let count = picked(call, ws, out);
-    arguments::held(out, count)
+    replay_records::held(out, count)
 }

@@ -3,8 +3,8 @@
 ghost use Prim.Native.Nat.{_≤_};
 ghost use lib.ListN.{length};
 use answer::Done;
-use arguments::SettingsArg;
 use evaluate::Evaluated;
+use replay_records::SettingsArg;
 use virial::Sum;
 
 // ---- the answer
@@ -12,7 +12,7 @@ use virial::Sum;
 // The sum, where there is one.
 fn tell_sum(out: &mut [u64], at: usize, answer: Done, sum: Sum) -> usize {
     match answer {
-        Done::Answered => arguments::put_sum(out, at, sum),
+        Done::Answered => replay_records::put_sum(out, at, sum),
         Done::Refused(_) => at,
     }
 }
@@ -21,9 +21,9 @@ fn tell_values(out: &mut [u64], r: Evaluated) -> usize {
     let done = r.done;
     let state = r.state;
     let sum = r.sum;
-    let head = arguments::put_done(out, done);
-    let asked = words::put_bool(out, head, r.rebuilt);
-    let at = arguments::put_state(out, asked, state);
+    let head = replay_records::put_done(out, done);
+    let asked = replay_words::put_bool(out, head, r.rebuilt);
+    let at = replay_records::put_state(out, asked, state);
     tell_sum(out, at, done, sum)
 }
 
@@ -37,11 +37,11 @@ fn tell_rooms(
     items: &[u32],
     forces: &[f64],
 ) -> usize {
-    let listed = words::put_u32s(out, at, pairs);
-    let referred = words::put_floats(out, listed, references);
-    let laid = words::put_u32s(out, referred, starts);
-    let sorted = words::put_u32s(out, laid, items);
-    words::put_floats(out, sorted, forces)
+    let listed = replay_words::put_u32s(out, at, pairs);
+    let referred = replay_words::put_floats(out, listed, references);
+    let laid = replay_words::put_u32s(out, referred, starts);
+    let sorted = replay_words::put_u32s(out, laid, items);
+    replay_words::put_floats(out, sorted, forces)
 }
 
 // ---- the call
@@ -117,11 +117,11 @@ fn with_rooms(
     let mut starts = [0u32; 8192];
     let mut items = [0u32; 8192];
     let mut forces = [0.0; 8192];
-    let a = arguments::take_u32s(ws, next, &mut pairs);
-    let b = arguments::take_floats(ws, a.next, &mut references);
-    let c = arguments::take_u32s(ws, b.next, &mut starts);
-    let d = arguments::take_u32s(ws, c.next, &mut items);
-    let e = arguments::take_floats(ws, d.next, &mut forces);
+    let a = replay_records::take_u32s(ws, next, &mut pairs);
+    let b = replay_records::take_floats(ws, a.next, &mut references);
+    let c = replay_records::take_u32s(ws, b.next, &mut starts);
+    let d = replay_records::take_u32s(ws, c.next, &mut items);
+    let e = replay_records::take_floats(ws, d.next, &mut forces);
     if e.next != ws.len() {
         return 0;
     }
@@ -166,11 +166,11 @@ fn with_places(
     let mut ks = [0.0; 8192];
     let mut positions = [0.0; 8192];
     let mut exclusions = [0u32; 8192];
-    let a = arguments::take_u32s(ws, next, &mut bonds);
-    let b = arguments::take_floats(ws, a.next, &mut lengths);
-    let c = arguments::take_floats(ws, b.next, &mut ks);
-    let d = arguments::take_floats(ws, c.next, &mut positions);
-    let e = arguments::take_u32s(ws, d.next, &mut exclusions);
+    let a = replay_records::take_u32s(ws, next, &mut bonds);
+    let b = replay_records::take_floats(ws, a.next, &mut lengths);
+    let c = replay_records::take_floats(ws, b.next, &mut ks);
+    let d = replay_records::take_floats(ws, c.next, &mut positions);
+    let e = replay_records::take_u32s(ws, d.next, &mut exclusions);
     let na = a.count;
     let nb = b.count;
     let nc = c.count;
@@ -198,11 +198,11 @@ fn evaluate_case(ws: &[u64], out: &mut [u64]) -> usize {
     let mut params = [0.0; 8192];
     let mut species = [0u32; 8192];
     let mut charges = [0.0; 8192];
-    let settings = arguments::take_settings(ws, 0);
-    let a = arguments::take_u32s(ws, settings.next, &mut ids);
-    let b = arguments::take_floats(ws, a.next, &mut params);
-    let c = arguments::take_u32s(ws, b.next, &mut species);
-    let d = arguments::take_floats(ws, c.next, &mut charges);
+    let settings = replay_records::take_settings(ws, 0);
+    let a = replay_records::take_u32s(ws, settings.next, &mut ids);
+    let b = replay_records::take_floats(ws, a.next, &mut params);
+    let c = replay_records::take_u32s(ws, b.next, &mut species);
+    let d = replay_records::take_floats(ws, c.next, &mut charges);
     let na = a.count;
     let nb = b.count;
     let nc = c.count;
@@ -231,5 +231,5 @@ pub fn answer(call: u64, ws: &[u64], out: &mut [u64]) -> usize
     ensures { λ r. ⌜ r ≤ length (now (out .exit)) ⌝ }
 {
     let count = picked(call, ws, out);
-    arguments::held(out, count)
+    replay_records::held(out, count)
 }

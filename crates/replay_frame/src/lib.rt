@@ -19,13 +19,13 @@ struct SpotArg {
 
 // Three edges, three flags, the radius.
 fn take_frame(ws: &[u64], at: usize) -> FrameArg {
-    let ex = words::take_u32(ws, at);
-    let ey = words::take_u32(ws, ex.next);
-    let ez = words::take_u32(ws, ey.next);
-    let px = words::take_bool(ws, ez.next);
-    let py = words::take_bool(ws, px.next);
-    let pz = words::take_bool(ws, py.next);
-    let radius = words::take_u32(ws, pz.next);
+    let ex = replay_words::take_u32(ws, at);
+    let ey = replay_words::take_u32(ws, ex.next);
+    let ez = replay_words::take_u32(ws, ey.next);
+    let px = replay_words::take_bool(ws, ez.next);
+    let py = replay_words::take_bool(ws, px.next);
+    let pz = replay_words::take_bool(ws, py.next);
+    let radius = replay_words::take_u32(ws, pz.next);
     FrameArg {
         value: Frame {
             x: Side {
@@ -47,9 +47,9 @@ fn take_frame(ws: &[u64], at: usize) -> FrameArg {
 }
 
 fn take_spot(ws: &[u64], at: usize) -> SpotArg {
-    let x = words::take_u32(ws, at);
-    let y = words::take_u32(ws, x.next);
-    let z = words::take_u32(ws, y.next);
+    let x = replay_words::take_u32(ws, at);
+    let y = replay_words::take_u32(ws, x.next);
+    let z = replay_words::take_u32(ws, y.next);
     SpotArg {
         value: Spot {
             x: x.value,
@@ -67,12 +67,12 @@ fn tell_built(out: &mut [u64], answer: Built) -> usize {
             checks,
             fallback,
         } => {
-            let at = arguments::put_answered(out);
-            let listed = words::put_word(out, at, pairs as u64);
-            let measured = words::put_word(out, listed, checks as u64);
-            words::put_bool(out, measured, fallback)
+            let at = replay_records::put_answered(out);
+            let listed = replay_words::put_word(out, at, pairs as u64);
+            let measured = replay_words::put_word(out, listed, checks as u64);
+            replay_words::put_bool(out, measured, fallback)
         }
-        Built::Refused(why) => arguments::put_refusal(out, why),
+        Built::Refused(why) => replay_records::put_refusal(out, why),
     }
 }
 
@@ -85,9 +85,9 @@ fn tell_built_rooms(
     items: &[u32],
 ) -> usize {
     let told = tell_built(out, answer);
-    let listed = words::put_u32s(out, told, pairs);
-    let laid = words::put_u32s(out, listed, starts);
-    words::put_u32s(out, laid, items)
+    let listed = replay_words::put_u32s(out, told, pairs);
+    let laid = replay_words::put_u32s(out, listed, starts);
+    replay_words::put_u32s(out, laid, items)
 }
 
 fn built(
@@ -110,11 +110,11 @@ fn build_case(ws: &[u64], out: &mut [u64]) -> usize {
     let mut starts = [0u32; 8192];
     let mut items = [0u32; 8192];
     let f = take_frame(ws, 0);
-    let cs = arguments::take_u32s(ws, f.next, &mut coordinates);
-    let es = arguments::take_u32s(ws, cs.next, &mut exclusions);
-    let ps = arguments::take_u32s(ws, es.next, &mut pairs);
-    let ss = arguments::take_u32s(ws, ps.next, &mut starts);
-    let is = arguments::take_u32s(ws, ss.next, &mut items);
+    let cs = replay_records::take_u32s(ws, f.next, &mut coordinates);
+    let es = replay_records::take_u32s(ws, cs.next, &mut exclusions);
+    let ps = replay_records::take_u32s(ws, es.next, &mut pairs);
+    let ss = replay_records::take_u32s(ws, ps.next, &mut starts);
+    let is = replay_records::take_u32s(ws, ss.next, &mut items);
     if is.next != ws.len() {
         return 0;
     }
@@ -141,7 +141,7 @@ fn squared_distance_case(ws: &[u64], out: &mut [u64]) -> usize {
     if b.next != ws.len() {
         return 0;
     }
-    arguments::put_whole(out, frame::squared_distance(f.value, a.value, b.value))
+    replay_records::put_whole(out, frame::squared_distance(f.value, a.value, b.value))
 }
 
 fn picked(call: u64, ws: &[u64], out: &mut [u64]) -> usize {
@@ -157,5 +157,5 @@ pub fn answer(call: u64, ws: &[u64], out: &mut [u64]) -> usize
     ensures { λ r. ⌜ r ≤ length (now (out .exit)) ⌝ }
 {
     let count = picked(call, ws, out);
-    arguments::held(out, count)
+    replay_records::held(out, count)
 }

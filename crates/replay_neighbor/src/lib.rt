@@ -13,30 +13,30 @@ use neighbor::Updated;
 fn tell_state(out: &mut [u64], answer: StateAnswer) -> usize {
     match answer {
         StateAnswer::Answered(s) => {
-            let at = arguments::put_answered(out);
-            arguments::put_state(out, at, s)
+            let at = replay_records::put_answered(out);
+            replay_records::put_state(out, at, s)
         }
-        StateAnswer::Refused(why) => arguments::put_refusal(out, why),
+        StateAnswer::Refused(why) => replay_records::put_refusal(out, why),
     }
 }
 
 fn tell_number(out: &mut [u64], answer: Number) -> usize {
     match answer {
         Number::Answered(x) => {
-            let at = arguments::put_answered(out);
-            words::put_float(out, at, x)
+            let at = replay_records::put_answered(out);
+            replay_words::put_float(out, at, x)
         }
-        Number::Refused(why) => arguments::put_refusal(out, why),
+        Number::Refused(why) => replay_records::put_refusal(out, why),
     }
 }
 
 fn tell_yes_no(out: &mut [u64], answer: YesNo) -> usize {
     match answer {
         YesNo::Answered(b) => {
-            let at = arguments::put_answered(out);
-            words::put_bool(out, at, b)
+            let at = replay_records::put_answered(out);
+            replay_words::put_bool(out, at, b)
         }
-        YesNo::Refused(why) => arguments::put_refusal(out, why),
+        YesNo::Refused(why) => replay_records::put_refusal(out, why),
     }
 }
 
@@ -49,16 +49,16 @@ fn tell_rooms(
     starts: &[u32],
     items: &[u32],
 ) -> usize {
-    let listed = words::put_u32s(out, at, pairs);
-    let referred = words::put_floats(out, listed, references);
-    let laid = words::put_u32s(out, referred, starts);
-    words::put_u32s(out, laid, items)
+    let listed = replay_words::put_u32s(out, at, pairs);
+    let referred = replay_words::put_floats(out, listed, references);
+    let laid = replay_words::put_u32s(out, referred, starts);
+    replay_words::put_u32s(out, laid, items)
 }
 
 // Whether the list was built anew, where the call may keep it.
 fn tell_rebuilt(out: &mut [u64], at: usize, question: bool, rebuilt: bool) -> usize {
     if question {
-        return words::put_bool(out, at, rebuilt);
+        return replay_words::put_bool(out, at, rebuilt);
     }
     at
 }
@@ -66,8 +66,8 @@ fn tell_rebuilt(out: &mut [u64], at: usize, question: bool, rebuilt: bool) -> us
 // ---- the calls
 
 fn new_case(ws: &[u64], out: &mut [u64]) -> usize {
-    let cutoff = words::take_float(ws, 0);
-    let skin = words::take_float(ws, cutoff.next);
+    let cutoff = replay_words::take_float(ws, 0);
+    let skin = replay_words::take_float(ws, cutoff.next);
     if skin.next != ws.len() {
         return 0;
     }
@@ -75,7 +75,7 @@ fn new_case(ws: &[u64], out: &mut [u64]) -> usize {
 }
 
 fn search_radius_case(ws: &[u64], out: &mut [u64]) -> usize {
-    let s = arguments::take_state(ws, 0);
+    let s = replay_records::take_state(ws, 0);
     if s.next != ws.len() {
         return 0;
     }
@@ -83,23 +83,23 @@ fn search_radius_case(ws: &[u64], out: &mut [u64]) -> usize {
 }
 
 fn builds_since_case(ws: &[u64], out: &mut [u64]) -> usize {
-    let s = arguments::take_state(ws, 0);
-    let earlier = words::take_u32(ws, s.next);
+    let s = replay_records::take_state(ws, 0);
+    let earlier = replay_words::take_u32(ws, s.next);
     if earlier.next != ws.len() {
         return 0;
     }
     let span = neighbor::builds_since(s.value, earlier.value);
-    let at = arguments::put_answered(out);
-    words::put_word(out, at, span as u64)
+    let at = replay_records::put_answered(out);
+    replay_words::put_word(out, at, span as u64)
 }
 
 fn needs_rebuild_case(ws: &[u64], out: &mut [u64]) -> usize {
     let mut positions = [0.0; 8192];
     let mut references = [0.0; 8192];
-    let s = arguments::take_state(ws, 0);
-    let c = arguments::take_cell(ws, s.next);
-    let xs = arguments::take_floats(ws, c.next, &mut positions);
-    let rs = arguments::take_floats(ws, xs.next, &mut references);
+    let s = replay_records::take_state(ws, 0);
+    let c = replay_records::take_cell(ws, s.next);
+    let xs = replay_records::take_floats(ws, c.next, &mut positions);
+    let rs = replay_records::take_floats(ws, xs.next, &mut references);
     if rs.next != ws.len() {
         return 0;
     }
@@ -174,9 +174,9 @@ fn told(
     );
     let done = r.done;
     let state = r.state;
-    let head = arguments::put_done(out, done);
+    let head = replay_records::put_done(out, done);
     let asked = tell_rebuilt(out, head, question, r.rebuilt);
-    let at = arguments::put_state(out, asked, state);
+    let at = replay_records::put_state(out, asked, state);
     tell_rooms(out, at, pairs, references, starts, items)
 }
 
@@ -187,14 +187,14 @@ fn build_case(question: bool, ws: &[u64], out: &mut [u64]) -> usize {
     let mut references = [0.0; 8192];
     let mut starts = [0u32; 8192];
     let mut items = [0u32; 8192];
-    let s = arguments::take_state(ws, 0);
-    let c = arguments::take_cell(ws, s.next);
-    let xs = arguments::take_floats(ws, c.next, &mut positions);
-    let es = arguments::take_u32s(ws, xs.next, &mut exclusions);
-    let ps = arguments::take_u32s(ws, es.next, &mut pairs);
-    let rs = arguments::take_floats(ws, ps.next, &mut references);
-    let ss = arguments::take_u32s(ws, rs.next, &mut starts);
-    let is = arguments::take_u32s(ws, ss.next, &mut items);
+    let s = replay_records::take_state(ws, 0);
+    let c = replay_records::take_cell(ws, s.next);
+    let xs = replay_records::take_floats(ws, c.next, &mut positions);
+    let es = replay_records::take_u32s(ws, xs.next, &mut exclusions);
+    let ps = replay_records::take_u32s(ws, es.next, &mut pairs);
+    let rs = replay_records::take_floats(ws, ps.next, &mut references);
+    let ss = replay_records::take_u32s(ws, rs.next, &mut starts);
+    let is = replay_records::take_u32s(ws, ss.next, &mut items);
     if is.next != ws.len() {
         return 0;
     }
@@ -237,5 +237,5 @@ pub fn answer(call: u64, ws: &[u64], out: &mut [u64]) -> usize
     ensures { λ r. ⌜ r ≤ length (now (out .exit)) ⌝ }
 {
     let count = picked(call, ws, out);
-    arguments::held(out, count)
+    replay_records::held(out, count)
 }

@@ -3,7 +3,7 @@ ghost use Prim.Native.Nat.{_≤_};
 ghost use lib.ListN.{length};
 use cell::Cell;
 use potentials::Bond;
-use pulls::Lj;
+use potentials_pair::Lj;
 use virial::Units;
 
 // ---- the calls, and their answers
@@ -20,7 +20,7 @@ fn lj_listed(
     out: &mut [u64],
 ) -> usize {
     let r = potentials::lj_pairs(lj, cell, ids, params, species, positions, pairs, forces);
-    arguments::put_summed_forces(out, r, forces)
+    replay_records::put_summed_forces(out, r, forces)
 }
 
 fn lj_each(
@@ -34,7 +34,7 @@ fn lj_each(
     out: &mut [u64],
 ) -> usize {
     let r = potentials::lj_all(lj, cell, ids, params, species, positions, forces);
-    arguments::put_summed_forces(out, r, forces)
+    replay_records::put_summed_forces(out, r, forces)
 }
 
 fn coulomb_listed(
@@ -48,7 +48,7 @@ fn coulomb_listed(
     out: &mut [u64],
 ) -> usize {
     let r = potentials::coulomb_pairs(units, cutoff, cell, charges, positions, pairs, forces);
-    arguments::put_summed_forces(out, r, forces)
+    replay_records::put_summed_forces(out, r, forces)
 }
 
 fn coulomb_each(
@@ -61,7 +61,7 @@ fn coulomb_each(
     out: &mut [u64],
 ) -> usize {
     let r = potentials::coulomb_all(units, cutoff, cell, charges, positions, forces);
-    arguments::put_summed_forces(out, r, forces)
+    replay_records::put_summed_forces(out, r, forces)
 }
 
 fn bonded(
@@ -75,7 +75,7 @@ fn bonded(
     out: &mut [u64],
 ) -> usize {
     let r = potentials::bonds_all(bond, cell, bonds, lengths, ks, positions, forces);
-    arguments::put_summed_forces(out, r, forces)
+    replay_records::put_summed_forces(out, r, forces)
 }
 
 // ---- the cases
@@ -87,14 +87,14 @@ fn lj_pairs_case(ws: &[u64], out: &mut [u64]) -> usize {
     let mut positions = [0.0; 8192];
     let mut pairs = [0u32; 8192];
     let mut forces = [0.0; 8192];
-    let lj = arguments::take_lj(ws, 0);
-    let of = arguments::take_cell(ws, lj.next);
-    let a = arguments::take_u32s(ws, of.next, &mut ids);
-    let b = arguments::take_floats(ws, a.next, &mut params);
-    let c = arguments::take_u32s(ws, b.next, &mut species);
-    let d = arguments::take_floats(ws, c.next, &mut positions);
-    let e = arguments::take_u32s(ws, d.next, &mut pairs);
-    let f = arguments::take_floats(ws, e.next, &mut forces);
+    let lj = replay_records::take_lj(ws, 0);
+    let of = replay_records::take_cell(ws, lj.next);
+    let a = replay_records::take_u32s(ws, of.next, &mut ids);
+    let b = replay_records::take_floats(ws, a.next, &mut params);
+    let c = replay_records::take_u32s(ws, b.next, &mut species);
+    let d = replay_records::take_floats(ws, c.next, &mut positions);
+    let e = replay_records::take_u32s(ws, d.next, &mut pairs);
+    let f = replay_records::take_floats(ws, e.next, &mut forces);
     if f.next != ws.len() {
         return 0;
     }
@@ -124,13 +124,13 @@ fn lj_all_case(ws: &[u64], out: &mut [u64]) -> usize {
     let mut species = [0u32; 8192];
     let mut positions = [0.0; 8192];
     let mut forces = [0.0; 8192];
-    let lj = arguments::take_lj(ws, 0);
-    let of = arguments::take_cell(ws, lj.next);
-    let a = arguments::take_u32s(ws, of.next, &mut ids);
-    let b = arguments::take_floats(ws, a.next, &mut params);
-    let c = arguments::take_u32s(ws, b.next, &mut species);
-    let d = arguments::take_floats(ws, c.next, &mut positions);
-    let e = arguments::take_floats(ws, d.next, &mut forces);
+    let lj = replay_records::take_lj(ws, 0);
+    let of = replay_records::take_cell(ws, lj.next);
+    let a = replay_records::take_u32s(ws, of.next, &mut ids);
+    let b = replay_records::take_floats(ws, a.next, &mut params);
+    let c = replay_records::take_u32s(ws, b.next, &mut species);
+    let d = replay_records::take_floats(ws, c.next, &mut positions);
+    let e = replay_records::take_floats(ws, d.next, &mut forces);
     if e.next != ws.len() {
         return 0;
     }
@@ -157,13 +157,13 @@ fn coulomb_pairs_case(ws: &[u64], out: &mut [u64]) -> usize {
     let mut positions = [0.0; 8192];
     let mut pairs = [0u32; 8192];
     let mut forces = [0.0; 8192];
-    let units = arguments::take_units(ws, 0);
-    let cutoff = words::take_float(ws, units.next);
-    let of = arguments::take_cell(ws, cutoff.next);
-    let a = arguments::take_floats(ws, of.next, &mut charges);
-    let b = arguments::take_floats(ws, a.next, &mut positions);
-    let c = arguments::take_u32s(ws, b.next, &mut pairs);
-    let d = arguments::take_floats(ws, c.next, &mut forces);
+    let units = replay_records::take_units(ws, 0);
+    let cutoff = replay_words::take_float(ws, units.next);
+    let of = replay_records::take_cell(ws, cutoff.next);
+    let a = replay_records::take_floats(ws, of.next, &mut charges);
+    let b = replay_records::take_floats(ws, a.next, &mut positions);
+    let c = replay_records::take_u32s(ws, b.next, &mut pairs);
+    let d = replay_records::take_floats(ws, c.next, &mut forces);
     if d.next != ws.len() {
         return 0;
     }
@@ -188,12 +188,12 @@ fn coulomb_all_case(ws: &[u64], out: &mut [u64]) -> usize {
     let mut charges = [0.0; 8192];
     let mut positions = [0.0; 8192];
     let mut forces = [0.0; 8192];
-    let units = arguments::take_units(ws, 0);
-    let cutoff = words::take_float(ws, units.next);
-    let of = arguments::take_cell(ws, cutoff.next);
-    let a = arguments::take_floats(ws, of.next, &mut charges);
-    let b = arguments::take_floats(ws, a.next, &mut positions);
-    let c = arguments::take_floats(ws, b.next, &mut forces);
+    let units = replay_records::take_units(ws, 0);
+    let cutoff = replay_words::take_float(ws, units.next);
+    let of = replay_records::take_cell(ws, cutoff.next);
+    let a = replay_records::take_floats(ws, of.next, &mut charges);
+    let b = replay_records::take_floats(ws, a.next, &mut positions);
+    let c = replay_records::take_floats(ws, b.next, &mut forces);
     if c.next != ws.len() {
         return 0;
     }
@@ -218,14 +218,14 @@ fn bonds_all_case(ws: &[u64], out: &mut [u64]) -> usize {
     let mut ks = [0.0; 8192];
     let mut positions = [0.0; 8192];
     let mut forces = [0.0; 8192];
-    let k = words::take_float(ws, 0);
-    let r0 = words::take_float(ws, k.next);
-    let of = arguments::take_cell(ws, r0.next);
-    let a = arguments::take_u32s(ws, of.next, &mut bonds);
-    let b = arguments::take_floats(ws, a.next, &mut lengths);
-    let c = arguments::take_floats(ws, b.next, &mut ks);
-    let d = arguments::take_floats(ws, c.next, &mut positions);
-    let e = arguments::take_floats(ws, d.next, &mut forces);
+    let k = replay_words::take_float(ws, 0);
+    let r0 = replay_words::take_float(ws, k.next);
+    let of = replay_records::take_cell(ws, r0.next);
+    let a = replay_records::take_u32s(ws, of.next, &mut bonds);
+    let b = replay_records::take_floats(ws, a.next, &mut lengths);
+    let c = replay_records::take_floats(ws, b.next, &mut ks);
+    let d = replay_records::take_floats(ws, c.next, &mut positions);
+    let e = replay_records::take_floats(ws, d.next, &mut forces);
     if e.next != ws.len() {
         return 0;
     }
@@ -267,5 +267,5 @@ pub fn answer(call: u64, ws: &[u64], out: &mut [u64]) -> usize
     ensures { λ r. ⌜ r ≤ length (now (out .exit)) ⌝ }
 {
     let count = picked(call, ws, out);
-    arguments::held(out, count)
+    replay_records::held(out, count)
 }

@@ -2,9 +2,9 @@
 // than 8,192. The tables are read in three turns, each function lending its own to the next.
 ghost use Prim.Native.Nat.{_≤_};
 ghost use lib.ListN.{length};
-use arguments::SettingsArg;
-use step::Stepped;
+use replay_records::SettingsArg;
 use verlet::Thermostat;
+use verlet_step::Stepped;
 
 struct ThermostatArg {
     value: Thermostat,
@@ -13,10 +13,10 @@ struct ThermostatArg {
 
 // 0, or 1, the target and tau.
 fn take_thermostat(ws: &[u64], at: usize) -> ThermostatArg {
-    let there = words::take_bool(ws, at);
+    let there = replay_words::take_bool(ws, at);
     if there.value {
-        let target = words::take_float(ws, there.next);
-        let tau = words::take_float(ws, target.next);
+        let target = replay_words::take_float(ws, there.next);
+        let tau = replay_words::take_float(ws, target.next);
         let target_k = target.value;
         let tau_fs = tau.value;
         return ThermostatArg {
@@ -39,9 +39,9 @@ struct Fixed {
 }
 
 fn take_fixed(finishing: bool, ws: &[u64]) -> Fixed {
-    let dt = words::take_float(ws, 0);
+    let dt = replay_words::take_float(ws, 0);
     let t = take_thermostat(ws, dt.next);
-    let settings = arguments::take_settings(ws, t.next);
+    let settings = replay_records::take_settings(ws, t.next);
     let thermostat = t.value;
     Fixed {
         finishing,
@@ -56,11 +56,11 @@ fn take_fixed(finishing: bool, ws: &[u64]) -> Fixed {
 fn tell_values(out: &mut [u64], r: Stepped) -> usize {
     let done = r.done;
     let state = r.state;
-    let head = arguments::put_done(out, done);
-    let stop = words::put_bool(out, head, r.stopped);
-    let asked = words::put_bool(out, stop, r.rebuilt);
-    let at = arguments::put_state(out, asked, state);
-    words::put_float(out, at, r.potential)
+    let head = replay_records::put_done(out, done);
+    let stop = replay_words::put_bool(out, head, r.stopped);
+    let asked = replay_words::put_bool(out, stop, r.rebuilt);
+    let at = replay_records::put_state(out, asked, state);
+    replay_words::put_float(out, at, r.potential)
 }
 
 // The rooms and stores, whatever became of them.
@@ -75,13 +75,13 @@ fn tell_rooms(
     items: &[u32],
     forces: &[f64],
 ) -> usize {
-    let placed = words::put_floats(out, at, positions);
-    let moving = words::put_floats(out, placed, velocities);
-    let listed = words::put_u32s(out, moving, pairs);
-    let referred = words::put_floats(out, listed, references);
-    let laid = words::put_u32s(out, referred, starts);
-    let sorted = words::put_u32s(out, laid, items);
-    words::put_floats(out, sorted, forces)
+    let placed = replay_words::put_floats(out, at, positions);
+    let moving = replay_words::put_floats(out, placed, velocities);
+    let listed = replay_words::put_u32s(out, moving, pairs);
+    let referred = replay_words::put_floats(out, listed, references);
+    let laid = replay_words::put_u32s(out, referred, starts);
+    let sorted = replay_words::put_u32s(out, laid, items);
+    replay_words::put_floats(out, sorted, forces)
 }
 
 // ---- the call
@@ -116,7 +116,7 @@ fn moved(
     let state = settings.state;
     let cell = settings.cell;
     if fixed.finishing {
-        return step::finish(
+        return verlet_step::finish(
             dt,
             thermostat,
             lj,
@@ -144,7 +144,7 @@ fn moved(
             forces,
         );
     }
-    step::step(
+    verlet_step::step(
         dt,
         thermostat,
         lj,
@@ -252,13 +252,13 @@ fn with_rooms(
     let mut starts = [0u32; 8192];
     let mut items = [0u32; 8192];
     let mut forces = [0.0; 8192];
-    let a = arguments::take_floats(ws, next, &mut positions);
-    let b = arguments::take_floats(ws, a.next, &mut velocities);
-    let c = arguments::take_u32s(ws, b.next, &mut pairs);
-    let d = arguments::take_floats(ws, c.next, &mut references);
-    let e = arguments::take_u32s(ws, d.next, &mut starts);
-    let f = arguments::take_u32s(ws, e.next, &mut items);
-    let g = arguments::take_floats(ws, f.next, &mut forces);
+    let a = replay_records::take_floats(ws, next, &mut positions);
+    let b = replay_records::take_floats(ws, a.next, &mut velocities);
+    let c = replay_records::take_u32s(ws, b.next, &mut pairs);
+    let d = replay_records::take_floats(ws, c.next, &mut references);
+    let e = replay_records::take_u32s(ws, d.next, &mut starts);
+    let f = replay_records::take_u32s(ws, e.next, &mut items);
+    let g = replay_records::take_floats(ws, f.next, &mut forces);
     if g.next != ws.len() {
         return 0;
     }
@@ -308,12 +308,12 @@ fn with_bonds(
     let mut ks = [0.0; 8192];
     let mut masses = [0.0; 8192];
     let mut exclusions = [0u32; 8192];
-    let a = arguments::take_u32s(ws, next, &mut bonds);
-    let b = arguments::take_floats(ws, a.next, &mut lengths);
-    let c = arguments::take_floats(ws, b.next, &mut ks);
-    let d = arguments::take_floats(ws, c.next, &mut masses);
-    let e = arguments::take_u32s(ws, d.next, &mut exclusions);
-    let potential = words::take_float(ws, e.next);
+    let a = replay_records::take_u32s(ws, next, &mut bonds);
+    let b = replay_records::take_floats(ws, a.next, &mut lengths);
+    let c = replay_records::take_floats(ws, b.next, &mut ks);
+    let d = replay_records::take_floats(ws, c.next, &mut masses);
+    let e = replay_records::take_u32s(ws, d.next, &mut exclusions);
+    let potential = replay_words::take_float(ws, e.next);
     let na = a.count;
     let nb = b.count;
     let nc = c.count;
@@ -344,10 +344,10 @@ fn step_case(finishing: bool, ws: &[u64], out: &mut [u64]) -> usize {
     let mut charges = [0.0; 8192];
     let fixed = take_fixed(finishing, ws);
     let from = fixed.settings.next;
-    let a = arguments::take_u32s(ws, from, &mut ids);
-    let b = arguments::take_floats(ws, a.next, &mut params);
-    let c = arguments::take_u32s(ws, b.next, &mut species);
-    let d = arguments::take_floats(ws, c.next, &mut charges);
+    let a = replay_records::take_u32s(ws, from, &mut ids);
+    let b = replay_records::take_floats(ws, a.next, &mut params);
+    let c = replay_records::take_u32s(ws, b.next, &mut species);
+    let d = replay_records::take_floats(ws, c.next, &mut charges);
     let na = a.count;
     let nb = b.count;
     let nc = c.count;
@@ -377,5 +377,5 @@ pub fn answer(call: u64, ws: &[u64], out: &mut [u64]) -> usize
     ensures { λ r. ⌜ r ≤ length (now (out .exit)) ⌝ }
 {
     let count = picked(call, ws, out);
-    arguments::held(out, count)
+    replay_records::held(out, count)
 }

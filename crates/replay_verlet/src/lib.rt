@@ -7,38 +7,38 @@ use virial::Units;
 fn kinetic_energy_case(ws: &[u64], out: &mut [u64]) -> usize {
     let mut velocities = [0.0; 8192];
     let mut masses = [0.0; 8192];
-    let units = arguments::take_units(ws, 0);
-    let vs = arguments::take_floats(ws, units.next, &mut velocities);
-    let ms = arguments::take_floats(ws, vs.next, &mut masses);
+    let units = replay_records::take_units(ws, 0);
+    let vs = replay_records::take_floats(ws, units.next, &mut velocities);
+    let ms = replay_records::take_floats(ws, vs.next, &mut masses);
     if ms.next != ws.len() {
         return 0;
     }
     let n = vs.count;
     let m = ms.count;
     let r = verlet::kinetic_energy(units.value, &velocities[..n], &masses[..m]);
-    arguments::put_number(out, r)
+    replay_records::put_number(out, r)
 }
 
 fn temperature_case(ws: &[u64], out: &mut [u64]) -> usize {
     let mut velocities = [0.0; 8192];
     let mut masses = [0.0; 8192];
-    let units = arguments::take_units(ws, 0);
-    let dof = words::take_float(ws, units.next);
-    let vs = arguments::take_floats(ws, dof.next, &mut velocities);
-    let ms = arguments::take_floats(ws, vs.next, &mut masses);
+    let units = replay_records::take_units(ws, 0);
+    let dof = replay_words::take_float(ws, units.next);
+    let vs = replay_records::take_floats(ws, dof.next, &mut velocities);
+    let ms = replay_records::take_floats(ws, vs.next, &mut masses);
     if ms.next != ws.len() {
         return 0;
     }
     let n = vs.count;
     let m = ms.count;
     let r = verlet::temperature(units.value, dof.value, &velocities[..n], &masses[..m]);
-    arguments::put_number(out, r)
+    replay_records::put_number(out, r)
 }
 
 // The answer, then the velocities, whatever became of them.
 fn tell_velocities(out: &mut [u64], answer: Done, velocities: &[f64]) -> usize {
-    let at = arguments::put_done(out, answer);
-    words::put_floats(out, at, velocities)
+    let at = replay_records::put_done(out, answer);
+    replay_words::put_floats(out, at, velocities)
 }
 
 fn rescaled(
@@ -57,12 +57,12 @@ fn rescaled(
 fn berendsen_case(ws: &[u64], out: &mut [u64]) -> usize {
     let mut masses = [0.0; 8192];
     let mut velocities = [0.0; 8192];
-    let units = arguments::take_units(ws, 0);
-    let dt = words::take_float(ws, units.next);
-    let target = words::take_float(ws, dt.next);
-    let tau = words::take_float(ws, target.next);
-    let ms = arguments::take_floats(ws, tau.next, &mut masses);
-    let vs = arguments::take_floats(ws, ms.next, &mut velocities);
+    let units = replay_records::take_units(ws, 0);
+    let dt = replay_words::take_float(ws, units.next);
+    let target = replay_words::take_float(ws, dt.next);
+    let tau = replay_words::take_float(ws, target.next);
+    let ms = replay_records::take_floats(ws, tau.next, &mut masses);
+    let vs = replay_records::take_floats(ws, ms.next, &mut velocities);
     if vs.next != ws.len() {
         return 0;
     }
@@ -93,5 +93,5 @@ pub fn answer(call: u64, ws: &[u64], out: &mut [u64]) -> usize
     ensures { λ r. ⌜ r ≤ length (now (out .exit)) ⌝ }
 {
     let count = picked(call, ws, out);
-    arguments::held(out, count)
+    replay_records::held(out, count)
 }

@@ -13,10 +13,10 @@ fn tell_rows(out: &mut [u64], answer: RowsAnswer) -> usize {
     let rows = answer.rows;
     match done {
         Done::Answered => {
-            let at = arguments::put_answered(out);
-            arguments::put_rows(out, at, rows)
+            let at = replay_records::put_answered(out);
+            replay_records::put_rows(out, at, rows)
         }
-        Done::Refused(why) => arguments::put_refusal(out, why),
+        Done::Refused(why) => replay_records::put_refusal(out, why),
     }
 }
 
@@ -29,7 +29,7 @@ fn three_rows(a: Vec3, b: Vec3, c: Vec3) -> [[f64; 3]; 3] {
 // Each call that writes forces, and its answer.
 fn merged(sum: Sum, other: Sum, added: &[f64], forces: &mut [f64], out: &mut [u64]) -> usize {
     let r = virial::merge(sum, forces, other, added);
-    arguments::put_summed_forces(out, r, forces)
+    replay_records::put_summed_forces(out, r, forces)
 }
 
 fn pair_added(
@@ -42,21 +42,21 @@ fn pair_added(
     out: &mut [u64],
 ) -> usize {
     let r = virial::add_pair_force(sum, forces, i, j, d, f);
-    arguments::put_summed_forces(out, r, forces)
+    replay_records::put_summed_forces(out, r, forces)
 }
 
 fn cleared(forces: &mut [f64], out: &mut [u64]) -> usize {
     let r = virial::zeros(forces);
-    arguments::put_summed_forces(out, r, forces)
+    replay_records::put_summed_forces(out, r, forces)
 }
 
 fn merge_case(ws: &[u64], out: &mut [u64]) -> usize {
     let mut added = [0.0; 8192];
     let mut forces = [0.0; 8192];
-    let sum = arguments::take_sum(ws, 0);
-    let other = arguments::take_sum(ws, sum.next);
-    let from = arguments::take_floats(ws, other.next, &mut added);
-    let to = arguments::take_floats(ws, from.next, &mut forces);
+    let sum = replay_records::take_sum(ws, 0);
+    let other = replay_records::take_sum(ws, sum.next);
+    let from = replay_records::take_floats(ws, other.next, &mut added);
+    let to = replay_records::take_floats(ws, from.next, &mut forces);
     if to.next != ws.len() {
         return 0;
     }
@@ -67,12 +67,12 @@ fn merge_case(ws: &[u64], out: &mut [u64]) -> usize {
 
 fn add_pair_force_case(ws: &[u64], out: &mut [u64]) -> usize {
     let mut forces = [0.0; 8192];
-    let sum = arguments::take_sum(ws, 0);
-    let i = words::take_u32(ws, sum.next);
-    let j = words::take_u32(ws, i.next);
-    let d = arguments::take_vec3(ws, j.next);
-    let f = arguments::take_vec3(ws, d.next);
-    let to = arguments::take_floats(ws, f.next, &mut forces);
+    let sum = replay_records::take_sum(ws, 0);
+    let i = replay_words::take_u32(ws, sum.next);
+    let j = replay_words::take_u32(ws, i.next);
+    let d = replay_records::take_vec3(ws, j.next);
+    let f = replay_records::take_vec3(ws, d.next);
+    let to = replay_records::take_floats(ws, f.next, &mut forces);
     if to.next != ws.len() {
         return 0;
     }
@@ -89,11 +89,11 @@ fn add_pair_force_case(ws: &[u64], out: &mut [u64]) -> usize {
 }
 
 fn virial_from_pair_case(ws: &[u64], out: &mut [u64]) -> usize {
-    let x = arguments::take_vec3(ws, 0);
-    let y = arguments::take_vec3(ws, x.next);
-    let z = arguments::take_vec3(ws, y.next);
-    let d = arguments::take_vec3(ws, z.next);
-    let f = arguments::take_vec3(ws, d.next);
+    let x = replay_records::take_vec3(ws, 0);
+    let y = replay_records::take_vec3(ws, x.next);
+    let z = replay_records::take_vec3(ws, y.next);
+    let d = replay_records::take_vec3(ws, z.next);
+    let f = replay_records::take_vec3(ws, d.next);
     if f.next != ws.len() {
         return 0;
     }
@@ -102,24 +102,24 @@ fn virial_from_pair_case(ws: &[u64], out: &mut [u64]) -> usize {
 }
 
 fn scalar_virial_case(ws: &[u64], out: &mut [u64]) -> usize {
-    let x = arguments::take_vec3(ws, 0);
-    let y = arguments::take_vec3(ws, x.next);
-    let z = arguments::take_vec3(ws, y.next);
+    let x = replay_records::take_vec3(ws, 0);
+    let y = replay_records::take_vec3(ws, x.next);
+    let z = replay_records::take_vec3(ws, y.next);
     if z.next != ws.len() {
         return 0;
     }
     let rows = three_rows(x.value, y.value, z.value);
-    arguments::put_number(out, virial::scalar_virial(rows))
+    replay_records::put_number(out, virial::scalar_virial(rows))
 }
 
 fn pressure_case(ws: &[u64], out: &mut [u64]) -> usize {
-    let kinetic = words::take_float(ws, 0);
-    let scalar = words::take_float(ws, kinetic.next);
-    let volume = words::take_float(ws, scalar.next);
+    let kinetic = replay_words::take_float(ws, 0);
+    let scalar = replay_words::take_float(ws, kinetic.next);
+    let volume = replay_words::take_float(ws, scalar.next);
     if volume.next != ws.len() {
         return 0;
     }
-    arguments::put_number(
+    replay_records::put_number(
         out,
         virial::pressure(kinetic.value, scalar.value, volume.value),
     )
@@ -128,13 +128,13 @@ fn pressure_case(ws: &[u64], out: &mut [u64]) -> usize {
 fn pressure_tensor_case(ws: &[u64], out: &mut [u64]) -> usize {
     let mut velocities = [0.0; 8192];
     let mut masses = [0.0; 8192];
-    let units = arguments::take_units(ws, 0);
-    let volume = words::take_float(ws, units.next);
-    let x = arguments::take_vec3(ws, volume.next);
-    let y = arguments::take_vec3(ws, x.next);
-    let z = arguments::take_vec3(ws, y.next);
-    let vs = arguments::take_floats(ws, z.next, &mut velocities);
-    let ms = arguments::take_floats(ws, vs.next, &mut masses);
+    let units = replay_records::take_units(ws, 0);
+    let volume = replay_words::take_float(ws, units.next);
+    let x = replay_records::take_vec3(ws, volume.next);
+    let y = replay_records::take_vec3(ws, x.next);
+    let z = replay_records::take_vec3(ws, y.next);
+    let vs = replay_records::take_floats(ws, z.next, &mut velocities);
+    let ms = replay_records::take_floats(ws, vs.next, &mut masses);
     if ms.next != ws.len() {
         return 0;
     }
@@ -152,17 +152,17 @@ fn pressure_tensor_case(ws: &[u64], out: &mut [u64]) -> usize {
 }
 
 fn to_gpa_case(ws: &[u64], out: &mut [u64]) -> usize {
-    let units = arguments::take_units(ws, 0);
-    let p = words::take_float(ws, units.next);
+    let units = replay_records::take_units(ws, 0);
+    let p = replay_words::take_float(ws, units.next);
     if p.next != ws.len() {
         return 0;
     }
-    arguments::put_number(out, virial::to_gpa(units.value, p.value))
+    replay_records::put_number(out, virial::to_gpa(units.value, p.value))
 }
 
 fn zeros_case(ws: &[u64], out: &mut [u64]) -> usize {
     let mut forces = [0.0; 8192];
-    let to = arguments::take_floats(ws, 0, &mut forces);
+    let to = replay_records::take_floats(ws, 0, &mut forces);
     if to.next != ws.len() {
         return 0;
     }
@@ -189,5 +189,5 @@ pub fn answer(call: u64, ws: &[u64], out: &mut [u64]) -> usize
     ensures { λ r. ⌜ r ≤ length (now (out .exit)) ⌝ }
 {
     let count = picked(call, ws, out);
-    arguments::held(out, count)
+    replay_records::held(out, count)
 }

@@ -14,9 +14,9 @@ use borrow.Author.Tests.{le-leb, leb-true, eqb-true, eqb-false}
 use Rattle.hex.proofs.Choice.{cases}
 use Rattle.exclusions.specs.Table.{added}
 use Rattle.exclusions.proofs.Insertion.{longer-added}
-use Rattle.lines.specs.declared.Head.{Head}
-use Rattle.lines.specs.declared.Line.{Line}
-use Rattle.lines.specs.declared.Line.the-variants.{Header, Atom, Exclusion, Malformed, End}
+use Rattle.sheet_lines.specs.declared.Head.{Head}
+use Rattle.sheet_lines.specs.declared.Line.{Line}
+use Rattle.sheet_lines.specs.declared.Line.the-variants.{Header, Atom, Exclusion, Malformed, End}
 use Rattle.sheet.specs.Meaning.{Meaning, Atoms, Act, onHeader, onAtoms, onRows, nowhere, andThen, acted, actOf, headed, seated, excluding, fresh, placed}
 use Rattle.sheet.proofs.RowSets.{added-comm}
 

@@ -7,9 +7,9 @@ use mathlib.Core.List.{List}
 use lib.ListN.{set, take}
 use Rattle.answer.specs.Seen.{Seen, answered, refusedBy}
 use Rattle.lists.specs.Lists.{rows}
-use Rattle.lines.specs.declared.Head.{Head}
-use Rattle.lines.specs.declared.Line.{Line}
-use Rattle.lines.specs.declared.Line.the-variants.{Header, Atom, Exclusion, Malformed, End}
+use Rattle.sheet_lines.specs.declared.Head.{Head}
+use Rattle.sheet_lines.specs.declared.Line.{Line}
+use Rattle.sheet_lines.specs.declared.Line.the-variants.{Header, Atom, Exclusion, Malformed, End}
 use Rattle.sheet.specs.Meaning.{Meaning, Atoms, acted, actOf, headed, seated, excluding, fresh, placed}
 use Rattle.sheet.specs.Reading.{refusalFor, onward}
 use Rattle.sheet.specs.Desk.{meaningFor}

@@ -19,10 +19,10 @@ use Rattle.exclusions.specs.Table.{isTable, added, holding, room}
 use Rattle.exclusions.specs.Calls.{Outcome, grown, excludeOf, ExcludeSays}
 use Rattle.exclusions.proofs.Insertion.{added-table}
 use Rattle.exclusions.proofs.Storing.{held-rows, hold-length}
-use Rattle.lines.specs.Reading.{lineAt}
-use Rattle.lines.specs.declared.Line.{Line}
-use Rattle.lines.specs.declared.Line.the-variants.{Header, Atom, Exclusion, Malformed, End}
-use Rattle.lines.proofs.GrammarLaws.{text-line, Sound}
+use Rattle.sheet_lines.specs.Reading.{lineAt}
+use Rattle.sheet_lines.specs.declared.Line.{Line}
+use Rattle.sheet_lines.specs.declared.Line.the-variants.{Header, Atom, Exclusion, Malformed, End}
+use Rattle.sheet_lines.proofs.GrammarLaws.{text-line, Sound}
 use Rattle.sheet.specs.Meaning.{excluding}
 use Rattle.sheet.specs.Desk.{Fit, Below}
 

@@ -6,12 +6,12 @@ use mathlib.Core.List.{List, [], _∷_, _++_, List·Permᴰ, List·Permᴰ·nil,
 use native.Mathlib.Omega.{arith}
 use lib.ListN.{length, length-append}
 use Rattle.answer.specs.Seen.{Seen, answered, refused}
-use Rattle.lines.specs.Reading.{linesOf}
-use Rattle.lines.specs.Grammar.{WellFormed, AllWellFormed, AllWhole, joinAll}
-use Rattle.lines.proofs.Unread.{Begins, begins}
-use Rattle.lines.proofs.WholeLines.{reordered}
-use Rattle.lines.specs.declared.Line.{Line}
-use Rattle.lines.specs.declared.Line.the-variants.{Header, Atom, Exclusion, Malformed, End}
+use Rattle.sheet_lines.specs.Reading.{linesOf}
+use Rattle.sheet_lines.specs.Grammar.{WellFormed, AllWellFormed, AllWhole, joinAll}
+use Rattle.sheet_lines.proofs.Unread.{Begins, begins}
+use Rattle.sheet_lines.proofs.WholeLines.{reordered}
+use Rattle.sheet_lines.specs.declared.Line.{Line}
+use Rattle.sheet_lines.specs.declared.Line.the-variants.{Header, Atom, Exclusion, Malformed, End}
 use Rattle.sheet.specs.Meaning.{Meaning, andThen, acted, actOf}
 use Rattle.sheet.specs.Reading.{refusalFor, onward, run, blank, thenTested, sheetOf}
 use Rattle.sheet.proofs.Acts.{swap, alike}

@@ -16,8 +16,8 @@ use Rattle.lists.specs.Lists.{rows, flat}
 use Rattle.lists.proofs.Cases.{by-test}
 use Rattle.exclusions.proofs.Search.{rows-taken}
 use Rattle.exclusions.proofs.Storing.{front-flat}
-use Rattle.lines.specs.Reading.{linesOf}
-use Rattle.lines.specs.declared.Head.{Head}
+use Rattle.sheet_lines.specs.Reading.{linesOf}
+use Rattle.sheet_lines.specs.declared.Head.{Head}
 use Rattle.sheet.specs.Meaning.{Meaning}
 use Rattle.sheet.specs.Reading.{counted, tested, strayOf, absentOf, soundWith, thenTested, run, blank, sheetOf}
 use Rattle.sheet.specs.Desk.{headerFor, meaningFor, Fit}

@@ -12,10 +12,10 @@ use borrow.Author.Tests.{leb-true}
 use Rattle.answer.specs.Seen.{Seen, answered, refused}
 use Rattle.lists.proofs.Cases.{by-test}
 use Rattle.exclusions.specs.Table.{added}
-use Rattle.lines.specs.Reading.{linesOf}
-use Rattle.lines.specs.declared.Head.{Head}
-use Rattle.lines.specs.declared.Line.{Line}
-use Rattle.lines.specs.declared.Line.the-variants.{Header, Atom, Exclusion, Malformed, End}
+use Rattle.sheet_lines.specs.Reading.{linesOf}
+use Rattle.sheet_lines.specs.declared.Head.{Head}
+use Rattle.sheet_lines.specs.declared.Line.{Line}
+use Rattle.sheet_lines.specs.declared.Line.the-variants.{Header, Atom, Exclusion, Malformed, End}
 use Rattle.sheet.specs.Meaning.{Meaning, Atoms, andThen, acted, actOf, headed, seated, excluding, fresh, placed}
 use Rattle.sheet.specs.Reading.{refusalFor, onward, run, blank, tested, Sound, soundWith, thenTested, sheetOf}
 use Rattle.sheet.proofs.Settling.{sound-few}

@@ -13,9 +13,9 @@ use Rattle.answer.specs.Seen.{Seen, answered, refused, refusedBy, numberOf, pla
 use Rattle.answer.specs.declared.Refusal.{Refusal}
 use Rattle.lists.specs.Lists.{rows}
 use Rattle.exclusions.specs.Table.{isTable}
-use Rattle.lines.specs.Reading.{lineAt, widthOf, linesFrom, linesOf}
-use Rattle.lines.specs.declared.Line.{Line}
-use Rattle.lines.specs.declared.Line.the-variants.{Header, Atom, Exclusion, Malformed, End}
+use Rattle.sheet_lines.specs.Reading.{lineAt, widthOf, linesFrom, linesOf}
+use Rattle.sheet_lines.specs.declared.Line.{Line}
+use Rattle.sheet_lines.specs.declared.Line.the-variants.{Header, Atom, Exclusion, Malformed, End}
 use Rattle.sheet.specs.Meaning.{Meaning, Atoms, acted, actOf}
 use Rattle.sheet.specs.Reading.{refusalFor, onward, run}
 use Rattle.sheet.specs.Desk.{meaningFor, shownKept, Fit, FitKept}

@@ -8,9 +8,9 @@ use lib.ListN.{length, take}
 use Rattle.answer.specs.Seen.{Seen, answered, refusedBy}
 use Rattle.lists.specs.Lists.{rows}
 use Rattle.exclusions.specs.Table.{isTable}
-use Rattle.lines.specs.declared.Head.{Head}
-use Rattle.lines.specs.declared.Line.{Line}
-use Rattle.lines.specs.declared.Line.the-variants.{Header, Atom, Exclusion, Malformed, End}
+use Rattle.sheet_lines.specs.declared.Head.{Head}
+use Rattle.sheet_lines.specs.declared.Line.{Line}
+use Rattle.sheet_lines.specs.declared.Line.the-variants.{Header, Atom, Exclusion, Malformed, End}
 use Rattle.sheet.specs.Meaning.{Meaning}
 use Rattle.sheet.specs.declared.desk.Desk.{Desk}
 use Rattle.sheet.specs.declared.desk.Kept as kept

@@ -6,9 +6,9 @@ use mathlib.Core.List.{List}
 use lib.ListN.{length, getD, set}
 use lib.Dec.{leb, eqb}
 use Rattle.exclusions.specs.Table.{added}
-use Rattle.lines.specs.declared.Head.{Head}
-use Rattle.lines.specs.declared.Line.{Line}
-use Rattle.lines.specs.declared.Line.the-variants.{Header, Atom, Exclusion, Malformed, End}
+use Rattle.sheet_lines.specs.declared.Head.{Head}
+use Rattle.sheet_lines.specs.declared.Line.{Line}
+use Rattle.sheet_lines.specs.declared.Line.the-variants.{Header, Atom, Exclusion, Malformed, End}
 
 -- atoms by number: three coordinates each, and a mark, 1 where the atom's line was read
 pub record Atoms : Type 0 where

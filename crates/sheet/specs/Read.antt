@@ -9,7 +9,7 @@ use lib.Dec.{ltb, eqb}
 use Rattle.answer.specs.Seen.{Seen, answered, refused, refusedBy}
 use Rattle.answer.specs.declared.Refusal.the-variants.{Lengths}
 use Rattle.lists.specs.Lists.{flat}
-use Rattle.lines.specs.declared.Head.{Head}
+use Rattle.sheet_lines.specs.declared.Head.{Head}
 use Rattle.sheet.specs.Reading.{Sound, sheetOf}
 use Rattle.sheet.specs.declared.Job.{Job}
 use Rattle.sheet.specs.declared.Sheet as sheet

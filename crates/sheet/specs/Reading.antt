@@ -8,10 +8,10 @@ use lib.Dec.{ltb, eqb}
 use Rattle.answer.specs.Seen.{Seen, answered, refused, refusedBy, noHeader}
 use Rattle.answer.specs.declared.Refusal.{Refusal}
 use Rattle.answer.specs.declared.Refusal.the-variants as refusal
-use Rattle.lines.specs.Reading.{linesOf}
-use Rattle.lines.specs.declared.Head.{Head}
-use Rattle.lines.specs.declared.Line.{Line}
-use Rattle.lines.specs.declared.Line.the-variants.{Header, Atom, Exclusion, Malformed, End}
+use Rattle.sheet_lines.specs.Reading.{linesOf}
+use Rattle.sheet_lines.specs.declared.Head.{Head}
+use Rattle.sheet_lines.specs.declared.Line.{Line}
+use Rattle.sheet_lines.specs.declared.Line.the-variants.{Header, Atom, Exclusion, Malformed, End}
 use Rattle.sheet.specs.Meaning.{Meaning, Atoms, acted, actOf}
 
 -- the refusal of a line, the n-th, that does not act: 9, 10, or 8 at place capacity + 1

@@ -3,7 +3,7 @@
 use crate::desk::Desk;
 use answer::NO_HEADER;
 use answer::Refusal;
-use lines::Head;
+use sheet_lines::Head;
 ghost use mathlib.Core.Path.{_≡_};
 ghost use Prim.Native.Nat.{_+_, _≤_};
 ghost use lib.ListN.{length, drop};

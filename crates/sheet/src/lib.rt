@@ -10,7 +10,7 @@ use crate::desk::Kept;
 use crate::desk::read_lines;
 use crate::judge::Judged;
 use crate::judge::judge;
-use lines::Head;
+use sheet_lines::Head;
 ghost use mathlib.Core.Path.{_≡_};
 ghost use Prim.Native.Nat.{_≤_};
 ghost use lib.ListN.{length, take};

@@ -7,14 +7,16 @@ use native.Mathlib.Numerals.{add-one}
 use native.Mathlib.Omega.{arith}
 use lib.Ieee.{Float, nan}
 use lib.ListN.{length, set}
+use Rattle.lists.specs.Atoms.{atomsOf}
+use Rattle.float.specs.Literals.{half}
 use Rattle.cell.specs.declared.Vec3.{Vec3}
 use Rattle.float.specs.Arith.{_⊕_, _⊗_, at}
 use Rattle.lists.proofs.Loops.{part-turn, part-none, part-done, part-length, partFrom-same, getD-mapAt}
 use Rattle.lists.specs.Loops.{foldUpTo, partFrom, partAt, mapAt}
 use Rattle.virial.proofs.Forces.{added-there}
 use Rattle.virial.specs.declared.Units.{Units}
-use Rattle.virial.specs.Virial.{atomsOf, addedAt, velocityAt}
-use Rattle.verlet.specs.Verlet.{fHalf, kickOf, kickAt, kickedOf, driftAt, driftedOf, movedOf, kickedAtom, driftedAtom, movedAtom, movedByAtoms}
+use Rattle.virial.specs.Virial.{addedAt, velocityAt}
+use Rattle.verlet.specs.Verlet.{kickOf, kickAt, kickedOf, driftAt, driftedOf, movedOf, kickedAtom, driftedAtom, movedAtom, movedByAtoms}
 
 module _ (g : ℕ → Float → Float) where
   -- past the part that is done everything is as it came
@@ -62,7 +64,7 @@ module _ (g : ℕ → Float → Float) where
 
 module _ (units : Units) (dt : Float) (fs ms xs vs : List Float) (speeds : length vs ≡ 3 * length ms) (places : length xs ≡ 3 * length ms) where
   abbrev kick : ℕ → Float → Float
-  kick = kickAt (units .«force_to_accel») (fHalf ⊗ dt) fs ms
+  kick = kickAt (units .«force_to_accel») (half ⊗ dt) fs ms
 
   abbrev kicked : List Float
   kicked = mapAt kick vs

@@ -16,7 +16,7 @@ use Rattle.float.proofs.Branches.{yes}
 use Rattle.float.proofs.Fraction.{round-neg}
 use Rattle.float.specs.Def.{absOf}
 use Rattle.lists.proofs.Cases.{below-or, by-test, and-both}
-use Rattle.ranges.specs.Range.{within, between}
+use Rattle.ranges.specs.Ranged.{within, between}
 
 -- a number, of magnitude at most a / c
 abbrev pub Small : ℕ → ℕ → Float → Type 0

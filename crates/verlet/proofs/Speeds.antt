@@ -10,17 +10,18 @@ use lib.Ieee.{Float, nan, ofBits, round}
 use lib.Ieee.Exact.{HasValue}
 use lib.Ieee.Positive.{positive}
 use lib.ListN.{length}
-use Rattle.cell.specs.Range.{entryLimit, otherLimit}
+use Rattle.float.specs.Literals.{half}
+use Rattle.cell.specs.Ranged.{entryLimit, otherLimit}
 use Rattle.float.specs.Arith.{_⊕_, _⊗_, _⊘_, bits, at}
 use Rattle.lists.proofs.Cases.{and-both}
 use Rattle.lists.proofs.Loops.{getD-mapAt}
 use Rattle.lists.proofs.Walks.{every-at, at-every}
 use Rattle.lists.specs.Lists.{every}
-use Rattle.virial.specs.Limits.{plain, velocity, mass, unit, unitsInRange}
+use Rattle.virial.specs.Ranged.{plain, velocity, mass, unit, unitsInRange}
 use Rattle.virial.specs.declared.Units.{Units}
-use Rattle.verlet.specs.Limits.{timeStep}
+use Rattle.verlet.specs.Ranged.{timeStep}
 use Rattle.verlet.specs.Parts.{coordinate, moveFits, drifts}
-use Rattle.verlet.specs.Verlet.{fHalf, kickOf, kickAt, kickedOf, driftedOf}
+use Rattle.verlet.specs.Verlet.{kickOf, kickAt, kickedOf, driftedOf}
 use Rattle.verlet.proofs.Sizes.{Small, Large, Exact, mul-small, mul-large, div-small, add-small, add-large, clash, by-size, within-small, small-within, between-small, between-large}
 use Rattle.verlet.proofs.Steps.{kicked-length, drifted-length, drifted-at, move-fit}
 
@@ -57,7 +58,7 @@ some-mass : T (positive (bits 0x3f50000000000000))
 unfolding ofBits
 some-mass = tt
 
-half-small : Small 1 2 fHalf
+half-small : Small 1 2 half
 unfolding ofBits
 half-small = leb→le 2 2 tt
 
@@ -128,22 +129,22 @@ module _ (accel m f v x dt : Float)
   time = within-small (bits 0x4090000000000000) (2 ^ 10) 1 step-is dt inStep
 
   -- a step of at most 2^-60 gives no more than 2^490 to a velocity
-  in-a-short-step : Small 1 (2 ^ 60) dt → Small (2 ^ 500) 1 (kickOf accel (fHalf ⊗ dt) f m v)
+  in-a-short-step : Small 1 (2 ^ 60) dt → Small (2 ^ 500) 1 (kickOf accel (half ⊗ dt) f m v)
   unfolding kickOf
   in-a-short-step h =
-      add-small (2 ^ 20) (2 ^ 490) (2 ^ 500) exact-500 v (f ⊗ (accel ⊘ m) ⊗ (fHalf ⊗ dt)) speed
-      (mul-small (2 ^ 550) 1 1 (2 ^ 60) (2 ^ 490) 1 (leb→le 1 (1 * 2 ^ 60) tt) one exact-490 (f ⊗ (accel ⊘ m)) (fHalf ⊗ dt) pull
-      (mul-small 1 2 1 (2 ^ 60) 1 (2 ^ 60) (leb→le 1 (2 * 2 ^ 60) tt) (leb→le 1 (2 ^ 60) tt) exact-tiny fHalf dt half-small h (leb→le (1 * 1 * 2 ^ 60) (1 * (2 * 2 ^ 60)) tt))
+      add-small (2 ^ 20) (2 ^ 490) (2 ^ 500) exact-500 v (f ⊗ (accel ⊘ m) ⊗ (half ⊗ dt)) speed
+      (mul-small (2 ^ 550) 1 1 (2 ^ 60) (2 ^ 490) 1 (leb→le 1 (1 * 2 ^ 60) tt) one exact-490 (f ⊗ (accel ⊘ m)) (half ⊗ dt) pull
+      (mul-small 1 2 1 (2 ^ 60) 1 (2 ^ 60) (leb→le 1 (2 * 2 ^ 60) tt) (leb→le 1 (2 ^ 60) tt) exact-tiny half dt half-small h (leb→le (1 * 1 * 2 ^ 60) (1 * (2 * 2 ^ 60)) tt))
       (leb→le (2 ^ 550 * 1 * 1) (2 ^ 490 * (1 * 2 ^ 60)) tt))
       (leb→le (2 ^ 20 + 2 ^ 490) (2 ^ 500) tt)
 
   -- in any step it stays a number
-  in-a-step : Small (2 ^ 561) 1 (kickOf accel (fHalf ⊗ dt) f m v)
+  in-a-step : Small (2 ^ 561) 1 (kickOf accel (half ⊗ dt) f m v)
   unfolding kickOf
   in-a-step =
-      add-small (2 ^ 20) (2 ^ 560) (2 ^ 561) exact-561 v (f ⊗ (accel ⊘ m) ⊗ (fHalf ⊗ dt)) speed
-      (mul-small (2 ^ 550) 1 (2 ^ 10) 1 (2 ^ 560) 1 one one exact-560 (f ⊗ (accel ⊘ m)) (fHalf ⊗ dt) pull
-      (mul-small 1 2 (2 ^ 10) 1 (2 ^ 10) 1 (leb→le 1 2 tt) one exact-10 fHalf dt half-small time (leb→le (1 * 2 ^ 10 * 1) (2 ^ 10 * (2 * 1)) tt))
+      add-small (2 ^ 20) (2 ^ 560) (2 ^ 561) exact-561 v (f ⊗ (accel ⊘ m) ⊗ (half ⊗ dt)) speed
+      (mul-small (2 ^ 550) 1 (2 ^ 10) 1 (2 ^ 560) 1 one one exact-560 (f ⊗ (accel ⊘ m)) (half ⊗ dt) pull
+      (mul-small 1 2 (2 ^ 10) 1 (2 ^ 10) 1 (leb→le 1 2 tt) one exact-10 half dt half-small time (leb→le (1 * 2 ^ 10 * 1) (2 ^ 10 * (2 * 1)) tt))
       (leb→le (2 ^ 550 * 2 ^ 10 * 1) (2 ^ 560 * (1 * 1)) tt))
       (leb→le (2 ^ 20 + 2 ^ 560) (2 ^ 561) tt)
 
@@ -154,18 +155,18 @@ module _ (accel m f v x dt : Float)
       (mul-large (2 ^ 500) 1 1 (2 ^ 60) (2 ^ 440) 1 (leb→le 1 (1 * 2 ^ 60) tt) one exact-440 w dt (2 ^ 561) (2 ^ 10) s time h l (leb→le (2 ^ 440 * (1 * 2 ^ 60)) (2 ^ 500 * 1 * 1) tt))
       (leb→le (2 ^ 400 + 2 ^ 20) (2 ^ 440) tt)
 
-  module _ (there : coordinate (x ⊕ kickOf accel (fHalf ⊗ dt) f m v ⊗ dt) ≡ true) where
-    kicked-small : Small (2 ^ 500) 1 (kickOf accel (fHalf ⊗ dt) f m v)
+  module _ (there : coordinate (x ⊕ kickOf accel (half ⊗ dt) f m v ⊗ dt) ≡ true) where
+    kicked-small : Small (2 ^ 500) 1 (kickOf accel (half ⊗ dt) f m v)
     kicked-small =
-        let w = kickOf accel (fHalf ⊗ dt) f m v in
+        let w = kickOf accel (half ⊗ dt) f m v in
         ⊎-elim in-a-short-step
         (λ l. ⊎-elim (λ h. h)
         (λ h. absurd (clash (2 ^ 20) (2 ^ 400) (x ⊕ w ⊗ dt) (within-small entryLimit (2 ^ 20) 1 entry-is (x ⊕ w ⊗ dt) there) (carried w in-a-step l h) (leb→le (2 ^ 20 + 1) (2 ^ 400) tt)))
         (by-size (2 ^ 561) (2 ^ 500) 1 w in-a-step))
         (by-size (2 ^ 10) 1 (2 ^ 60) dt time)
 
-    pub kicked-plain : plain (kickOf accel (fHalf ⊗ dt) f m v) ≡ true
-    kicked-plain = small-within otherLimit (2 ^ 500) 1 other-is (kickOf accel (fHalf ⊗ dt) f m v) one kicked-small
+    pub kicked-plain : plain (kickOf accel (half ⊗ dt) f m v) ≡ true
+    kicked-plain = small-within otherLimit (2 ^ 500) 1 other-is (kickOf accel (half ⊗ dt) f m v) one kicked-small
 
 -- ---- the lists of a step
 both-told : (b e : Bool) → cond b e false ≡ true → (b ≡ true) × (e ≡ true)
@@ -185,7 +186,7 @@ module _ (units : Units) (dt : Float) (fs ms xs vs : List Float)
   unfolding drifts
   told = both-told (moveFits fs ms xs vs) (every coordinate (driftedOf dt (kickedOf units dt fs ms vs) xs)) accepted
 
-  at-place : (k : ℕ) → k < length vs → plain (kickAt (units .«force_to_accel») (fHalf ⊗ dt) fs ms k (at vs k)) ≡ true
+  at-place : (k : ℕ) → k < length vs → plain (kickAt (units .«force_to_accel») (half ⊗ dt) fs ms k (at vs k)) ≡ true
   at-place k h =
       let fit = move-fit fs ms xs vs (told .0) in
       let same = drifted-at units dt fs ms xs vs k (omega arith) h in
@@ -203,4 +204,4 @@ module _ (units : Units) (dt : Float) (fs ms xs vs : List Float)
   accepted-speeds =
       at-every nan plain (kickedOf units dt fs ms vs)
       (λ k h. let there : k < length vs = omega (arith, kicked-length units dt fs ms vs) in
-      rw (getD-mapAt (kickAt (units .«force_to_accel») (fHalf ⊗ dt) fs ms) nan k vs there) (at-place k there))
+      rw (getD-mapAt (kickAt (units .«force_to_accel») (half ⊗ dt) fs ms) nan k vs there) (at-place k there))

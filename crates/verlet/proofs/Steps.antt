@@ -7,17 +7,18 @@ use borrow.Author.Tests.{eqb-true, eq-eqb, le-leb}
 use lib.Dec.{eqb}
 use lib.Ieee.{Float, nan, le}
 use lib.ListN.{length}
+use Rattle.lists.specs.Atoms.{atomsOf}
+use Rattle.float.specs.Literals.{half}
 use Rattle.float.specs.Arith.{_⊕_, _⊗_, bits, at}
 use Rattle.lists.proofs.Cases.{by-test, and-both}
 use Rattle.lists.proofs.Loops.{length-mapAt, getD-mapAt}
 use Rattle.lists.specs.Lists.{every}
 use Rattle.virial.specs.Calls.{fewAtoms}
-use Rattle.virial.specs.Virial.{atomsOf}
 use Rattle.virial.specs.declared.Units.{Units}
 use Rattle.verlet.specs.declared.Thermostat.{Thermostat}
 use Rattle.verlet.specs.declared.Thermostat.the-variants.{Absent, Present}
 use Rattle.verlet.specs.Parts.{threeEach, kickFits, moveFits, kickedBy, movedBy, rescaledBy, thermostatBy, coordinate, drifts}
-use Rattle.verlet.specs.Verlet.{fHalf, kickAt, kickedOf, driftAt, driftedOf, movedOf, lambdaOf, currentOf, scaledBy, berendsenOf}
+use Rattle.verlet.specs.Verlet.{kickAt, kickedOf, driftAt, driftedOf, movedOf, lambdaOf, currentOf, scaledBy, berendsenOf}
 
 pub kicked-length : (units : Units) (dt : Float) (fs ms vs : List Float) → length (kickedOf units dt fs ms vs) ≡ length vs
 unfolding kickedOf
@@ -34,11 +35,11 @@ scaled-length s vs = length-mapAt _ nan vs
 -- a coordinate after the kick and the drift
 pub drifted-at :
     (units : Units) (dt : Float) (fs ms xs vs : List Float) (k : ℕ) → k < length xs → k < length vs
-    → at (driftedOf dt (kickedOf units dt fs ms vs) xs) k ≡ at xs k ⊕ kickAt (units .«force_to_accel») (fHalf ⊗ dt) fs ms k (at vs k) ⊗ dt
+    → at (driftedOf dt (kickedOf units dt fs ms vs) xs) k ≡ at xs k ⊕ kickAt (units .«force_to_accel») (half ⊗ dt) fs ms k (at vs k) ⊗ dt
 unfolding driftedOf kickedOf
 drifted-at units dt fs ms xs vs k h m =
     getD-mapAt (driftAt dt (kickedOf units dt fs ms vs)) nan k xs h
-    ∙ ap (λ (v : Float). at xs k ⊕ v ⊗ dt) (getD-mapAt (kickAt (units .«force_to_accel») (fHalf ⊗ dt) fs ms) nan k vs m)
+    ∙ ap (λ (v : Float). at xs k ⊕ v ⊗ dt) (getD-mapAt (kickAt (units .«force_to_accel») (half ⊗ dt) fs ms) nan k vs m)
 
 -- three floats an atom, and so in both lists of a kick, and all three of a move
 pub each-three : (m n : ℕ) → threeEach m n ≡ true → m ≡ 3 * n

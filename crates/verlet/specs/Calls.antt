@@ -11,7 +11,7 @@ use Rattle.answer.specs.declared.Done.{Done}
 use Rattle.answer.specs.declared.Number.{Number}
 use Rattle.virial.specs.declared.Units.{Units}
 use Rattle.virial.specs.Calls.{fewAtoms}
-use Rattle.verlet.specs.Limits.{atomsInRange, temperatureInRange, berendsenInRange}
+use Rattle.verlet.specs.Ranged.{atomsInRange, temperatureInRange, berendsenInRange}
 use Rattle.verlet.specs.Verlet.{kineticEnergyOf, temperatureOf, berendsenOf}
 
 -- 1: velocities that are not three a mass; 2: too many masses; 3: a number out of range

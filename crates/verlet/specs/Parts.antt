@@ -5,12 +5,12 @@ use Prim.Native.Nat.{ℕ, _*_}
 use lib.Dec.{eqb}
 use lib.Ieee.{Float}
 use lib.ListN.{length}
-use Rattle.cell.specs.Range.{entryLimit}
+use Rattle.lists.specs.Atoms.{atomsOf}
+use Rattle.cell.specs.Ranged.{entryLimit}
 use Rattle.lists.specs.Lists.{every}
-use Rattle.ranges.specs.Range.{within}
+use Rattle.ranges.specs.Ranged.{within}
 use Rattle.virial.specs.declared.Units.{Units}
 use Rattle.virial.specs.Calls.{fewAtoms}
-use Rattle.virial.specs.Virial.{atomsOf}
 use Rattle.verlet.specs.declared.Thermostat.{Thermostat}
 use Rattle.verlet.specs.declared.Thermostat.the-variants.{Absent, Present}
 use Rattle.verlet.specs.Verlet.{berendsenOf, kickedOf, driftedOf, movedOf}

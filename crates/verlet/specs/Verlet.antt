@@ -6,23 +6,21 @@ use lib.Dec.{eqb}
 use lib.Ieee.{Float, le, ofInt, binary64}
 use lib.IntN.{pos}
 use lib.ListN.{length}
+use Rattle.lists.specs.Atoms.{atomsOf}
+use Rattle.float.specs.Literals.{f0, f1, f2, f3, half}
 use Rattle.cell.specs.declared.Vec3.{Vec3}
 use Rattle.cell.specs.Vec.{scaleOf, norm2Of}
 use Rattle.float.specs.Arith.{_⊕_, _⊖_, _⊗_, _⊘_, bits, at}
 use Rattle.float.specs.Def.{maxOf, rootOf}
 use Rattle.lists.specs.Loops.{foldUpTo, mapAt}
 use Rattle.virial.specs.declared.Units.{Units}
-use Rattle.virial.specs.Virial.{f0, f1, f2, f3, atomsOf, addedAt, velocityAt}
-
--- 0.5
-abbrev pub fHalf : Float
-fHalf = bits 0x3fe0000000000000
+use Rattle.virial.specs.Virial.{addedAt, velocityAt}
 
 -- ---- kinetic energy and temperature
 
 -- `kinetic_energy`, line 142: what an atom of mass m and velocity v adds
 unfoldable pub kineticAt : (accel m : Float) → Vec3 → Float
-kineticAt accel m v = fHalf ⊗ m ⊗ norm2Of v ⊘ accel
+kineticAt accel m v = half ⊗ m ⊗ norm2Of v ⊘ accel
 
 -- lines 140 to 144: atom by atom, as far as both lists go
 unfoldable pub kineticEnergyOf : Units → (vs ms : List Float) → Float
@@ -74,7 +72,7 @@ kickAt accel h fs ms k v = kickOf accel h (at fs k) (at ms (k / 3)) v
 
 -- half a kick of every atom
 unfoldable pub kickedOf : Units → (dt : Float) (fs ms vs : List Float) → List Float
-kickedOf units dt fs ms vs = mapAt (kickAt (units .«force_to_accel») (fHalf ⊗ dt) fs ms) vs
+kickedOf units dt fs ms vs = mapAt (kickAt (units .«force_to_accel») (half ⊗ dt) fs ms) vs
 
 -- lines 182 and 183: x += v * dt
 abbrev pub driftAt : Float → List Float → ℕ → Float → Float
@@ -89,7 +87,7 @@ movedOf units dt fs ms xs vs = (driftedOf dt (kickedOf units dt fs ms vs) xs, ki
 
 -- the same lines as they stand, atom by atom and vector by vector. proofs/Fused.antt: where there are three floats an atom it is `movedOf`
 unfoldable pub kickedAtom : Units → (dt : Float) (fs ms : List Float) → ℕ → List Float → List Float
-kickedAtom units dt fs ms i vs = addedAt vs i (scaleOf (scaleOf (velocityAt fs i) (units .«force_to_accel» ⊘ at ms i)) (fHalf ⊗ dt))
+kickedAtom units dt fs ms i vs = addedAt vs i (scaleOf (scaleOf (velocityAt fs i) (units .«force_to_accel» ⊘ at ms i)) (half ⊗ dt))
 
 unfoldable pub driftedAtom : (dt : Float) (vs : List Float) → ℕ → List Float → List Float
 driftedAtom dt vs i xs = addedAt xs i (scaleOf (velocityAt vs i) dt)

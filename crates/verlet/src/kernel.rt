@@ -2,7 +2,8 @@
 ghost use mathlib.Core.Path.{_≡_};
 ghost use Prim.Native.Nat.{_+_, _*_, _≤_};
 ghost use lib.ListN.{length};
-ghost use Rattle.virial.specs.Virial.{atomsOf, velocityAt};
+ghost use Rattle.lists.specs.Atoms.{atomsOf};
+ghost use Rattle.virial.specs.Virial.{velocityAt};
 ghost use Rattle.verlet.specs.Verlet.{kineticAt, kineticEnergyOf, temperatureOf, degreesOf, currentOf, lambdaOf, scaledBy};
 ghost use Rattle.verlet.specs.Parts.{rescaledBy, thermostatBy};
 use crate::Thermostat;

@@ -2,9 +2,10 @@
 ghost use mathlib.Core.Path.{_≡_};
 ghost use Prim.Native.Nat.{_*_, _/_, _<_};
 ghost use lib.ListN.{length};
+ghost use Rattle.float.specs.Literals.{half};
 ghost use Rattle.lists.specs.Lists.{every};
 ghost use Rattle.float.specs.Arith.{_⊕_, _⊗_, at};
-ghost use Rattle.verlet.specs.Verlet.{fHalf, kickOf, kickAt, kickedOf, driftedOf};
+ghost use Rattle.verlet.specs.Verlet.{kickOf, kickAt, kickedOf, driftedOf};
 ghost use Rattle.verlet.specs.Parts.{threeEach, kickFits, moveFits, kickedBy, movedBy, coordinate, drifts};
 use virial::Units;
 
@@ -88,7 +89,7 @@ fn drifted_at(
     k: usize,
 ) -> f64
     requires { ⌜ (k < length (now xs)) × (length (now vs) ≡ 3 * length (now ms)) × (length (now fs) ≡ 3 * length (now ms)) × (length (now xs) ≡ 3 * length (now ms)) ⌝ }
-    ensures { λ r. ⌜ r ≡ at (now (xs .entry)) k ⊕ kickAt (units .«force_to_accel») (fHalf ⊗ dt) (now (fs .entry)) (now (ms .entry)) k (at (now (vs .entry)) k) ⊗ dt ⌝ }
+    ensures { λ r. ⌜ r ≡ at (now (xs .entry)) k ⊕ kickAt (units .«force_to_accel») (half ⊗ dt) (now (fs .entry)) (now (ms .entry)) k (at (now (vs .entry)) k) ⊗ dt ⌝ }
 {
     let v = kick_one(units.force_to_accel, 0.5 * dt, fs[k], ms[k / 3], vs[k]);
     xs[k] + v * dt

@@ -1,6 +1,6 @@
 // The tests of lengths and ranges. Total, and also for the crates above.
 ghost use mathlib.Core.Path.{_≡_};
-ghost use Rattle.verlet.specs.Limits.{timeStep, thermal, thermostatInRange, atomsInRange, temperatureInRange, berendsenInRange};
+ghost use Rattle.verlet.specs.Ranged.{timeStep, thermal, thermostatInRange, atomsInRange, temperatureInRange, berendsenInRange};
 use crate::Thermostat;
 use virial::Units;
 

@@ -8,12 +8,14 @@ use native.Mathlib.Omega.{arith}
 use borrow.Author.Tests.{lt-ltb, le-ltb}
 use lib.Ieee.{Float}
 use lib.ListN.{length, replicate, length-replicate, set, take}
+use Rattle.lists.specs.Atoms.{atomsOf}
+use Rattle.float.specs.Literals.{f0}
 use Rattle.cell.specs.declared.Vec3.{Vec3}
 use Rattle.float.specs.Arith.{_⊕_, at}
 use Rattle.lists.specs.Loops.{mapFrom}
 use Rattle.lists.proofs.Cases.{below-or}
 use Rattle.lists.proofs.Rows.{set-three, three-length}
-use Rattle.virial.specs.Virial.{f0, atomsOf, zeroForces, mergedForces, addedAt, forcesWithPair}
+use Rattle.virial.specs.Virial.{zeroForces, mergedForces, addedAt, forcesWithPair}
 
 -- what a turn of `clear` stores at k
 abbrev pub zeroAt : ℕ → Float → Float

@@ -6,21 +6,22 @@ use Prim.Native.Nat.{ℕ, _*_, _%_}
 use lib.Dec.{eqb, leb, ltb}
 use lib.Ieee.{Float}
 use lib.ListN.{length}
+use Rattle.lists.specs.Atoms.{atomsOf, mostAtoms}
 use Rattle.answer.specs.Seen.{Seen, answered, refused, refusedBy, seenDone, seenNumber}
 use Rattle.answer.specs.declared.Number.{Number}
 use Rattle.cell.specs.declared.Rows.{Rows}
 use Rattle.cell.specs.declared.RowsAnswer.{RowsAnswer}
 use Rattle.cell.specs.declared.Vec3.{Vec3}
 use Rattle.cell.specs.Calls.{when}
-use Rattle.cell.specs.Range.{otherLimit, vecWithin}
+use Rattle.cell.specs.Ranged.{otherLimit, vecWithin}
 use Rattle.cell.specs.Seen.{rowsOf, zeroRows}
 use Rattle.lists.specs.Lists.{every}
 use Rattle.virial.specs.declared.Sum.{Sum}
 use Rattle.virial.specs.declared.Summed.{Summed}
 use Rattle.virial.specs.declared.Summed.the-variants as Summed·cases
 use Rattle.virial.specs.declared.Units.{Units}
-use Rattle.virial.specs.Limits.{mostAtoms, plain, velocity, mass, plainRows, plainSum, unitsInRange}
-use Rattle.virial.specs.Virial.{atomsOf, zeroSum, zeroForces, mergedSum, mergedForces, forcesWithPair, sumWithPair, withPair, scalarVirialOf, pressureOf, pressureTensorOf, toGpaOf}
+use Rattle.virial.specs.Ranged.{plain, velocity, mass, plainRows, plainSum, unitsInRange}
+use Rattle.virial.specs.Virial.{zeroSum, zeroForces, mergedSum, mergedForces, forcesWithPair, sumWithPair, withPair, scalarVirialOf, pressureOf, pressureTensorOf, toGpaOf}
 
 -- ---- what is seen of an answer
 

@@ -1,3 +1,3 @@
 pub mod Calls
-pub mod Limits
+pub mod Ranged
 pub mod Virial

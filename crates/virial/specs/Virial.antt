@@ -5,6 +5,8 @@ use Prim.Native.Nat.{ℕ, _+_, _*_, _/_, min}
 use lib.Dec.{ltb}
 use lib.Ieee.{Float, le, neg}
 use lib.ListN.{length, replicate, set}
+use Rattle.lists.specs.Atoms.{atomsOf}
+use Rattle.float.specs.Literals.{f0, f1, f2, f3}
 use Rattle.cell.specs.declared.Vec3.{Vec3}
 use Rattle.cell.specs.Vec.{scaleOf}
 use Rattle.float.specs.Arith.{_⊕_, _⊗_, _⊘_, bits, at, row, entry}
@@ -12,24 +14,7 @@ use Rattle.lists.specs.Loops.{foldUpTo}
 use Rattle.virial.specs.declared.Sum.{Sum}
 use Rattle.virial.specs.declared.Units.{Units}
 
--- 0.0, 1.0, 2.0, 3.0
-abbrev pub f0 : Float
-f0 = bits 0
-
-abbrev pub f1 : Float
-f1 = bits 0x3ff0000000000000
-
-abbrev pub f2 : Float
-f2 = bits 0x4000000000000000
-
-abbrev pub f3 : Float
-f3 = bits 0x4008000000000000
-
 -- ---- Contribution. A list of forces has three floats an atom.
-
--- the atoms of such a list
-abbrev pub atomsOf : List Float → ℕ
-atomsOf l = length l / 3
 
 -- `zeros`, lines 35 to 41: energy and virial, and the forces of n floats
 unfoldable pub zeroSum : Sum

@@ -3,7 +3,7 @@ ghost use mathlib.Core.Path.{_≡_};
 ghost use mathlib.Core.Bool.{_&&_};
 ghost use Prim.Native.Nat.{_%_, min};
 ghost use lib.Dec.{eqb, leb};
-ghost use Rattle.virial.specs.Limits.{plain, plainRow, plainRows, plainSum, unit, unitsInRange};
+ghost use Rattle.virial.specs.Ranged.{plain, plainRow, plainRows, plainSum, unit, unitsInRange};
 ghost use Rattle.virial.specs.Calls.{mergeInRange, pairInRange, virialInRange, tensorInRange};
 use crate::Sum;
 use crate::Units;

@@ -2,8 +2,9 @@
 ghost use mathlib.Core.Path.{_≡_};
 ghost use Prim.Native.Nat.{_+_, _*_, _≤_, min};
 ghost use lib.ListN.{length};
+ghost use Rattle.lists.specs.Atoms.{atomsOf};
 ghost use Rattle.cell.specs.Seen.{zeroRows};
-ghost use Rattle.virial.specs.Virial.{atomsOf, rowWithPair, withPair, pressureOf, zeroTensor, velocityAt, rowWithAtom, withAtom, kineticOf, rowOverVolume, overVolume, pressureTensorOf};
+ghost use Rattle.virial.specs.Virial.{rowWithPair, withPair, pressureOf, zeroTensor, velocityAt, rowWithAtom, withAtom, kineticOf, rowOverVolume, overVolume, pressureTensorOf};
 use crate::Units;
 use crate::ranged;
 use answer::Done;

@@ -1,5 +1,5 @@
+use Rattle.evaluate.specs.Asked.{jobAsked}
 use Rattle.evaluate.proofs.Settling.{evaluated-refused, evaluated-on}
-use Rattle.evaluate.specs.Asked.{askedOf}
 use Rattle.evaluate.specs.Calls.{Job, job}
 use Rattle.evaluate.specs.Terms.{terms}
 use Rattle.neighbor.specs.Update.{given}
@@ -8,10 +8,10 @@ use Rattle.evaluate.proofs.evaluate.Statement.{statement}
 use Rattle.evaluate.proofs.evaluate.Tie as tie
 
 returns : tie.Need-returns
-returns c = let a = c .before .before .before .before .before .before .before .before .before .before .before .before .before .before .before .before .before .before .before .before .before .args in let j : Job = job (terms (a .lj) (a .coulomb) (a .bond) (a .units) (a .ids .now) (a .params .now) (a .species .now) (a .charges .now) (a .bonds .now) (a .lengths .now) (a .ks .now)) (given (a .s) (a .cell) (a .positions .now) (a .exclusions .now) (a .pairs .now) (a .references .now) (a .starts .now) (a .items .now)) (a .forces .now) in unfold askedOf in evaluated-refused j (c .before .before .before .before .asked .ensures) (c .before .before .a .given .1) (c .refused .ensures)
+returns c = let a = c .before .before .before .before .before .before .before .before .before .before .before .before .before .before .before .before .before .before .before .before .before .args in let j : Job = job (terms (a .lj) (a .coulomb) (a .bond) (a .units) (a .ids .now) (a .params .now) (a .species .now) (a .charges .now) (a .bonds .now) (a .lengths .now) (a .ks .now)) (given (a .s) (a .cell) (a .positions .now) (a .exclusions .now) (a .pairs .now) (a .references .now) (a .starts .now) (a .items .now)) (a .forces .now) in unfold jobAsked in evaluated-refused j (c .before .before .before .before .asked .ensures) (c .before .before .a .given .1) (c .refused .ensures)
 
 returns-2 : tie.Need-returns-2
-returns-2 c = let a = c .before .before .before .before .before .before .before .before .before .before .before .before .before .before .before .before .before .before .before .before .before .before .before .before .before .before .before .before .before .before .before .before .before .before .before .args in let j : Job = job (terms (a .lj) (a .coulomb) (a .bond) (a .units) (a .ids .now) (a .params .now) (a .species .now) (a .charges .now) (a .bonds .now) (a .lengths .now) (a .ks .now)) (given (a .s) (a .cell) (a .positions .now) (a .exclusions .now) (a .pairs .now) (a .references .now) (a .starts .now) (a .items .now)) (a .forces .now) in unfold askedOf in evaluated-on j (c .before .before .before .before .before .before .before .before .before .before .before .before .before .before .before .before .before .before .asked .ensures) (c .before .before .before .before .before .before .before .before .before .before .before .before .before .before .before .before .enum-told .given .1) (c .before .before .before .before .before .before .before .before .before .before .settle .ensures)
+returns-2 c = let a = c .before .before .before .before .before .before .before .before .before .before .before .before .before .before .before .before .before .before .before .before .before .before .before .before .before .before .before .before .before .before .before .before .before .before .before .args in let j : Job = job (terms (a .lj) (a .coulomb) (a .bond) (a .units) (a .ids .now) (a .params .now) (a .species .now) (a .charges .now) (a .bonds .now) (a .lengths .now) (a .ks .now)) (given (a .s) (a .cell) (a .positions .now) (a .exclusions .now) (a .pairs .now) (a .references .now) (a .starts .now) (a .items .now)) (a .forces .now) in unfold jobAsked in evaluated-on j (c .before .before .before .before .before .before .before .before .before .before .before .before .before .before .before .before .before .before .asked .ensures) (c .before .before .before .before .before .before .before .before .before .before .before .before .before .before .before .before .enum-told .given .1) (c .before .before .before .before .before .before .before .before .before .before .settle .ensures)
 
 pub evaluate-spec : {M : Type 1} → statement M
 evaluate-spec =

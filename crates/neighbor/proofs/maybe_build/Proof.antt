@@ -9,7 +9,7 @@ use Rattle.neighbor.proofs.maybe_build.Reads as reads
 use Rattle.neighbor.proofs.maybe_build.Lts as lts
 use Rattle.neighbor.proofs.kernel.update.Reads as update-reads
 use Rattle.neighbor.proofs.states.refused.Reads as refused-reads
-use Rattle.neighbor.proofs.tests.asked.Reads as asked-reads
+use Rattle.neighbor.proofs.asked.asked.Reads as asked-reads
 
 -- src/lib.rt:137:9
 asked-requires : tie.Need-asked-requires

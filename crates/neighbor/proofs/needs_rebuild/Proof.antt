@@ -6,7 +6,7 @@ use Rattle.neighbor.proofs.needs_rebuild.Tie as tie
 use Rattle.neighbor.proofs.needs_rebuild.Reads as reads
 use Rattle.neighbor.proofs.needs_rebuild.Lts as lts
 use Rattle.neighbor.proofs.rebuild.needs.Reads as needs-reads
-use Rattle.neighbor.proofs.tests.question.Reads as question-reads
+use Rattle.neighbor.proofs.asked.question.Reads as question-reads
 
 -- src/lib.rt:75:9
 question-requires : tie.Need-question-requires

@@ -6,7 +6,7 @@ use Rattle.neighbor.proofs.new.Tie as tie
 use Rattle.neighbor.proofs.new.Reads as reads
 use Rattle.neighbor.proofs.new.Lts as lts
 use Rattle.neighbor.proofs.states.fresh.Reads as fresh-reads
-use Rattle.neighbor.proofs.tests.settings_ok.Reads as settings-ok-reads
+use Rattle.neighbor.proofs.asked.settings_ok.Reads as settings-ok-reads
 
 -- src/lib.rt:48:9
 settings-ok-requires : tie.Need-settings-ok-requires

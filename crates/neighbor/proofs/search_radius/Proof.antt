@@ -6,7 +6,7 @@ use Rattle.neighbor.proofs.search_radius.Tie as tie
 use Rattle.neighbor.proofs.search_radius.Reads as reads
 use Rattle.neighbor.proofs.search_radius.Lts as lts
 use Rattle.neighbor.proofs.states.radius.Reads as radius-reads
-use Rattle.neighbor.proofs.tests.settings_ok.Reads as settings-ok-reads
+use Rattle.neighbor.proofs.asked.settings_ok.Reads as settings-ok-reads
 
 -- src/lib.rt:58:9
 settings-ok-requires : tie.Need-settings-ok-requires

@@ -1,4 +1,4 @@
-use Rattle.words.proofs.Writing.{put-within}
+use Rattle.replay_words.proofs.Writing.{put-within}
 use borrow.Author.Needs.{needs}
 use lib.Seq.{length-take-le}
 use mathlib.Core.Path.{sym}

@@ -1,4 +1,4 @@
-use Rattle.cell.specs.Range.{cellInRange}
+use Rattle.cell.specs.Ranged.{cellInRange}
 use borrow.Author.Needs.{needs}
 use Rattle.cell.proofs.ranged.cell_in_range.Statement.{statement}
 use Rattle.cell.proofs.ranged.cell_in_range.Tie as tie

@@ -1,4 +1,4 @@
-use Rattle.cell.specs.Range.{latticeInRange}
+use Rattle.cell.specs.Ranged.{latticeInRange}
 use borrow.Author.Needs.{needs}
 use Rattle.cell.proofs.ranged.lattice_in_range.Statement.{statement}
 use Rattle.cell.proofs.ranged.lattice_in_range.Tie as tie

@@ -1,4 +1,4 @@
-use Rattle.cell.specs.Range.{vecWithin}
+use Rattle.cell.specs.Ranged.{vecWithin}
 use borrow.Author.Needs.{needs}
 use Rattle.cell.proofs.ranged.vec_within.Statement.{statement}
 use Rattle.cell.proofs.ranged.vec_within.Tie as tie

@@ -1,5 +1,5 @@
 use Rattle.field.proofs.Told.{says-part, listed-told}
-use Rattle.flat.proofs.Handing.{flagged-good, flagged-bad}
+use Rattle.field_structs.proofs.Handing.{flagged-good, flagged-bad}
 use borrow.Author.Needs.{needs}
 use borrow.Author.Tests.{not-true, not-false}
 use mathlib.Core.Path.{refl}

@@ -1,7 +1,7 @@
 use Prim.Native.Nat.{ℕ, _/_}
 use Rattle.bins.proofs.Found.{plain-ready}
 use Rattle.frame.proofs.Builds.{plain-count, plain-mem, plain-room, plain-left, shown-is}
-use Rattle.checks.proofs.Runs.{ended}
+use Rattle.candidates.proofs.Runs.{ended}
 use Rattle.frame.specs.Steps.{lookedBy, sceneBy}
 use Rattle.lists.specs.Lists.{allPairs}
 use borrow.Author.Needs.{needs}

@@ -1,4 +1,4 @@
-use Rattle.checks.proofs.Runs.{settle-far, settle-skipped, settle-near}
+use Rattle.candidates.proofs.Runs.{settle-far, settle-skipped, settle-near}
 use borrow.Author.Needs.{needs}
 use borrow.Author.Tests.{not-true, not-false}
 use Rattle.frame.proofs.listing.settle.Statement.{statement}

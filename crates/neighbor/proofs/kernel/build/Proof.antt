@@ -5,7 +5,7 @@ use Rattle.neighbor.proofs.kernel.build.Statement.{statement}
 use Rattle.neighbor.proofs.kernel.build.Tie as tie
 use Rattle.neighbor.proofs.kernel.build.Reads as reads
 use Rattle.neighbor.proofs.kernel.build.Lts as lts
-use Rattle.listing.proofs.list.Reads as list-reads
+use Rattle.neighbor_listing.proofs.list.Reads as list-reads
 use Rattle.neighbor.proofs.kernel.answer.Reads as answer-reads
 use Rattle.neighbor.proofs.states.full.Reads as full-reads
 use Rattle.neighbor.proofs.states.radius.Reads as radius-reads

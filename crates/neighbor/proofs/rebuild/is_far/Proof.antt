@@ -6,7 +6,7 @@ use Rattle.neighbor.proofs.rebuild.is_far.Reads as reads
 use Rattle.neighbor.proofs.rebuild.is_far.Lts as lts
 use Rattle.cell.proofs.vectors.norm2.Reads as norm2-reads
 use Rattle.cell.proofs.vectors.sub.Reads as sub-reads
-use Rattle.prepared.proofs.image_in.Reads as image-in-reads
+use Rattle.cell_prepared.proofs.image_in.Reads as image-in-reads
 
 -- src/rebuild.rt:34:39
 sub-requires : tie.Need-sub-requires

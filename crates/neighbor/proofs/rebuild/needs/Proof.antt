@@ -6,8 +6,8 @@ use Rattle.neighbor.proofs.rebuild.needs.Reads as reads
 use Rattle.neighbor.proofs.rebuild.needs.Lts as lts
 use Rattle.neighbor.proofs.rebuild.some_far.Reads as some-far-reads
 use Rattle.neighbor.proofs.states.skin.Reads as skin-reads
-use Rattle.neighbor.proofs.tests.is_same.Reads as is-same-reads
-use Rattle.prepared.proofs.prepare.Reads as prepare-reads
+use Rattle.neighbor.proofs.asked.is_same.Reads as is-same-reads
+use Rattle.cell_prepared.proofs.prepare.Reads as prepare-reads
 
 -- src/rebuild.rt:59:9
 is-same-requires : tie.Need-is-same-requires

@@ -1,5 +1,5 @@
 use Prim.Native.Nat.{_/_, _-_}
-use Rattle.grid.specs.Grid.{spotOf}
+use Rattle.cell.specs.Vec.{positionAt}
 use Rattle.neighbor.proofs.Asking.{Searching, searching-begin, searching-turn, searching-finds, searching-end}
 use Rattle.neighbor.specs.Steps.{strayed}
 use borrow.Author.Needs.{needs}
@@ -13,7 +13,7 @@ use Rattle.neighbor.proofs.rebuild.is_far.Reads as is-far-reads
 use Rattle.neighbor.proofs.rebuild.spot_at.Reads as spot-at-reads
 
 abbrev Inv-loop : tie.InvT-loop
-Inv-loop p limit xs refs n i₀ i = Searching (λ k. strayed p limit (spotOf xs k) (spotOf refs k)) n i
+Inv-loop p limit xs refs n i₀ i = Searching (λ k. strayed p limit (positionAt xs k) (positionAt refs k)) n i
 
 abbrev μ-loop : tie.MeasureT-loop
 μ-loop p limit xs refs n i₀ i = n - i

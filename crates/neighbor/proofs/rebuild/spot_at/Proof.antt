@@ -1,7 +1,7 @@
-use Rattle.grid.specs.Grid.{spotOf}
 use borrow.Author.Needs.{needs}
 use Rattle.neighbor.proofs.rebuild.spot_at.Statement.{statement}
 use Rattle.neighbor.proofs.rebuild.spot_at.Tie as tie
+use Rattle.cell.specs.Vec.{positionAt}
 use Rattle.neighbor.proofs.rebuild.spot_at.Reads as reads
 use Rattle.neighbor.proofs.rebuild.spot_at.Lts as lts
 
@@ -51,7 +51,7 @@ shared-slice-read-t16 c = search needs
 
 -- src/rebuild.rt:19:1
 returns : tie.Need-returns
-unfolding spotOf
+unfolding positionAt
 returns c = search needs
 
 pub spot-at-spec : {M : Type 1} → statement M

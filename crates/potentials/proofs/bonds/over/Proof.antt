@@ -2,9 +2,9 @@ use Prim.Native.Nat.{_≤_, _-_, _/_}
 use Rattle.lists.proofs.Rows.{length-rows}
 use Rattle.lists.specs.Lists.{rows, upTo}
 use Rattle.potentials.proofs.Folds.{Left, left-begin, numbers-turn, numbers-over}
-use Rattle.pulls.specs.Pull.{held}
+use Rattle.potentials_pair.specs.Pull.{held}
 use Rattle.potentials.specs.Terms.{bondStep}
-use Rattle.prepared.specs.Facts.{imageIn}
+use Rattle.cell_prepared.specs.Facts.{imageIn}
 use lib.ListN.{length}
 use mathlib.Core.List.{foldl}
 use mathlib.Core.Path.{_≡_, refl, _∙_}

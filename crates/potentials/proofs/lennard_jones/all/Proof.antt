@@ -3,7 +3,7 @@ use Rattle.lists.specs.Lists.{allPairs}
 use Rattle.potentials.proofs.Folds.{All, all-begin, all-turn, all-end}
 use Rattle.potentials.proofs.Turns.{over-later}
 use Rattle.potentials.specs.Steps.{ljStep}
-use Rattle.pulls.specs.Pull.{held}
+use Rattle.potentials_pair.specs.Pull.{held}
 use borrow.Author.Needs.{needs}
 use lib.ListN.{length}
 use mathlib.Core.List.{foldl}

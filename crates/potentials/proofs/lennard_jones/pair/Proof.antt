@@ -1,6 +1,6 @@
 use Rattle.potentials.proofs.Table.{near-for}
 use Rattle.potentials.specs.Terms.{ljPair}
-use Rattle.pulls.specs.Lj.{ljPull}
+use Rattle.potentials_pair.specs.Lj.{ljPull}
 use borrow.Author.Needs.{needs}
 use Rattle.potentials.proofs.lennard_jones.pair.Statement.{statement}
 use Rattle.potentials.proofs.lennard_jones.pair.Tie as tie

@@ -2,7 +2,7 @@ use Prim.Native.Nat.{_-_}
 use Rattle.lists.specs.Lists.{numbers}
 use Rattle.potentials.proofs.Folds.{Rest, rest-turn, rest-end}
 use Rattle.potentials.specs.Steps.{ljTurn, Kept}
-use Rattle.pulls.specs.Pull.{held}
+use Rattle.potentials_pair.specs.Pull.{held}
 use lib.ListN.{length}
 use mathlib.Core.List.{foldl}
 use mathlib.Core.Path.{_≡_, refl, _∙_, sym}

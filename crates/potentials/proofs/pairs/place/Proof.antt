@@ -1,11 +1,11 @@
-use Rattle.potentials.specs.Terms.{placeAt}
 use borrow.Author.Needs.{needs}
 use mathlib.Core.Path.{refl}
+use Rattle.cell.specs.Vec.{positionAt}
 use Rattle.potentials.proofs.pairs.place.Statement.{statement}
 use Rattle.potentials.proofs.pairs.place.Tie as tie
 
 returns : tie.Need-returns
-returns c = unfold placeAt in refl
+returns c = unfold positionAt in refl
 
 pub place-spec : {M : Type 1} → statement M
 place-spec =

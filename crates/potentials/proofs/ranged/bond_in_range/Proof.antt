@@ -1,4 +1,4 @@
-use Rattle.potentials.specs.Limits.{bondInRange}
+use Rattle.potentials.specs.Ranged.{bondInRange}
 use borrow.Author.Needs.{needs}
 use Rattle.potentials.proofs.ranged.bond_in_range.Statement.{statement}
 use Rattle.potentials.proofs.ranged.bond_in_range.Tie as tie

@@ -1,4 +1,4 @@
-use Rattle.potentials.specs.Limits.{ljInRange}
+use Rattle.potentials.specs.Ranged.{ljInRange}
 use borrow.Author.Needs.{needs}
 use Rattle.potentials.proofs.ranged.lj_in_range.Statement.{statement}
 use Rattle.potentials.proofs.ranged.lj_in_range.Tie as tie

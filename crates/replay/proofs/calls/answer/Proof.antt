@@ -1,5 +1,5 @@
 use Rattle.replay.specs.Calls.{answerOf}
-use Rattle.words.proofs.Writing.{put-none}
+use Rattle.replay_words.proofs.Writing.{put-none}
 use borrow.Author.Needs.{needs}
 use borrow.Author.Tests.{lt-ltb, le-ltb}
 use Rattle.replay.proofs.calls.answer.Statement.{statement}

@@ -1,7 +1,7 @@
 use Prim.Native.Nat.{_<_}
 use Rattle.replay.proofs.Answers.{no-float, lower, below-one}
 use Rattle.replay.specs.Floats.{floatAnswer}
-use Rattle.words.proofs.Writing.{put-none, cases, put-same}
+use Rattle.replay_words.proofs.Writing.{put-none, cases, put-same}
 use borrow.Author.Needs.{needs}
 use borrow.Author.Tests.{leb-true, leb-false}
 use lib.Dec.{leb}

@@ -1,4 +1,4 @@
-use Rattle.words.proofs.Writing.{put-then}
+use Rattle.replay_words.proofs.Writing.{put-then}
 use borrow.Author.Needs.{needs}
 use Rattle.replay.proofs.floats.answered.Statement.{statement}
 use Rattle.replay.proofs.floats.answered.Tie as tie

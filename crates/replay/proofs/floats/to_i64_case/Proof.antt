@@ -1,6 +1,6 @@
 use Rattle.replay.proofs.Cases.{asked-one, one-none, one-told}
-use Rattle.words.proofs.Signs.{back}
-use Rattle.words.specs.Put.{signedBits}
+use Rattle.replay_words.proofs.Signs.{back}
+use Rattle.replay_words.specs.Put.{signedBits}
 use borrow.Author.Needs.{needs}
 use lib.Ieee.{Float, binary64, toSigned}
 use mathlib.Core.Path.{_∙_, ap}

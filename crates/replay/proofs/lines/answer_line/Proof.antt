@@ -1,5 +1,5 @@
 use Rattle.replay.proofs.Answers.{line-none, told-case, told-given}
-use Rattle.words.proofs.Reading.{case-room, parsed-case, parsed-none}
+use Rattle.replay_words.proofs.Reading.{case-room, parsed-case, parsed-none}
 use borrow.Author.Needs.{needs}
 use lib.ListN.{length}
 use lib.Seq.{length-take-le}

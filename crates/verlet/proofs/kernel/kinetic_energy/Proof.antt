@@ -1,10 +1,11 @@
 -- The invariant: ke is the energy of the first i atoms. Assumes nothing.
 use Prim.Native.Nat.{_≤_, _-_, _/_, min}
+use Rattle.float.specs.Literals.{f0}
 use Rattle.float.specs.Arith.{_⊕_, at}
 use Rattle.lists.proofs.Loops.{foldUpTo-none, foldUpTo-turn}
 use Rattle.lists.specs.Loops.{foldUpTo}
 use Rattle.verlet.specs.Verlet.{kineticAt, kineticEnergyOf}
-use Rattle.virial.specs.Virial.{f0, velocityAt}
+use Rattle.virial.specs.Virial.{velocityAt}
 use borrow.Author.Needs.{needs}
 use lib.ListN.{length}
 use mathlib.Core.Path.{_≡_, sym}

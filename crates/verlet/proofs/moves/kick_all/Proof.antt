@@ -1,9 +1,10 @@
 -- The invariant: the first k floats are kicked, the others as they came. Assumes nothing.
 use Prim.Native.Nat.{_≤_, _-_}
+use Rattle.float.specs.Literals.{half}
 use Rattle.float.specs.Arith.{_⊗_}
 use Rattle.lists.proofs.Loops.{part-none, part-turn, part-done}
 use Rattle.lists.specs.Loops.{partAt}
-use Rattle.verlet.specs.Verlet.{fHalf, kickAt, kickedOf}
+use Rattle.verlet.specs.Verlet.{kickAt, kickedOf}
 use borrow.Author.Needs.{needs}
 use lib.Ieee.{nan}
 use lib.ListN.{length, length-set}
@@ -22,7 +23,7 @@ loop-holds : tie.Need-loop-holds Inv-loop μ-loop
 loop-holds c = (search needs, refl, part-none _ nan _)
 
 loop-again : tie.Need-loop-again Inv-loop μ-loop
-loop-again c = (search needs, simp length-set (c .before .before .before .before .before .loop .inv .1), part-turn (kickAt (c .before .before .before .before .before .before .before .before .before .args .units .«force_to_accel») (fHalf ⊗ c .before .before .before .before .before .before .before .before .before .args .dt) (c .before .before .before .before .before .before .before .before .before .args .fs .now) (c .before .before .before .before .before .before .before .before .before .args .ms .now)) nan (c .before .before .before .before .before .loop .k) (c .before .before .before .before .before .before .before .before .before .args .vs .now) (search needs) (c .before .before .before .before .before .loop .inv .2) (c .kick-one .ensures))
+loop-again c = (search needs, simp length-set (c .before .before .before .before .before .loop .inv .1), part-turn (kickAt (c .before .before .before .before .before .before .before .before .before .args .units .«force_to_accel») (half ⊗ c .before .before .before .before .before .before .before .before .before .args .dt) (c .before .before .before .before .before .before .before .before .before .args .fs .now) (c .before .before .before .before .before .before .before .before .before .args .ms .now)) nan (c .before .before .before .before .before .loop .k) (c .before .before .before .before .before .before .before .before .before .args .vs .now) (search needs) (c .before .before .before .before .before .loop .inv .2) (c .kick-one .ensures))
 
 returns : tie.Need-returns Inv-loop μ-loop
 unfolding kickedOf

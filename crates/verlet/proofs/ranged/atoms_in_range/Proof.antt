@@ -1,4 +1,4 @@
-use Rattle.verlet.specs.Limits.{atomsInRange}
+use Rattle.verlet.specs.Ranged.{atomsInRange}
 use borrow.Author.Needs.{needs}
 use Rattle.verlet.proofs.ranged.atoms_in_range.Statement.{statement}
 use Rattle.verlet.proofs.ranged.atoms_in_range.Tie as tie

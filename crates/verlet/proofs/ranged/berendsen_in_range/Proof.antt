@@ -1,4 +1,4 @@
-use Rattle.verlet.specs.Limits.{berendsenInRange}
+use Rattle.verlet.specs.Ranged.{berendsenInRange}
 use borrow.Author.Needs.{needs}
 use Rattle.verlet.proofs.ranged.berendsen_in_range.Statement.{statement}
 use Rattle.verlet.proofs.ranged.berendsen_in_range.Tie as tie

@@ -1,4 +1,4 @@
-use Rattle.verlet.specs.Limits.{temperatureInRange}
+use Rattle.verlet.specs.Ranged.{temperatureInRange}
 use borrow.Author.Needs.{needs}
 use Rattle.verlet.proofs.ranged.temperature_in_range.Statement.{statement}
 use Rattle.verlet.proofs.ranged.temperature_in_range.Tie as tie

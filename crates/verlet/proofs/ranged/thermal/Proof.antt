@@ -1,4 +1,4 @@
-use Rattle.verlet.specs.Limits.{thermal}
+use Rattle.verlet.specs.Ranged.{thermal}
 use borrow.Author.Needs.{needs}
 use Rattle.verlet.proofs.ranged.thermal.Statement.{statement}
 use Rattle.verlet.proofs.ranged.thermal.Tie as tie

@@ -1,4 +1,4 @@
-use Rattle.verlet.specs.Limits.{thermostatInRange}
+use Rattle.verlet.specs.Ranged.{thermostatInRange}
 use borrow.Author.Needs.{needs}
 use Rattle.verlet.proofs.ranged.thermostat_in_range.Statement.{statement}
 use Rattle.verlet.proofs.ranged.thermostat_in_range.Tie as tie

@@ -1,4 +1,4 @@
-use Rattle.verlet.specs.Limits.{timeStep}
+use Rattle.verlet.specs.Ranged.{timeStep}
 use borrow.Author.Needs.{needs}
 use Rattle.verlet.proofs.ranged.time_step.Statement.{statement}
 use Rattle.verlet.proofs.ranged.time_step.Tie as tie

@@ -1,4 +1,4 @@
-use Rattle.virial.specs.Limits.{plainRow}
+use Rattle.virial.specs.Ranged.{plainRow}
 use borrow.Author.Needs.{needs}
 use Rattle.virial.proofs.ranged.row_plain.Statement.{statement}
 use Rattle.virial.proofs.ranged.row_plain.Tie as tie

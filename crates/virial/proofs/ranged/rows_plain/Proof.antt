@@ -1,4 +1,4 @@
-use Rattle.virial.specs.Limits.{plainRows}
+use Rattle.virial.specs.Ranged.{plainRows}
 use borrow.Author.Needs.{needs}
 use Rattle.virial.proofs.ranged.rows_plain.Statement.{statement}
 use Rattle.virial.proofs.ranged.rows_plain.Tie as tie

@@ -1,4 +1,4 @@
-use Rattle.virial.specs.Limits.{plainSum}
+use Rattle.virial.specs.Ranged.{plainSum}
 use borrow.Author.Needs.{needs}
 use Rattle.virial.proofs.ranged.sum_plain.Statement.{statement}
 use Rattle.virial.proofs.ranged.sum_plain.Tie as tie

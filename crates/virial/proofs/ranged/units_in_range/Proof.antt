@@ -1,4 +1,4 @@
-use Rattle.virial.specs.Limits.{unitsInRange}
+use Rattle.virial.specs.Ranged.{unitsInRange}
 use borrow.Author.Needs.{needs}
 use Rattle.virial.proofs.ranged.units_in_range.Statement.{statement}
 use Rattle.virial.proofs.ranged.units_in_range.Tie as tie

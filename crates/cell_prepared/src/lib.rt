@@ -1,0 +1,133 @@
+// The minimum image for a loop over differences: the cell's facts are asked once, and most differences in a box need no division.
+// proofs/Law.antt: image_in(prepare(cell), d) is cell::kernel::min_image(d, cell).
+ghost use mathlib.Core.Path.{_≡_};
+ghost use mathlib.Core.Bool.{true};
+ghost use Rattle.float.specs.Def.{absOf};
+ghost use Rattle.cell_axis.specs.Image.{towardOf, shiftOf, NearSays};
+ghost use Rattle.cell_prepared.specs.Facts.{shortOf, prepareOf, isShort, shortImage, imageIn};
+use cell::Cell;
+use cell::General;
+use cell::Image;
+use cell::Lattice;
+use cell::Vec3;
+use cell::kernel;
+use cell::vectors;
+
+// A cell's facts (specs/Facts.antt).
+pub struct Prepared {
+    // the lengths of a box that is periodic on each axis, zeros of any other cell
+    pub short: Vec3,
+    pub lattice: Lattice,
+    pub general: General,
+}
+
+fn short_of(l: Lattice) -> Vec3
+    ensures { λ r. ⌜ r ≡ shortOf l ⌝ }
+{
+    let finite = (l.a.x < 1e300) & (l.b.y < 1e300) & (l.c.z < 1e300);
+    if !kernel::skewed(l) & l.px & l.py & l.pz & finite {
+        return Vec3 {
+            x: l.a.x,
+            y: l.b.y,
+            z: l.c.z,
+        };
+    }
+    vectors::zero()
+}
+
+// Without a cell the difference stays, as in a lattice with no inverse.
+pub fn prepare(cell: Cell) -> Prepared
+    ensures { λ r. ⌜ r ≡ prepareOf cell ⌝ }
+{
+    match cell {
+        Cell::Absent => Prepared {
+            short: vectors::zero(),
+            lattice: kernel::cubic(0.0),
+            general: General {
+                skewed: true,
+                singular: true,
+                ix: vectors::zero(),
+                iy: vectors::zero(),
+                iz: vectors::zero(),
+            },
+        },
+        Cell::Present(l) => Prepared {
+            short: short_of(l),
+            lattice: l,
+            general: kernel::general_of(l),
+        },
+    }
+}
+
+fn is_short(s: Vec3, d: Vec3) -> bool
+    ensures { λ r. ⌜ r ≡ isShort s d ⌝ }
+{
+    (float::abs(d.x) < s.x) & (float::abs(d.y) < s.y) & (float::abs(d.z) < s.z)
+}
+
+fn toward(x: f64, len: f64) -> f64
+    ensures { λ r. ⌜ r ≡ towardOf x len ⌝ }
+{
+    if x <= 0.0 { len } else { -len }
+}
+
+// By |x + x|, which is |x| + |x| (proofs/Twice.antt): a magnitude that is only compared is one instruction, one that is added a branch on the sign.
+fn shift(len: f64, x: f64) -> f64
+    ensures { λ r. ⌜ r ≡ shiftOf (absOf x) len x ⌝ }
+{
+    if float::abs(x + x) < len {
+        0.0
+    } else {
+        toward(x, len)
+    }
+}
+
+// `cell_axis::near` of an x and its own magnitude.
+fn near(len: f64, x: f64) -> f64
+    ensures { λ r. ⌜ NearSays (absOf x) len x r ⌝ }
+{
+    x + shift(len, x)
+}
+
+fn short_image(s: Vec3, d: Vec3) -> Vec3
+    requires { ⌜ isShort s d ≡ true ⌝ }
+    ensures { λ r. ⌜ r ≡ shortImage s d ⌝ }
+{
+    Vec3 {
+        x: near(s.x, d.x),
+        y: near(s.y, d.y),
+        z: near(s.z, d.z),
+    }
+}
+
+pub fn image_in(p: Prepared, d: Vec3) -> Image
+    ensures { λ r. ⌜ r ≡ imageIn p d ⌝ }
+{
+    let s = p.short;
+    if is_short(s, d) {
+        return Image {
+            diff: short_image(s, d),
+        };
+    }
+    let l = p.lattice;
+    let g = p.general;
+    Image {
+        diff: kernel::image_by(l, g, d),
+    }
+}
+
+// The same for an innermost loop. Small, so that it goes into the loop: what is short, or free because there is no cell, is done there, and only
+// the rest is a call, for which the facts are copied.
+pub fn diff_in(p: Prepared, d: Vec3) -> Vec3
+    ensures { λ r. ⌜ r ≡ imageIn p d .diff ⌝ }
+{
+    let s = p.short;
+    if is_short(s, d) {
+        return short_image(s, d);
+    }
+    if p.general.skewed & p.general.singular {
+        return d;
+    }
+    let image = image_in(p, d);
+    image.diff
+}

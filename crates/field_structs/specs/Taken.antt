@@ -1,0 +1,111 @@
+-- The argument that a struct from C stands for, and whether its flags are flags (CALLS.md, "Words used"). Definitions only.
+use Prim.Native.Nat.{ℕ}
+use mathlib.Core.Bool.{Bool, cond, _&&_}
+use mathlib.Core.List.{List, [], _∷_}
+use lib.Dec.{eqb, leb}
+use lib.Ieee.{Float}
+use Rattle.cell.specs.declared.Cell.{Cell}
+use Rattle.cell.specs.declared.Cell.the-variants as Cell·cases
+use Rattle.cell.specs.declared.Lattice.{Lattice}
+use Rattle.cell.specs.declared.Rows.{Rows}
+use Rattle.frame.specs.declared.Frame.{Frame}
+use Rattle.neighbor.specs.declared.State.{State}
+use Rattle.potentials.specs.declared.LjTerm.{LjTerm}
+use Rattle.potentials.specs.declared.LjTerm.the-variants as LjTerm·cases
+use Rattle.potentials.specs.declared.CoulombTerm.{CoulombTerm}
+use Rattle.potentials.specs.declared.CoulombTerm.the-variants as CoulombTerm·cases
+use Rattle.potentials.specs.declared.BondTerm.{BondTerm}
+use Rattle.potentials.specs.declared.BondTerm.the-variants as BondTerm·cases
+use Rattle.potentials_pair.specs.declared.Lj.{Lj}
+use Rattle.verlet.specs.declared.Thermostat.{Thermostat}
+use Rattle.verlet.specs.declared.Thermostat.the-variants as Thermostat·cases
+use Rattle.field_structs.specs.declared.FlatLattice.{FlatLattice}
+use Rattle.field_structs.specs.declared.FlatCell.{FlatCell}
+use Rattle.field_structs.specs.declared.FlatState.{FlatState}
+use Rattle.field_structs.specs.declared.FlatLj.{FlatLj}
+use Rattle.field_structs.specs.declared.FlatLjTerm.{FlatLjTerm}
+use Rattle.field_structs.specs.declared.FlatCoulombTerm.{FlatCoulombTerm}
+use Rattle.field_structs.specs.declared.FlatBondTerm.{FlatBondTerm}
+use Rattle.field_structs.specs.declared.FlatThermostat.{FlatThermostat}
+use Rattle.field_structs.specs.declared.FlatFrame.{FlatFrame}
+
+-- ---- flags: a number of which 1 is set and 0 is not
+
+abbrev pub isFlag : ℕ → Bool
+isFlag n = leb n 1
+
+abbrev pub isSet : ℕ → Bool
+isSet n = eqb n 1
+
+unfoldable pub latticeFlags : FlatLattice → Bool
+latticeFlags l = isFlag (l .px) && isFlag (l .py) && isFlag (l .pz)
+
+-- the flags of an absent cell are tested too
+unfoldable pub cellFlags : FlatCell → Bool
+cellFlags cell = isFlag (cell .present) && latticeFlags (cell .lattice)
+
+unfoldable pub stateFlags : FlatState → Bool
+stateFlags s = isFlag (s .fallback)
+
+unfoldable pub ljFlags : FlatLj → Bool
+ljFlags lj = isFlag (lj .shift)
+
+unfoldable pub ljTermFlags : FlatLjTerm → Bool
+ljTermFlags term = isFlag (term .present) && ljFlags (term .lj)
+
+unfoldable pub termFlags : FlatLjTerm → FlatCoulombTerm → FlatBondTerm → Bool
+termFlags lj coulomb bond = ljTermFlags lj && isFlag (coulomb .present) && isFlag (bond .present)
+
+unfoldable pub thermostatFlags : FlatThermostat → Bool
+thermostatFlags t = isFlag (t .present)
+
+unfoldable pub frameFlags : FlatFrame → Bool
+frameFlags f = isFlag (f .px) && isFlag (f .py) && isFlag (f .pz)
+
+-- ---- the arguments
+
+unfoldable pub latticeOf : FlatLattice → Lattice
+latticeOf l = record { a = l .a; b = l .b; c = l .c; px = isSet (l .px); py = isSet (l .py); pz = isSet (l .pz) }
+
+unfoldable pub cellOf : FlatCell → Cell
+cellOf cell = cond (isSet (cell .present)) (Cell·cases.Present (latticeOf (cell .lattice))) Cell·cases.Absent
+
+unfoldable pub stateOf : FlatState → State
+stateOf s =
+    record {
+      cutoff = s .cutoff;
+      skin = s .skin;
+      pairs = s .pairs;
+      references = s .references;
+      checks = s .checks;
+      fallback = isSet (s .fallback);
+      builds = s .builds;
+    }
+
+unfoldable pub ljOf : FlatLj → Lj
+ljOf lj = record { epsilon = lj .epsilon; sigma = lj .sigma; cutoff = lj .cutoff; shift = isSet (lj .shift) }
+
+unfoldable pub ljTermOf : FlatLjTerm → LjTerm
+ljTermOf term = cond (isSet (term .present)) (LjTerm·cases.Present (ljOf (term .lj))) LjTerm·cases.Absent
+
+unfoldable pub coulombTermOf : FlatCoulombTerm → CoulombTerm
+coulombTermOf term = cond (isSet (term .present)) (CoulombTerm·cases.Present (term .cutoff)) CoulombTerm·cases.Absent
+
+unfoldable pub bondTermOf : FlatBondTerm → BondTerm
+bondTermOf term = cond (isSet (term .present)) (BondTerm·cases.Present (term .bond)) BondTerm·cases.Absent
+
+unfoldable pub thermostatOf : FlatThermostat → Thermostat
+thermostatOf t = cond (isSet (t .present)) (Thermostat·cases.Present (t .«target_k») (t .«tau_fs»)) Thermostat·cases.Absent
+
+unfoldable pub frameOf : FlatFrame → Frame
+frameOf f =
+    record {
+      x = record { edge = f .ex; round = isSet (f .px) };
+      y = record { edge = f .ey; round = isSet (f .py) };
+      z = record { edge = f .ez; round = isSet (f .pz) };
+      radius = f .radius;
+    }
+
+-- a virial by itself
+abbrev pub rowsTable : Rows → List (List Float)
+rowsTable m = m .x ∷ m .y ∷ m .z ∷ []

@@ -1,0 +1,510 @@
+// The struct that an answer is handed over as.
+use crate::FlatBondAnswer;
+use crate::FlatBuilt;
+use crate::FlatDone;
+use crate::FlatEvaluated;
+use crate::FlatImageAnswer;
+use crate::FlatInverseAnswer;
+use crate::FlatJob;
+use crate::FlatLattice;
+use crate::FlatLatticeAnswer;
+use crate::FlatLj;
+use crate::FlatLjAnswer;
+use crate::FlatNumber;
+use crate::FlatRowsAnswer;
+use crate::FlatSheet;
+use crate::FlatState;
+use crate::FlatStateAnswer;
+use crate::FlatSummed;
+use crate::FlatUpdated;
+use crate::FlatVector;
+use crate::FlatWhole;
+use crate::FlatYesNo;
+use answer::Done;
+use answer::Number;
+use answer::Refusal;
+use answer::Whole;
+use answer::YesNo;
+use cell::Image;
+use cell::ImageAnswer;
+use cell::InverseAnswer;
+use cell::Lattice;
+use cell::LatticeAnswer;
+use cell::RowsAnswer;
+use cell::Vec3;
+use cell::Vector;
+use evaluate::Evaluated;
+use frame::Built;
+use neighbor::State;
+use neighbor::StateAnswer;
+use neighbor::Updated;
+use potentials::Bond;
+use potentials::BondAnswer;
+use potentials::LjAnswer;
+use potentials_pair::Lj;
+use sheet::Job;
+use sheet::Sheet;
+use virial::Summed;
+ghost use mathlib.Core.Path.{_≡_};
+ghost use Rattle.cell.specs.Vec.{zeroVec};
+ghost use Rattle.field_structs.specs.Flat.{flag, wellDone, flatRefusal, flatDone, flatNumber, flatYesNo, flatWhole, flatVector, flatLattice, zeroLattice, flatLatticeAnswer, flatImage, flatRows, flatInverse, unaskedRows, unaskedInverse, flatSummed, flatState, zeroState, flatStateAnswer, flatUpdated, unaskedUpdate, flatBuilt, flatLj, zeroLj, flatLjAnswer, zeroBond, flatBondAnswer, flatEvaluated, unaskedEvaluation, flatJob, zeroJob, flatSheet};
+
+// 1 where it is set.
+pub fn flag_of(b: bool) -> u32
+    ensures { λ r. ⌜ r ≡ flag b ⌝ }
+{
+    if b {
+        return 1;
+    }
+    0
+}
+
+// ---- refusals
+
+pub fn well() -> FlatDone
+    ensures { λ r. ⌜ r ≡ wellDone ⌝ }
+{
+    FlatDone {
+        number: 0,
+        place: 0,
+    }
+}
+
+pub fn refusal(why: Refusal) -> FlatDone
+    ensures { λ r. ⌜ r ≡ flatRefusal why ⌝ }
+{
+    FlatDone {
+        number: why.number(),
+        place: why.place(),
+    }
+}
+
+pub fn done(a: Done) -> FlatDone
+    ensures { λ r. ⌜ r ≡ flatDone a ⌝ }
+{
+    match a {
+        Done::Answered => well(),
+        Done::Refused(why) => refusal(why),
+    }
+}
+
+// ---- plain answers
+
+pub fn number(a: Number) -> FlatNumber
+    ensures { λ r. ⌜ r ≡ flatNumber a ⌝ }
+{
+    match a {
+        Number::Answered(x) => FlatNumber {
+            done: well(),
+            value: x,
+        },
+        Number::Refused(why) => FlatNumber {
+            done: refusal(why),
+            value: 0.0,
+        },
+    }
+}
+
+pub fn yes_no(a: YesNo) -> FlatYesNo
+    ensures { λ r. ⌜ r ≡ flatYesNo a ⌝ }
+{
+    match a {
+        YesNo::Answered(b) => FlatYesNo {
+            done: well(),
+            value: flag_of(b),
+        },
+        YesNo::Refused(why) => FlatYesNo {
+            done: refusal(why),
+            value: 0,
+        },
+    }
+}
+
+pub fn whole(a: Whole) -> FlatWhole
+    ensures { λ r. ⌜ r ≡ flatWhole a ⌝ }
+{
+    match a {
+        Whole::Answered(n) => FlatWhole {
+            done: well(),
+            value: n,
+        },
+        Whole::Refused(why) => FlatWhole {
+            done: refusal(why),
+            value: 0,
+        },
+    }
+}
+
+// ---- cell
+
+fn zero_vec() -> Vec3
+    ensures { λ r. ⌜ r ≡ zeroVec ⌝ }
+{
+    Vec3 {
+        x: 0.0,
+        y: 0.0,
+        z: 0.0,
+    }
+}
+
+pub fn vector(a: Vector) -> FlatVector
+    ensures { λ r. ⌜ r ≡ flatVector a ⌝ }
+{
+    match a {
+        Vector::Answered(v) => FlatVector {
+            done: well(),
+            value: v,
+        },
+        Vector::Refused(why) => FlatVector {
+            done: refusal(why),
+            value: zero_vec(),
+        },
+    }
+}
+
+pub fn lattice(l: Lattice) -> FlatLattice
+    ensures { λ r. ⌜ r ≡ flatLattice l ⌝ }
+{
+    let a = l.a;
+    let b = l.b;
+    let c = l.c;
+    FlatLattice {
+        a,
+        b,
+        c,
+        px: flag_of(l.px),
+        py: flag_of(l.py),
+        pz: flag_of(l.pz),
+    }
+}
+
+fn zero_lattice() -> FlatLattice
+    ensures { λ r. ⌜ r ≡ zeroLattice ⌝ }
+{
+    FlatLattice {
+        a: zero_vec(),
+        b: zero_vec(),
+        c: zero_vec(),
+        px: 0,
+        py: 0,
+        pz: 0,
+    }
+}
+
+pub fn lattice_answer(a: LatticeAnswer) -> FlatLatticeAnswer
+    ensures { λ r. ⌜ r ≡ flatLatticeAnswer a ⌝ }
+{
+    match a {
+        LatticeAnswer::Answered(l) => FlatLatticeAnswer {
+            done: well(),
+            lattice: lattice(l),
+        },
+        LatticeAnswer::Refused(why) => FlatLatticeAnswer {
+            done: refusal(why),
+            lattice: zero_lattice(),
+        },
+    }
+}
+
+pub fn image(a: ImageAnswer) -> FlatImageAnswer
+    ensures { λ r. ⌜ r ≡ flatImage a ⌝ }
+{
+    match a {
+        ImageAnswer::Answered(i) => FlatImageAnswer {
+            done: well(),
+            image: i,
+        },
+        ImageAnswer::Refused(why) => FlatImageAnswer {
+            done: refusal(why),
+            image: Image { diff: zero_vec() },
+        },
+    }
+}
+
+pub fn rows(a: RowsAnswer) -> FlatRowsAnswer
+    ensures { λ r. ⌜ r ≡ flatRows a ⌝ }
+{
+    let answer = a.done;
+    let rows = a.rows;
+    FlatRowsAnswer {
+        done: done(answer),
+        rows,
+    }
+}
+
+pub fn inverse(a: InverseAnswer) -> FlatInverseAnswer
+    ensures { λ r. ⌜ r ≡ flatInverse a ⌝ }
+{
+    let answer = a.found;
+    let rows = a.rows;
+    let found = yes_no(answer);
+    let done = found.done;
+    FlatInverseAnswer {
+        done,
+        found: found.value,
+        rows,
+    }
+}
+
+// A flag was none: 3.
+pub fn unasked_rows() -> FlatRowsAnswer
+    ensures { λ r. ⌜ r ≡ unaskedRows ⌝ }
+{
+    FlatRowsAnswer {
+        done: refusal(Refusal::Range),
+        rows: cell::matrices::zero_rows(),
+    }
+}
+
+pub fn unasked_inverse() -> FlatInverseAnswer
+    ensures { λ r. ⌜ r ≡ unaskedInverse ⌝ }
+{
+    FlatInverseAnswer {
+        done: refusal(Refusal::Range),
+        found: 0,
+        rows: cell::matrices::zero_rows(),
+    }
+}
+
+// ---- virial
+
+pub fn summed(a: Summed) -> FlatSummed
+    ensures { λ r. ⌜ r ≡ flatSummed a ⌝ }
+{
+    match a {
+        Summed::Answered(s) => FlatSummed {
+            done: well(),
+            sum: s,
+        },
+        Summed::Refused(why) => FlatSummed {
+            done: refusal(why),
+            sum: virial::kernel::zero(),
+        },
+    }
+}
+
+// ---- the pair list
+
+pub fn state(s: State) -> FlatState
+    ensures { λ r. ⌜ r ≡ flatState s ⌝ }
+{
+    FlatState {
+        cutoff: s.cutoff,
+        skin: s.skin,
+        pairs: s.pairs,
+        references: s.references,
+        checks: s.checks,
+        fallback: flag_of(s.fallback),
+        builds: s.builds,
+    }
+}
+
+fn zero_state() -> FlatState
+    ensures { λ r. ⌜ r ≡ zeroState ⌝ }
+{
+    FlatState {
+        cutoff: 0.0,
+        skin: 0.0,
+        pairs: 0,
+        references: 0,
+        checks: 0,
+        fallback: 0,
+        builds: 0,
+    }
+}
+
+pub fn state_answer(a: StateAnswer) -> FlatStateAnswer
+    ensures { λ r. ⌜ r ≡ flatStateAnswer a ⌝ }
+{
+    match a {
+        StateAnswer::Answered(s) => FlatStateAnswer {
+            done: well(),
+            state: state(s),
+        },
+        StateAnswer::Refused(why) => FlatStateAnswer {
+            done: refusal(why),
+            state: zero_state(),
+        },
+    }
+}
+
+pub fn updated(u: Updated) -> FlatUpdated
+    ensures { λ r. ⌜ r ≡ flatUpdated u ⌝ }
+{
+    let answer = u.done;
+    let list = u.state;
+    FlatUpdated {
+        done: done(answer),
+        rebuilt: flag_of(u.rebuilt),
+        state: state(list),
+    }
+}
+
+// A flag was none: 3, with the state as it came.
+pub fn unasked_update(s: FlatState) -> FlatUpdated
+    ensures { λ r. ⌜ r ≡ unaskedUpdate s ⌝ }
+{
+    FlatUpdated {
+        done: refusal(Refusal::Range),
+        rebuilt: 0,
+        state: s,
+    }
+}
+
+// ---- the whole-number frame and the job sheet
+
+pub fn built(a: Built) -> FlatBuilt
+    ensures { λ r. ⌜ r ≡ flatBuilt a ⌝ }
+{
+    match a {
+        Built::Answered {
+            pairs,
+            checks,
+            fallback,
+        } => FlatBuilt {
+            done: well(),
+            pairs,
+            checks,
+            fallback: flag_of(fallback),
+        },
+        Built::Refused(why) => FlatBuilt {
+            done: refusal(why),
+            pairs: 0,
+            checks: 0,
+            fallback: 0,
+        },
+    }
+}
+
+fn job(j: Job) -> FlatJob
+    ensures { λ r. ⌜ r ≡ flatJob j ⌝ }
+{
+    FlatJob {
+        atoms: j.atoms,
+        ex: j.ex,
+        ey: j.ey,
+        ez: j.ez,
+        px: flag_of(j.px),
+        py: flag_of(j.py),
+        pz: flag_of(j.pz),
+        radius: j.radius,
+        count: j.count,
+    }
+}
+
+fn zero_job() -> FlatJob
+    ensures { λ r. ⌜ r ≡ zeroJob ⌝ }
+{
+    FlatJob {
+        atoms: 0,
+        ex: 0,
+        ey: 0,
+        ez: 0,
+        px: 0,
+        py: 0,
+        pz: 0,
+        radius: 0,
+        count: 0,
+    }
+}
+
+pub fn sheet(a: Sheet) -> FlatSheet
+    ensures { λ r. ⌜ r ≡ flatSheet a ⌝ }
+{
+    match a {
+        Sheet::Answered(j) => FlatSheet {
+            done: well(),
+            job: job(j),
+        },
+        Sheet::Refused(why) => FlatSheet {
+            done: refusal(why),
+            job: zero_job(),
+        },
+    }
+}
+
+// ---- terms
+
+pub fn lj(lj: Lj) -> FlatLj
+    ensures { λ r. ⌜ r ≡ flatLj lj ⌝ }
+{
+    FlatLj {
+        epsilon: lj.epsilon,
+        sigma: lj.sigma,
+        cutoff: lj.cutoff,
+        shift: flag_of(lj.shift),
+    }
+}
+
+fn zero_lj() -> FlatLj
+    ensures { λ r. ⌜ r ≡ zeroLj ⌝ }
+{
+    FlatLj {
+        epsilon: 0.0,
+        sigma: 0.0,
+        cutoff: 0.0,
+        shift: 0,
+    }
+}
+
+pub fn lj_answer(a: LjAnswer) -> FlatLjAnswer
+    ensures { λ r. ⌜ r ≡ flatLjAnswer a ⌝ }
+{
+    match a {
+        LjAnswer::Answered(t) => FlatLjAnswer {
+            done: well(),
+            lj: lj(t),
+        },
+        LjAnswer::Refused(why) => FlatLjAnswer {
+            done: refusal(why),
+            lj: zero_lj(),
+        },
+    }
+}
+
+fn zero_bond() -> Bond
+    ensures { λ r. ⌜ r ≡ zeroBond ⌝ }
+{
+    Bond { k: 0.0, r0: 0.0 }
+}
+
+pub fn bond_answer(a: BondAnswer) -> FlatBondAnswer
+    ensures { λ r. ⌜ r ≡ flatBondAnswer a ⌝ }
+{
+    match a {
+        BondAnswer::Answered(b) => FlatBondAnswer {
+            done: well(),
+            bond: b,
+        },
+        BondAnswer::Refused(why) => FlatBondAnswer {
+            done: refusal(why),
+            bond: zero_bond(),
+        },
+    }
+}
+
+pub fn evaluated(e: Evaluated) -> FlatEvaluated
+    ensures { λ r. ⌜ r ≡ flatEvaluated e ⌝ }
+{
+    let answer = e.done;
+    let list = e.state;
+    let sum = e.sum;
+    FlatEvaluated {
+        done: done(answer),
+        rebuilt: flag_of(e.rebuilt),
+        state: state(list),
+        sum,
+    }
+}
+
+// A flag was none: 3, with the state as it came.
+pub fn unasked_evaluation(s: FlatState) -> FlatEvaluated
+    ensures { λ r. ⌜ r ≡ unaskedEvaluation s ⌝ }
+{
+    FlatEvaluated {
+        done: refusal(Refusal::Range),
+        rebuilt: 0,
+        state: s,
+        sum: virial::kernel::zero(),
+    }
+}

@@ -1,0 +1,17 @@
+use Rattle.frame.specs.Distance.{frameOk}
+use borrow.Author.Needs.{needs}
+use Rattle.frame.proofs.asked.frame_ok.Statement.{statement}
+use Rattle.frame.proofs.asked.frame_ok.Tie as tie
+
+returns : tie.Need-returns
+unfolding frameOk
+returns c = simp (c .before .before .edge-ok .ensures, c .before .edge-ok2 .ensures, c .edge-ok3 .ensures)
+
+pub frame-ok-spec : {M : Type 1} → statement M
+frame-ok-spec =
+    tie.close
+    (tie.spec
+    (λ c κs. search needs)
+    (λ c κs. search needs)
+    (λ c κs. search needs)
+    returns)

@@ -1,0 +1,14 @@
+use Rattle.neighbor.specs.Update.{lengthsBad}
+use mathlib.Core.Path.{refl}
+use Rattle.neighbor.proofs.asked.lengths_bad.Statement.{statement}
+use Rattle.neighbor.proofs.asked.lengths_bad.Tie as tie
+use Rattle.neighbor.proofs.asked.lengths_bad.Reads as reads
+use Rattle.neighbor.proofs.asked.lengths_bad.Lts as lts
+
+-- src/tests.rt:26:1
+returns : tie.Need-returns
+unfolding lengthsBad
+returns c = refl
+
+pub lengths-bad-spec : {M : Type 1} → statement M
+lengths-bad-spec = tie.close (tie.spec returns)

@@ -1,0 +1,87 @@
+-- What the private functions ask and say of themselves: nobody has to believe it. Definitions only.
+use Prim.Native.Nat.{ℕ, _/_, _≤_, _<_, min, max}
+use mathlib.Core.Path.{_≡_}
+use mathlib.Core.Bool.{Bool, true, false}
+use mathlib.Core.List.{List}
+use lib.ListN.{length, getD, take}
+use Rattle.lists.specs.Atoms.{atomsOf}
+use Rattle.lists.specs.Lists.{keep}
+use lib.Ieee.{Float, le}
+use Rattle.cell.specs.declared.Vec3.{Vec3}
+use Rattle.cell.specs.declared.Cell.{Cell as Cell′}
+use Rattle.cell.specs.Vec.{subOf, norm2Of, positionAt}
+use Rattle.float.specs.Arith.{_⊗_}
+use Rattle.cell_prepared.specs.Facts.{prepareOf, imageIn}
+use Rattle.bins.specs.declared.Cell.{Cell}
+use Rattle.bins.specs.declared.Grid.{Grid}
+use Rattle.bins.specs.declared.Tally.{Tally}
+use Rattle.bins.specs.Stencil.{InGrid, flatten}
+use Rattle.bins.specs.Sort.{atomsIn}
+use Rattle.bins.specs.Traversal.{bin}
+use Rattle.bins.specs.Listing.{Scene, listOf, Below}
+use Rattle.candidates.specs.Checks.{lazy}
+use Rattle.exclusions.specs.Table.{rowAt, lookedFrom}
+use Rattle.neighbor_grid.specs.Grid.{gridOf, cellAt, plainOf}
+use Rattle.neighbor_grid.specs.Layout.{touchingRows}
+use Rattle.neighbor_listing.specs.declared.sight.Sight.{Sight}
+
+-- whether a low atom at a and a high one at b are near
+unfoldable pub seesOf : Sight → Vec3 → Vec3 → Bool
+seesOf s a b = le (norm2Of (imageIn (s .prepared) (subOf a b) .diff)) (s .limit)
+
+-- every row before k is of a low atom below a
+pub record Under (table : List ℕ) (a k : ℕ) : Type 0 where
+  pub within : k ≤ length table / 2
+  pub low : (j : ℕ) → j < k → rowAt table j .0 < a
+
+-- so it is at each atom's number; an atom past the last has row 0
+pub record Firsts (table firsts : List ℕ) : Type 0 where
+  pub at : (a : ℕ) → Under table a (getD firsts a 0)
+
+-- a pair's lookup from its low atom's row
+unfoldable pub lookedIn : List ℕ → List ℕ → ℕ → ℕ → Bool
+unfolding lookedFrom
+lookedIn firsts table low high = lookedFrom table (getD firsts low 0) low high
+
+-- what is excluded and what is near, as the loops find it; the near test first; and the scene of pairs that are near
+unfoldable pub lookedBy : Sight → List Float → List ℕ → List ℕ → Scene
+lookedBy s xs firsts table = record { excluded = lookedIn firsts table; near = λ low high. seesOf s (positionAt xs low) (positionAt xs high) }
+
+unfoldable pub sceneBy : Sight → List Float → List ℕ → List ℕ → Scene
+unfolding lazy lookedBy
+sceneBy s xs firsts table = lazy (lookedBy s xs firsts table)
+
+unfoldable pub chosenBy : List ℕ → List ℕ → Scene
+chosenBy firsts table = record { excluded = lookedIn firsts table; near = λ low high. true }
+
+-- whether j is near i
+unfoldable pub nearTo : Sight → List Float → ℕ → ℕ → Bool
+nearTo s xs i j = seesOf s (positionAt xs (min i j)) (positionAt xs (max i j))
+
+-- r elements at the memory's front: those of a part that pass the test
+pub record Gathered (q : ℕ → Bool) (part : List ℕ) (r : ℕ) (mem : List ℕ) : Type 0 where
+  pub few : r ≤ length part
+  pub are : take r mem ≡ keep q part
+
+-- from a tally t and a memory, the candidates lead to the tally r and the new memory
+abbrev pub Lists : Sight → List Float → List ℕ → List ℕ → Tally → List ℕ → List (ℕ × ℕ) → Tally → List ℕ → Type 0
+Lists s xs firsts table t old cands r new = record { tally = r; mem = new } ≡ listOf (sceneBy s xs firsts table) (record { tally = t; mem = old }) cands
+
+-- the atoms of a cell, as the tables hand them out
+abbrev pub atomsBy : Grid → List ℕ → List ℕ → Cell → List ℕ
+atomsBy g starts items c = atomsIn (flatten g c) starts items
+
+-- and they are atoms
+pub record Swept (g : Grid) (n : ℕ) (starts items : List ℕ) : Type 0 where
+  pub below : (c : Cell) → InGrid g c → Below n (atomsBy g starts items c)
+
+-- a cell's facts and the squared radius
+unfoldable pub sightOf : Cell′ → Float → Sight
+sightOf cell r = record { prepared = prepareOf cell; limit = r ⊗ r }
+
+-- the frame's own grid, laid into the tables; `excluded` are the exclusion rows of touching cells
+pub record Gridded (cell : Cell′) (r : Float) (xs : List Float) (table : List ℕ) (g : Grid) (excluded : ℕ) (starts items : List ℕ) : Type 0 where
+  pub is : g ≡ gridOf cell r xs
+  pub wide : plainOf cell r xs ≡ false
+  pub counted : excluded ≡ touchingRows cell r xs table
+  pub part : (c : Cell) → InGrid g c → atomsBy g starts items c ≡ bin (atomsOf xs) (cellAt cell r xs) c

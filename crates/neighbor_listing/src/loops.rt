@@ -1,0 +1,205 @@
+// The candidate pairs: an atom with a part of a bin, at most 32 at a time. Their near ones are gathered without a branch; of these, what is not
+// excluded is stored where there is room.
+use crate::firsts::first_of;
+use crate::sight::Sight;
+use crate::sight::sees;
+use crate::sight::spot_at;
+use bins::Tally;
+use cell::Vec3;
+ghost use mathlib.Core.Path.{_≡_};
+ghost use Prim.Native.Nat.{_+_, _/_, _≤_, _<_, min, max};
+ghost use lib.ListN.{length};
+ghost use Rattle.cell.specs.Vec.{positionAt};
+ghost use Rattle.lists.specs.Lists.{ordered, withEach, inside, across};
+ghost use Rattle.bins.specs.Listing.{considerOf, listOf, Ready, Below};
+ghost use mathlib.Core.Bool.{cond};
+ghost use Rattle.neighbor_listing.specs.Steps.{chosenBy, nearTo, Gathered, Lists};
+
+fn lower(i: u32, j: u32) -> u32
+    ensures { λ r. ⌜ r ≡ min i j ⌝ }
+{
+    if i < j { i } else { j }
+}
+
+fn higher(i: u32, j: u32) -> u32
+    ensures { λ r. ⌜ r ≡ max i j ⌝ }
+{
+    if i < j { j } else { i }
+}
+
+fn one(test: bool) -> usize
+    ensures { λ r. ⌜ r ≡ cond test 1 0 ⌝ }
+    ensures { λ r. ⌜ r ≤ 1 ⌝ }
+{
+    if test { 1 } else { 0 }
+}
+
+// A near pair: listed where it is not excluded.
+fn settle(table: &[u32], firsts: &[u32], pairs: &mut [u32], t: Tally, i: u32, j: u32) -> Tally
+    requires { ⌜ Ready t 1 ⌝ }
+    ensures { λ r. ⌜ record { tally = r; mem = now (pairs .exit) } ≡ considerOf (chosenBy (now (firsts .entry)) (now (table .entry))) (record { tally = t; mem = now (pairs .entry) }) (ordered i j) ⌝ }
+{
+    let low = lower(i, j);
+    let high = higher(i, j);
+    if exclusions::kernel::excluded_from(table, first_of(firsts, low), low, high) {
+        return t;
+    }
+    let count = t.count;
+    bins::kernel::push(pairs, count, low, high);
+    Tally {
+        count: count + 1,
+        checks: t.checks + 1,
+    }
+}
+
+// An atom with each that is near.
+fn settle_all(
+    table: &[u32],
+    firsts: &[u32],
+    pairs: &mut [u32],
+    t: Tally,
+    i: u32,
+    near: &[u32],
+) -> Tally
+    requires { ⌜ Ready t (length (withEach i (now near))) ⌝ }
+    ensures { λ r. ⌜ record { tally = r; mem = now (pairs .exit) } ≡ listOf (chosenBy (now (firsts .entry)) (now (table .entry))) (record { tally = t; mem = now (pairs .entry) }) (withEach i (now (near .entry))) ⌝ }
+{
+    let mut now = t;
+    let mut k = 0;
+    while k < near.len() {
+        now = settle(table, firsts, pairs, now, i, near[k]);
+        k += 1;
+    }
+    now
+}
+
+// Those of a part that are near atom i, which is at a, to the room's front; how many they are. Each is written, and stays where it is near.
+fn sift(s: Sight, xs: &[f64], i: u32, a: Vec3, part: &[u32], room: &mut [u32]) -> usize
+    requires { ⌜ Below (length (now xs) / 3) (now part) × (length (now part) ≤ length (now room)) × (a ≡ positionAt (now xs) i) ⌝ }
+    ensures { λ r. ⌜ Gathered (nearTo s (now (xs .entry)) i) (now (part .entry)) r (now (room .exit)) ⌝ }
+{
+    let mut count = 0;
+    let mut k = 0;
+    while k < part.len() {
+        let j = part[k];
+        room[count] = j;
+        count += one(sees(s, i < j, a, spot_at(xs, j as usize)));
+        k += 1;
+    }
+    count
+}
+
+// Room for the near ones of a part; in a function of its own, so that no proof writes out its numbers.
+fn blank() -> [u32; 32]
+    ensures { λ r. ⌜ length r ≡ 32 ⌝ }
+{
+    [0u32; 32]
+}
+
+// An atom, which is at a, with each of a part that is no longer than the room.
+fn consider_few(
+    s: Sight,
+    xs: &[f64],
+    table: &[u32],
+    firsts: &[u32],
+    pairs: &mut [u32],
+    t: Tally,
+    i: u32,
+    a: Vec3,
+    part: &[u32],
+) -> Tally
+    requires { ⌜ (length (now part) ≤ 32) × Below (length (now xs) / 3) (now part) × (a ≡ positionAt (now xs) i) × Ready t (length (withEach i (now part))) ⌝ }
+    ensures { λ r. ⌜ Lists s (now (xs .entry)) (now (firsts .entry)) (now (table .entry)) t (now (pairs .entry)) (withEach i (now (part .entry))) r (now (pairs .exit)) ⌝ }
+{
+    let n = part.len();
+    let mut room = blank();
+    let count = sift(s, xs, i, a, part, &mut room[..n]);
+    let near = settle_all(table, firsts, pairs, t, i, &room[..count]);
+    Tally {
+        count: near.count,
+        checks: t.checks + n,
+    }
+}
+
+// How far a part from k goes: to n, or 32.
+fn part_end(k: usize, n: usize) -> usize
+    requires { ⌜ k < n ⌝ }
+    ensures { λ r. ⌜ (k < r) × (r ≤ n) × (r ≤ k + 32) ⌝ }
+{
+    if n - k <= 32 {
+        return n;
+    }
+    k + 32
+}
+
+// An atom with each of a part, in the part's order. Its coordinates are read once.
+fn consider_part(
+    s: Sight,
+    xs: &[f64],
+    table: &[u32],
+    firsts: &[u32],
+    pairs: &mut [u32],
+    t: Tally,
+    i: u32,
+    part: &[u32],
+) -> Tally
+    requires { ⌜ (i < length (now xs) / 3) × Below (length (now xs) / 3) (now part) × Ready t (length (withEach i (now part))) ⌝ }
+    ensures { λ r. ⌜ Lists s (now (xs .entry)) (now (firsts .entry)) (now (table .entry)) t (now (pairs .entry)) (withEach i (now (part .entry))) r (now (pairs .exit)) ⌝ }
+{
+    let a = spot_at(xs, i as usize);
+    let mut now = t;
+    let mut k = 0;
+    while k < part.len() {
+        let to = part_end(k, part.len());
+        now = consider_few(s, xs, table, firsts, pairs, now, i, a, &part[k..to]);
+        k = to;
+    }
+    now
+}
+
+// Each atom of a bin with each of another.
+pub(crate) fn consider_cross(
+    s: Sight,
+    xs: &[f64],
+    table: &[u32],
+    firsts: &[u32],
+    pairs: &mut [u32],
+    t: Tally,
+    home: &[u32],
+    other: &[u32],
+) -> Tally
+    requires { ⌜ Below (length (now xs) / 3) (now home) × Below (length (now xs) / 3) (now other) × Ready t (length (across (now home) (now other))) ⌝ }
+    ensures { λ r. ⌜ Lists s (now (xs .entry)) (now (firsts .entry)) (now (table .entry)) t (now (pairs .entry)) (across (now (home .entry)) (now (other .entry))) r (now (pairs .exit)) ⌝ }
+{
+    let mut now = t;
+    let mut k = 0;
+    while k < home.len() {
+        let i = home[k];
+        now = consider_part(s, xs, table, firsts, pairs, now, i, other);
+        k += 1;
+    }
+    now
+}
+
+// Each pair of a bin, the earlier atom first.
+pub(crate) fn consider_home(
+    s: Sight,
+    xs: &[f64],
+    table: &[u32],
+    firsts: &[u32],
+    pairs: &mut [u32],
+    t: Tally,
+    home: &[u32],
+) -> Tally
+    requires { ⌜ Below (length (now xs) / 3) (now home) × Ready t (length (inside (now home))) ⌝ }
+    ensures { λ r. ⌜ Lists s (now (xs .entry)) (now (firsts .entry)) (now (table .entry)) t (now (pairs .entry)) (inside (now (home .entry))) r (now (pairs .exit)) ⌝ }
+{
+    let mut now = t;
+    let mut k = 0;
+    while k < home.len() {
+        let i = home[k];
+        now = consider_part(s, xs, table, firsts, pairs, now, i, &home[k + 1..]);
+        k += 1;
+    }
+    now
+}

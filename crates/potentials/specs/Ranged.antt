@@ -1,0 +1,30 @@
+-- 01's ranges, as tests of what this crate is handed. Definitions only.
+use mathlib.Core.Bool.{Bool, _&&_}
+use lib.Ieee.{Float}
+use Rattle.cell.specs.Ranged.{entryLimit}
+use Rattle.float.specs.Arith.{bits}
+use Rattle.ranges.specs.Ranged.{within, between}
+use Rattle.potentials_pair.specs.declared.Lj.{Lj}
+use Rattle.potentials.specs.declared.Bond.{Bond}
+
+-- "Coordinates, cell entries, velocities, bond numbers: magnitude to 2^20"
+abbrev pub coordinate : Float → Bool
+coordinate x = within entryLimit x
+
+-- "Epsilon and sigma 0 to 2^10"
+abbrev pub depth : Float → Bool
+depth x = between (bits 0) (bits 0x4090_0000_0000_0000) x
+
+-- "Cutoff 0 to 2^20"
+abbrev pub cutoffOk : Float → Bool
+cutoffOk x = between (bits 0) entryLimit x
+
+-- "Charges ..: magnitude to 2^10"
+abbrev pub charge : Float → Bool
+charge x = within (bits 0x4090_0000_0000_0000) x
+
+unfoldable pub ljInRange : Lj → Bool
+ljInRange lj = depth (lj .epsilon) && depth (lj .sigma) && cutoffOk (lj .cutoff)
+
+unfoldable pub bondInRange : Bond → Bool
+bondInRange bond = coordinate (bond .k) && coordinate (bond .r0)

@@ -1,0 +1,59 @@
+// Lennard-Jones over a difference and the numbers of two species.
+ghost use mathlib.Core.Path.{_≡_};
+ghost use Rattle.potentials_pair.specs.Lj.{mixOf};
+ghost use Rattle.potentials_pair.specs.Once.{numbersOf, energyBy, nearBy};
+use crate::Lj;
+use crate::Mixed;
+use crate::Numbers;
+use crate::Pull;
+use cell::Vec3;
+
+// Lorentz-Berthelot.
+pub fn mix(a: Mixed, b: Mixed) -> Mixed
+    ensures { λ r. ⌜ r ≡ mixOf a b ⌝ }
+{
+    Mixed {
+        epsilon: float::root(a.epsilon * b.epsilon),
+        sigma: 0.5 * (a.sigma + b.sigma),
+    }
+}
+
+// All that the formulas need of two species, so that it is computed once for many pairs.
+pub fn numbers_of(lj: Lj, m: Mixed) -> Numbers
+    ensures { λ r. ⌜ r ≡ numbersOf lj m ⌝ }
+{
+    let depth = 4.0 * m.epsilon;
+    let sc2 = m.sigma * m.sigma / (lj.cutoff * lj.cutoff);
+    let sc6 = sc2 * sc2 * sc2;
+    Numbers {
+        depth: depth,
+        square: m.sigma * m.sigma,
+        shift: depth * (sc6 * sc6 - sc6),
+    }
+}
+
+fn energy(shift: bool, n: Numbers, s6: f64, s12: f64) -> f64
+    ensures { λ r. ⌜ r ≡ energyBy shift n s6 s12 ⌝ }
+{
+    let e = n.depth * (s12 - s6);
+    if shift {
+        return e - n.shift;
+    }
+    e
+}
+
+// A pair that is not skipped, r2 the square of d. Of `numbers_of` it is `ljNear` (proofs/Once.antt).
+pub fn near(shift: bool, n: Numbers, d: Vec3, r2: f64) -> Pull
+    ensures { λ r. ⌜ r ≡ nearBy shift n d r2 ⌝ }
+{
+    let inv_r2 = 1.0 / r2;
+    let s2 = n.square * inv_r2;
+    let s6 = s2 * s2 * s2;
+    let s12 = s6 * s6;
+    let de_dr2 = n.depth * (-6.0 * s12 + 3.0 * s6) * inv_r2;
+    Pull::Add {
+        energy: energy(shift, n, s6, s12),
+        d: d,
+        f: cell::vectors::scale(d, -2.0 * de_dr2),
+    }
+}

@@ -1,0 +1,23 @@
+use Rattle.replay_records.specs.Taken.{cellAt, afterCell, flagAt}
+use borrow.Author.Needs.{needs}
+use mathlib.Core.Bool.{true, false}
+use mathlib.Core.Path.{_≡_}
+use Rattle.replay_records.proofs.take.take_cell.Statement.{statement}
+use Rattle.replay_records.proofs.take.take_cell.Tie as tie
+
+returns : tie.Need-returns
+unfolding cellAt afterCell
+returns c = let t : flagAt (c .before .before .before .before .before .args .ws .now) (c .before .before .before .before .before .args .at) ≡ true = cc in simp t (cc, cc)
+
+returns-2 : tie.Need-returns-2
+unfolding cellAt afterCell
+returns-2 c = let t : flagAt (c .before .before .before .args .ws .now) (c .before .before .before .args .at) ≡ false = cc in simp t (cc, cc)
+
+pub take-cell-spec : {M : Type 1} → statement M
+take-cell-spec =
+    tie.close
+    (tie.spec
+    (λ c κs. search needs)
+    (λ c κs. search needs)
+    returns
+    returns-2)

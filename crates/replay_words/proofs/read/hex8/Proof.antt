@@ -1,0 +1,18 @@
+use Rattle.replay_words.specs.Text.{digitOf, joined, hex2, hex4, hex8}
+use borrow.Author.Needs.{needs}
+use Rattle.replay_words.proofs.read.hex8.Statement.{statement}
+use Rattle.replay_words.proofs.read.hex8.Tie as tie
+
+returns : tie.Need-returns
+unfolding hex8
+returns c = cc
+
+pub hex8-spec : {M : Type 1} → statement M
+hex8-spec =
+    tie.close
+    (tie.spec
+    (λ c κs. search needs)
+    (λ c. search needs)
+    (λ c κs. search needs)
+    (λ c κs. search needs)
+    returns)

@@ -1,0 +1,42 @@
+// How both calls end: refused with nothing changed, or cooled.
+use crate::Stepped;
+use answer::Done;
+use answer::Refusal;
+use neighbor::State;
+use verlet::Thermostat;
+use virial::Units;
+ghost use mathlib.Core.Path.{_≡_};
+ghost use Rattle.answer.specs.Seen.{seenDone};
+ghost use Rattle.verlet_step.specs.Calls.{cooledOf};
+ghost use Rattle.verlet_step.specs.Steps.{unmovedOf};
+
+// A refusal before anything is stored.
+pub(crate) fn unmoved(s: State, potential: f64, why: Refusal) -> Stepped
+    ensures { λ r. ⌜ r ≡ unmovedOf s potential why ⌝ }
+{
+    Stepped {
+        done: Done::Refused(why),
+        stopped: false,
+        rebuilt: false,
+        state: s,
+        potential,
+    }
+}
+
+// The thermostat, where the step came so far.
+pub(crate) fn cool(
+    r: Stepped,
+    t: Thermostat,
+    units: Units,
+    dt: f64,
+    masses: &[f64],
+    velocities: &mut [f64],
+)
+    ensures { λ _. ⌜ now (velocities .exit) ≡ cooledOf t units dt (now (masses .entry)) (seenDone (r .done)) (now (velocities .entry)) ⌝ }
+{
+    let done = r.done;
+    if let Done::Refused(_) = done {
+        return;
+    }
+    verlet::kernel::thermostat(t, units, dt, masses, velocities);
+}

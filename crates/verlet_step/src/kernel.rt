@@ -1,0 +1,170 @@
+// A step without tests and without the thermostat: total on every number and length. No public call.
+use crate::Stepped;
+use crate::ends;
+use answer::Done;
+use answer::Refusal;
+use cell::Cell;
+use evaluate::Evaluated;
+use neighbor::State;
+use potentials::BondTerm;
+use potentials::CoulombTerm;
+use potentials::LjTerm;
+use verlet::moves;
+use virial::Units;
+ghost use mathlib.Core.Path.{_≡_};
+ghost use Rattle.neighbor.specs.Update.{given};
+ghost use Rattle.evaluate.specs.Calls.{job};
+ghost use Rattle.evaluate.specs.Terms.{terms};
+ghost use Rattle.verlet_step.specs.Calls.{motion, shown};
+ghost use Rattle.verlet_step.specs.Steps.{landedIn, advancedIn, kicked, kickedAfter, steppedFrom};
+
+// The evaluation's answer with a potential.
+fn with_potential(e: Evaluated, stopped: bool, potential: f64) -> Stepped
+    ensures { λ r. ⌜ r ≡ steppedFrom e stopped potential ⌝ }
+{
+    let done = e.done;
+    let state = e.state;
+    Stepped {
+        done,
+        stopped,
+        rebuilt: e.rebuilt,
+        state,
+        potential,
+    }
+}
+
+// Half a kick by the new forces; nothing, and the old potential, where the evaluation refused (7, 8).
+fn second_kick(
+    e: Evaluated,
+    potential: f64,
+    units: Units,
+    dt: f64,
+    forces: &[f64],
+    masses: &[f64],
+    velocities: &mut [f64],
+) -> Stepped
+    ensures { λ r. ⌜ kicked r (now (velocities .exit)) ≡ kickedAfter potential units dt (now (forces .entry)) (now (masses .entry)) (now (velocities .entry)) e (e .done) ⌝ }
+{
+    let done = e.done;
+    if let Done::Refused(_) = done {
+        return with_potential(e, true, potential);
+    }
+    let sum = e.sum;
+    moves::kick(units, dt, forces, masses, velocities);
+    with_potential(e, false, sum.energy)
+}
+
+// The evaluation at the positions and the second kick: the end of `advance`, and what `finish` resumes.
+pub fn land(
+    dt: f64,
+    lj: LjTerm,
+    coulomb: CoulombTerm,
+    bond: BondTerm,
+    units: Units,
+    s: State,
+    cell: Cell,
+    ids: &[u32],
+    params: &[f64],
+    species: &[u32],
+    charges: &[f64],
+    bonds: &[u32],
+    lengths: &[f64],
+    ks: &[f64],
+    masses: &[f64],
+    exclusions: &[u32],
+    potential: f64,
+    positions: &[f64],
+    velocities: &mut [f64],
+    pairs: &mut [u32],
+    references: &mut [f64],
+    starts: &mut [u32],
+    items: &mut [u32],
+    forces: &mut [f64],
+) -> Stepped
+    ensures { λ r. ⌜ shown r (now (positions .entry)) (now (velocities .exit)) (now (pairs .exit)) (now (references .exit)) (now (starts .exit)) (now (items .exit)) (now (forces .exit)) ≡ landedIn (motion dt (job (terms lj coulomb bond units (now (ids .entry)) (now (params .entry)) (now (species .entry)) (now (charges .entry)) (now (bonds .entry)) (now (lengths .entry)) (now (ks .entry))) (given s cell (now (positions .entry)) (now (exclusions .entry)) (now (pairs .entry)) (now (references .entry)) (now (starts .entry)) (now (items .entry))) (now (forces .entry))) (now (masses .entry)) potential (now (velocities .entry))) ⌝ }
+{
+    let e = evaluate::kernel::settle(
+        lj,
+        coulomb,
+        bond,
+        units,
+        s,
+        cell,
+        ids,
+        params,
+        species,
+        charges,
+        bonds,
+        lengths,
+        ks,
+        positions,
+        exclusions,
+        pairs,
+        references,
+        starts,
+        items,
+        forces,
+    );
+    second_kick(e, potential, units, dt, forces, masses, velocities)
+}
+
+// The drift's test, half a kick, the drift, and `land`.
+pub fn advance(
+    dt: f64,
+    lj: LjTerm,
+    coulomb: CoulombTerm,
+    bond: BondTerm,
+    units: Units,
+    s: State,
+    cell: Cell,
+    ids: &[u32],
+    params: &[f64],
+    species: &[u32],
+    charges: &[f64],
+    bonds: &[u32],
+    lengths: &[f64],
+    ks: &[f64],
+    masses: &[f64],
+    exclusions: &[u32],
+    potential: f64,
+    positions: &mut [f64],
+    velocities: &mut [f64],
+    pairs: &mut [u32],
+    references: &mut [f64],
+    starts: &mut [u32],
+    items: &mut [u32],
+    forces: &mut [f64],
+) -> Stepped
+    ensures { λ r. ⌜ shown r (now (positions .exit)) (now (velocities .exit)) (now (pairs .exit)) (now (references .exit)) (now (starts .exit)) (now (items .exit)) (now (forces .exit)) ≡ advancedIn (motion dt (job (terms lj coulomb bond units (now (ids .entry)) (now (params .entry)) (now (species .entry)) (now (charges .entry)) (now (bonds .entry)) (now (lengths .entry)) (now (ks .entry))) (given s cell (now (positions .entry)) (now (exclusions .entry)) (now (pairs .entry)) (now (references .entry)) (now (starts .entry)) (now (items .entry))) (now (forces .entry))) (now (masses .entry)) potential (now (velocities .entry))) ⌝ }
+{
+    if !moves::drifts(units, dt, forces, masses, positions, velocities) {
+        return ends::unmoved(s, potential, Refusal::Drifted);
+    }
+    moves::kick_and_drift(units, dt, forces, masses, positions, velocities);
+    land(
+        dt,
+        lj,
+        coulomb,
+        bond,
+        units,
+        s,
+        cell,
+        ids,
+        params,
+        species,
+        charges,
+        bonds,
+        lengths,
+        ks,
+        masses,
+        exclusions,
+        potential,
+        positions,
+        velocities,
+        pairs,
+        references,
+        starts,
+        items,
+        forces,
+    )
+}
