@@ -1,4 +1,4 @@
-/* Each shape of argument and answer that crosses the boundary, called from C: structs of each size, flags that are none, parts of tables, a sheet's text.
+/* Each shape of argument and answer that crosses the boundary, called from C: structs of each size, flags above 1, parts of tables, a sheet's text.
  * Says which line was not as expected; the status is 1 then. */
 #include <stdio.h>
 #include <string.h>
@@ -34,10 +34,13 @@ static void helpers_and_cells(void)
     EXPECT(tyn_perp_widths(box.lattice).value.z == 8.0);
     EXPECT(tyn_min_image((tyn_vec3){1.5, 0.0, 5.0}, (tyn_cell){1, box.lattice}).image.diff.z == -3.0);
     EXPECT(tyn_min_image((tyn_vec3){1.5, 0.0, 5.0}, (tyn_cell){0, box.lattice}).image.diff.z == 5.0);
-    EXPECT(tyn_min_image((tyn_vec3){1.5, 0.0, 5.0}, (tyn_cell){2, box.lattice}).done.number == TYN_RANGE);
-    box.lattice.px = 7;
-    EXPECT(tyn_volume(box.lattice).done.number == TYN_RANGE && tyn_inverse(box.lattice).done.number == TYN_RANGE);
-    EXPECT(tyn_min_image((tyn_vec3){1.5, 0.0, 5.0}, (tyn_cell){0, box.lattice}).done.number == TYN_RANGE);
+    /* any number but 0 is yes */
+    EXPECT(tyn_min_image((tyn_vec3){1.5, 0.0, 5.0}, (tyn_cell){7, box.lattice}).image.diff.z == -3.0);
+    box.lattice.py = 7;
+    EXPECT(tyn_volume(box.lattice).value == 64.0 && tyn_inverse(box.lattice).found == 1);
+    EXPECT(tyn_wrap(box.lattice, (tyn_vec3){3.0, -1.0, 2.0}).value.y == 3.0);
+    box.lattice.py = 0;
+    EXPECT(tyn_wrap(box.lattice, (tyn_vec3){3.0, -1.0, 2.0}).value.y == -1.0);
 }
 
 static void sums(void)
@@ -83,14 +86,40 @@ static void lists(void)
     EXPECT(listed.done.number == 0 && listed.start == 0 && listed.length == 2 && tyn_listed(built.state, pairs, 1).done.number == TYN_CLAIMS);
     EXPECT(tyn_needs_rebuild(built.state, open, positions, 9, references, 9).value == 0 && tyn_builds_since(built.state, 0) == 1);
     tyn_state odd = built.state;
-    odd.fallback = 2;
+    odd.fallback = 7;
     pairs[0] = 5;
-    tyn_updated refused = tyn_build(odd, open, positions, 9, table, 2, pairs, 8, references, 9, starts, 4, items, 3);
-    EXPECT(refused.done.number == TYN_RANGE && refused.state.fallback == 2 && refused.state.pairs == 1 && refused.rebuilt == 0 && pairs[0] == 5);
-    EXPECT(tyn_builds_since(odd, 0) == 1 && tyn_search_radius(odd).done.number == TYN_RANGE && tyn_search_radius(list).value == 1.5);
+    tyn_updated refused = tyn_build(odd, open, positions, 8, table, 2, pairs, 8, references, 9, starts, 4, items, 3);
+    EXPECT(refused.done.number == TYN_LENGTHS && refused.state.fallback == 1 && refused.state.pairs == 1 && refused.rebuilt == 0 && pairs[0] == 5);
+    tyn_updated again = tyn_build(odd, open, positions, 9, table, 2, pairs, 8, references, 9, starts, 4, items, 3);
+    EXPECT(again.done.number == 0 && again.state.fallback == 1 && again.state.builds == 2 && pairs[0] == 0);
+    EXPECT(tyn_builds_since(odd, 0) == 1 && tyn_search_radius(odd).value == 1.5 && tyn_search_radius(list).value == 1.5);
     const uint32_t from[3] = {0, 1, 3};
     tyn_part atoms = tyn_atoms_in(1, from, 3, items, 3);
     EXPECT(atoms.done.number == 0 && atoms.start == 1 && atoms.length == 2 && tyn_atoms_in(2, from, 3, items, 3).done.number == TYN_LENGTHS);
+}
+
+static void settings(void)
+{
+    const uint32_t none = 0, rows[2] = {0, 1}, species[2] = {0, 0};
+    const double zero = 0.0, charges[2] = {0, 0}, masses[2] = {2.0, 2.0};
+    double positions[6] = {0, 0, 0, 2.5, 0, 0}, velocities[6] = {0}, references[6] = {0}, forces[6] = {0};
+    uint32_t pairs[2] = {0}, starts[2] = {0}, items[2] = {0};
+    tyn_setting setting = {.bond = {7, {2.0, 1.5}}, .units = {0.5, 0.25, 14.0, 160.0}};
+    tyn_pace pace = {0.5, {7, 0.0, 0.5}};
+    tyn_evaluated pull = tyn_evaluate(setting, tyn_new(1.0, 0.5).state, &none, 0, &zero, 0, species, 2, charges, 2, rows, 2, &zero, 0, &zero, 0, positions, 6,
+        &none, 0, pairs, 2, references, 6, starts, 2, items, 2, forces, 6);
+    EXPECT(pull.done.number == 0 && pull.rebuilt == 1 && pull.sum.energy == 1.0 && forces[0] == 2.0 && forces[3] == -2.0);
+    tyn_stepped cold = tyn_step(setting, pace, pull.state, pull.sum.energy, &none, 0, &zero, 0, species, 2, charges, 2, rows, 2, &zero, 0, &zero, 0, masses, 2,
+        &none, 0, positions, 6, velocities, 6, pairs, 2, references, 6, starts, 2, items, 2, forces, 6);
+    EXPECT(cold.done.number == 0 && cold.stopped == 0 && cold.potential < 1.0 && positions[0] > 0.0 && velocities[0] == 0.0);
+    pace.thermostat.present = 0;
+    tyn_stepped rest = tyn_finish(setting, pace, cold.state, cold.potential, &none, 0, &zero, 0, species, 2, charges, 2, rows, 2, &zero, 0, &zero, 0, masses, 2,
+        &none, 0, positions, 6, velocities, 6, pairs, 2, references, 6, starts, 2, items, 2, forces, 6);
+    EXPECT(rest.done.number == 0 && velocities[0] > 0.0 && rest.potential == cold.potential);
+    setting.bond.present = 0;
+    tyn_evaluated still = tyn_evaluate(setting, rest.state, &none, 0, &zero, 0, species, 2, charges, 2, rows, 2, &zero, 0, &zero, 0, positions, 6, &none, 0, pairs,
+        2, references, 6, starts, 2, items, 2, forces, 6);
+    EXPECT(still.done.number == 0 && still.sum.energy == 0.0 && forces[0] == 0.0);
 }
 
 static void whole_numbers(void)
@@ -101,8 +130,10 @@ static void whole_numbers(void)
     const char *answer = "81000000020000000500\n8200020003\n8200000001\n";
     tyn_frame frame = {10, 10, 10, 1, 1, 1, 3};
     EXPECT(tyn_squared_distance(frame, (tyn_spot){0, 0, 0}, (tyn_spot){9, 0, 0}).value == 1);
-    frame.pz = 2;
-    EXPECT(tyn_squared_distance(frame, (tyn_spot){0, 0, 0}, (tyn_spot){9, 0, 0}).done.number == TYN_RANGE);
+    frame.pz = 7;
+    EXPECT(tyn_squared_distance(frame, (tyn_spot){0, 0, 0}, (tyn_spot){0, 0, 9}).value == 1);
+    frame.pz = 0;
+    EXPECT(tyn_squared_distance(frame, (tyn_spot){0, 0, 0}, (tyn_spot){0, 0, 9}).value == 81);
     tyn_whole length = tyn_solve((const uint8_t *)sheet, strlen(sheet), out, sizeof out);
     EXPECT(length.done.number == 0 && length.value == strlen(answer) && memcmp(out, answer, strlen(answer)) == 0);
 }
@@ -112,6 +143,7 @@ int main(void)
     helpers_and_cells();
     sums();
     lists();
+    settings();
     whole_numbers();
     puts(bad ? "not as expected" : "as expected");
     return bad;

@@ -56,15 +56,15 @@ int main(void)
     const tyn_cell cell = {1, cube.lattice};
     const size_t rows = (size_t)excluded.value;
 
-    /* a flag that is none */
+    /* any flag but 0 is yes */
     tyn_cell odd = cell;
-    odd.lattice.py = 2;
+    odd.lattice.py = 7;
     tyn_number radius = tyn_search_radius(list.state);
-    tyn_image_answer image = tyn_min_image((tyn_vec3){edge, 0.75 * edge, 0.0}, odd);
-    printf("flag 2: refusal %" PRIu64 ", place %" PRIu64 "\n", image.done.number, image.done.place);
-    image = tyn_min_image((tyn_vec3){edge, 0.75 * edge, 0.0}, cell);
+    tyn_image_answer image = tyn_min_image((tyn_vec3){edge, 0.75 * edge, 0.0}, cell);
+    tyn_image_answer same = tyn_min_image((tyn_vec3){edge, 0.75 * edge, 0.0}, odd);
     show("radius", radius.value);
     show("image y", image.image.diff.y);
+    show("flag 7: y", same.image.diff.y);
 
     size_t room = 2 * 64;
     uint32_t *pairs = calloc(room, sizeof *pairs);
@@ -85,20 +85,18 @@ int main(void)
     printf("pairs %" PRIu32 ", checks %" PRIu32 ", fallback %" PRIu32 ", builds %" PRIu32 ", first %" PRIu32 " %" PRIu32 "\n", built.state.pairs,
         built.state.checks, built.state.fallback, built.state.builds, pairs[0], pairs[1]);
 
-    const tyn_lj_term lj = {1, {0.0103, 3.4, 5.0, 1}};
-    const tyn_coulomb_term coulomb = {0, 0.0};
-    const tyn_bond_term bond = {0, {0.0, 0.0}};
-    const tyn_thermostat thermostat = {1, 120.0, 100.0};
-    tyn_evaluated start = tyn_evaluate(lj, coulomb, bond, units, built.state, cell, &none, 0, &zero, 0, species, ATOMS, charges, ATOMS, &none, 0, &zero, 0, &zero,
-        0, positions, 3 * ATOMS, exclusions, 2 * rows, pairs, room, references, 3 * ATOMS, starts, 1024, items, ATOMS, forces, 3 * ATOMS);
+    const tyn_setting setting = {.lj = {1, {0.0103, 3.4, 5.0, 1}}, .units = units, .cell = cell};
+    const tyn_pace pace = {2.0, {1, 120.0, 100.0}};
+    tyn_evaluated start = tyn_evaluate(setting, built.state, &none, 0, &zero, 0, species, ATOMS, charges, ATOMS, &none, 0, &zero, 0, &zero, 0, positions,
+        3 * ATOMS, exclusions, 2 * rows, pairs, room, references, 3 * ATOMS, starts, 1024, items, ATOMS, forces, 3 * ATOMS);
     if (refused("tyn_evaluate", start.done))
         return 1;
     show("potential", start.sum.energy);
     show("virial xx", start.sum.xx);
 
-    tyn_stepped next = tyn_step(2.0, thermostat, lj, coulomb, bond, units, start.state, cell, &none, 0, &zero, 0, species, ATOMS, charges, ATOMS, &none, 0, &zero,
-        0, &zero, 0, masses, ATOMS, exclusions, 2 * rows, start.sum.energy, positions, 3 * ATOMS, velocities, 3 * ATOMS, pairs, room, references, 3 * ATOMS,
-        starts, 1024, items, ATOMS, forces, 3 * ATOMS);
+    tyn_stepped next = tyn_step(setting, pace, start.state, start.sum.energy, &none, 0, &zero, 0, species, ATOMS, charges, ATOMS, &none, 0, &zero, 0, &zero, 0,
+        masses, ATOMS, exclusions, 2 * rows, positions, 3 * ATOMS, velocities, 3 * ATOMS, pairs, room, references, 3 * ATOMS, starts, 1024, items, ATOMS,
+        forces, 3 * ATOMS);
     if (refused("tyn_step", next.done))
         return 1;
     tyn_number kinetic = tyn_kinetic_energy(units, velocities, 3 * ATOMS, masses, ATOMS);

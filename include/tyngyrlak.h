@@ -3,8 +3,7 @@
  * Answers. Every answer has a `done`: number 0 and place 0 where the call is answered, else a refusal's number (tyn_refusal) and its place, which is 0
  * unless the number names one. The other values are zeros where the call is refused, but for a list's state and a step's potential, which come back in every case.
  *
- * Flags are 0 or 1. A call that takes a flag tests every flag that it is handed first, also those of an absent cell or term: any other value is refusal 3,
- * place 0, with everything lent as it came and a state as it came. tyn_builds_since refuses nothing and does not look at the flag.
+ * Flags are read as C does: 0 is no, any other number is yes. A flag that is handed back is 0 or 1.
  *
  * Memory. A table or a room is a pointer and the number of its elements. The caller sees to it that each pointer
  *   - is not NULL, also where the number is 0, and is aligned for its elements;
@@ -117,7 +116,7 @@ typedef struct {
     tyn_vec3 value;
 } tyn_vector;
 
-/* No cell (present 0), or a lattice (present 1). */
+/* No cell (present 0), or a lattice (present not 0). */
 typedef struct {
     uint32_t present;
     tyn_lattice lattice;
@@ -267,23 +266,32 @@ typedef struct {
     tyn_bond bond;
 } tyn_bond_answer;
 
-/* No Lennard-Jones term (present 0), or one (present 1). */
+/* No Lennard-Jones term (present 0), or one (present not 0). */
 typedef struct {
     uint32_t present;
     tyn_lj lj;
 } tyn_lj_term;
 
-/* No Coulomb term (present 0), or one (present 1). */
+/* No Coulomb term (present 0), or one (present not 0). */
 typedef struct {
     uint32_t present;
     double cutoff;
 } tyn_coulomb_term;
 
-/* No bonds (present 0), or bonds (present 1). */
+/* No bonds (present 0), or bonds (present not 0). */
 typedef struct {
     uint32_t present;
     tyn_bond bond;
 } tyn_bond_term;
+
+/* What an evaluation goes by besides its tables: the terms, the units, and the cell. */
+typedef struct {
+    tyn_lj_term lj;
+    tyn_coulomb_term coulomb;
+    tyn_bond_term bond;
+    tyn_units units;
+    tyn_cell cell;
+} tyn_setting;
 
 /* Whether the list was built anew (a flag), its state, which comes back in every case, and energy and virial; the forces stand in what was lent. */
 typedef struct {
@@ -293,12 +301,18 @@ typedef struct {
     tyn_sum sum;
 } tyn_evaluated;
 
-/* No thermostat (present 0), or Berendsen's (present 1). */
+/* No thermostat (present 0), or Berendsen's (present not 0). */
 typedef struct {
     uint32_t present;
     double target_k;
     double tau_fs;
 } tyn_thermostat;
+
+/* How a step goes on in time. */
+typedef struct {
+    double dt;
+    tyn_thermostat thermostat;
+} tyn_pace;
 
 /* Whether a 7 or 8 stopped the step after the drift and whether the list was built anew (flags); the list's state and the potential, which come back
  * in every case. */
@@ -508,12 +522,11 @@ tyn_summed tyn_bonds_all(tyn_bond bond, tyn_cell cell, const uint32_t *bonds, si
 
 /* The list brought up to date, then each present term, Lennard-Jones, Coulomb, bonds, merged in this order into zero. Refusals 1, 2, 6, 3, 4, 5, 7,
  * 8. */
-tyn_evaluated tyn_evaluate(tyn_lj_term lj, tyn_coulomb_term coulomb, tyn_bond_term bond, tyn_units units, tyn_state s, tyn_cell cell,
-    const uint32_t *ids, size_t ids_len, const double *params, size_t params_len, const uint32_t *species, size_t species_len, const double *charges,
-    size_t charges_len, const uint32_t *bonds, size_t bonds_len, const double *lengths, size_t lengths_len, const double *ks, size_t ks_len,
-    const double *positions, size_t positions_len, const uint32_t *exclusions, size_t exclusions_len, uint32_t *pairs, size_t pairs_len,
-    double *references, size_t references_len, uint32_t *starts, size_t starts_len, uint32_t *items, size_t items_len, double *forces,
-    size_t forces_len);
+tyn_evaluated tyn_evaluate(tyn_setting setting, tyn_state s, const uint32_t *ids, size_t ids_len, const double *params, size_t params_len,
+    const uint32_t *species, size_t species_len, const double *charges, size_t charges_len, const uint32_t *bonds, size_t bonds_len,
+    const double *lengths, size_t lengths_len, const double *ks, size_t ks_len, const double *positions, size_t positions_len,
+    const uint32_t *exclusions, size_t exclusions_len, uint32_t *pairs, size_t pairs_len, double *references, size_t references_len,
+    uint32_t *starts, size_t starts_len, uint32_t *items, size_t items_len, double *forces, size_t forces_len);
 
 /* ---- Kinetic energy, temperature and thermostat (verlet.rs). */
 
@@ -532,23 +545,21 @@ tyn_done tyn_berendsen(tyn_units units, double dt, double target_k, double tau_f
 /* One step of velocity Verlet: half a kick and the drift, the evaluation, half a kick, the thermostat. forces and potential are those at the
  * positions. Where a 7 or 8 stopped it after the drift (stopped is 1), positions and velocities are drifted, forces and potential old: call
  * tyn_finish with more room. Refusals 1, 2, 6, 3, 4, 5, the drift (3, place 1), 7, 8. */
-tyn_stepped tyn_step(double dt, tyn_thermostat thermostat, tyn_lj_term lj, tyn_coulomb_term coulomb, tyn_bond_term bond, tyn_units units,
-    tyn_state s, tyn_cell cell, const uint32_t *ids, size_t ids_len, const double *params, size_t params_len, const uint32_t *species,
-    size_t species_len, const double *charges, size_t charges_len, const uint32_t *bonds, size_t bonds_len, const double *lengths,
-    size_t lengths_len, const double *ks, size_t ks_len, const double *masses, size_t masses_len, const uint32_t *exclusions, size_t exclusions_len,
-    double potential, double *positions, size_t positions_len, double *velocities, size_t velocities_len, uint32_t *pairs, size_t pairs_len,
-    double *references, size_t references_len, uint32_t *starts, size_t starts_len, uint32_t *items, size_t items_len, double *forces,
-    size_t forces_len);
+tyn_stepped tyn_step(tyn_setting setting, tyn_pace pace, tyn_state s, double potential, const uint32_t *ids, size_t ids_len, const double *params,
+    size_t params_len, const uint32_t *species, size_t species_len, const double *charges, size_t charges_len, const uint32_t *bonds,
+    size_t bonds_len, const double *lengths, size_t lengths_len, const double *ks, size_t ks_len, const double *masses, size_t masses_len,
+    const uint32_t *exclusions, size_t exclusions_len, double *positions, size_t positions_len, double *velocities, size_t velocities_len,
+    uint32_t *pairs, size_t pairs_len, double *references, size_t references_len, uint32_t *starts, size_t starts_len, uint32_t *items,
+    size_t items_len, double *forces, size_t forces_len);
 
 /* The rest of a step that a 7 or 8 stopped: the evaluation, the second half kick, the thermostat. Velocities to 2^500. Refusals 1, 2, 6, 3, 4, 5, 7,
  * 8. */
-tyn_stepped tyn_finish(double dt, tyn_thermostat thermostat, tyn_lj_term lj, tyn_coulomb_term coulomb, tyn_bond_term bond, tyn_units units,
-    tyn_state s, tyn_cell cell, const uint32_t *ids, size_t ids_len, const double *params, size_t params_len, const uint32_t *species,
-    size_t species_len, const double *charges, size_t charges_len, const uint32_t *bonds, size_t bonds_len, const double *lengths,
-    size_t lengths_len, const double *ks, size_t ks_len, const double *masses, size_t masses_len, const uint32_t *exclusions, size_t exclusions_len,
-    double potential, const double *positions, size_t positions_len, double *velocities, size_t velocities_len, uint32_t *pairs, size_t pairs_len,
-    double *references, size_t references_len, uint32_t *starts, size_t starts_len, uint32_t *items, size_t items_len, double *forces,
-    size_t forces_len);
+tyn_stepped tyn_finish(tyn_setting setting, tyn_pace pace, tyn_state s, double potential, const uint32_t *ids, size_t ids_len, const double *params,
+    size_t params_len, const uint32_t *species, size_t species_len, const double *charges, size_t charges_len, const uint32_t *bonds,
+    size_t bonds_len, const double *lengths, size_t lengths_len, const double *ks, size_t ks_len, const double *masses, size_t masses_len,
+    const uint32_t *exclusions, size_t exclusions_len, const double *positions, size_t positions_len, double *velocities, size_t velocities_len,
+    uint32_t *pairs, size_t pairs_len, double *references, size_t references_len, uint32_t *starts, size_t starts_len, uint32_t *items,
+    size_t items_len, double *forces, size_t forces_len);
 
 #ifdef __cplusplus
 }

@@ -1,5 +1,5 @@
-//! What the program digests must write: the same builds by the Rust itself.
-//! With cell.rs and neighbor.rs of the Rust copied beside this file: rustc -O digests.rs && ./digests >stdout
+//! The first part of crates/run_melts/stdout: the same builds by the Rust itself. tools/evaluations.rs and tools/steps.rs write the two parts after it.
+//! With cell.rs and neighbor.rs of the Rust copied beside this file: rustc -O digests.rs && ./digests
 #[allow(dead_code)]
 mod cell;
 #[allow(dead_code)]

@@ -1,5 +1,5 @@
-//! What the program evaluations must write: the same evaluations by the Rust itself.
-//! With cell.rs, neighbor.rs, potentials.rs and virial.rs of the Rust copied beside this file: rustc --edition 2021 -O evaluations.rs && ./evaluations >stdout
+//! The second part of crates/run_melts/stdout: the same evaluations by the Rust itself. tools/digests.rs writes the part before it, tools/steps.rs the one after.
+//! With cell.rs, neighbor.rs, potentials.rs and virial.rs of the Rust copied beside this file: rustc --edition 2021 -O evaluations.rs && ./evaluations
 #[allow(dead_code)]
 mod cell;
 #[allow(dead_code)]

@@ -9,8 +9,8 @@ import textwrap
 
 ROOT = os.path.dirname(os.path.dirname(os.path.abspath(__file__)))
 HEADER = os.path.join(ROOT, "include", "tyngyrlak.h")
-GROUPS = ["floats", "cells", "virials", "pairs", "parts", "frames", "forces", "steps", "motion"]
-STRUCTS = ["cell/src/lib", "virial/src/lib", "potentials/src/lib", "frame/src/lib", "flat/src/lib", "field/src/motion"]
+GROUPS = ["floats", "cells", "virials", "pairs", "parts", "frames", "forces", "speeds", "motion"]
+STRUCTS = ["cell/src/lib", "virial/src/lib", "potentials/src/lib", "frame/src/lib", "field_structs/src/lib"]
 NUMBERS = {"f64": "double", "u8": "uint8_t", "u32": "uint32_t", "u64": "uint64_t", "i64": "int64_t", "usize": "size_t"}
 
 TOP = """\
@@ -19,8 +19,7 @@ TOP = """\
  * Answers. Every answer has a `done`: number 0 and place 0 where the call is answered, else a refusal's number (tyn_refusal) and its place, which is 0
  * unless the number names one. The other values are zeros where the call is refused, but for a list's state and a step's potential, which come back in every case.
  *
- * Flags are 0 or 1. A call that takes a flag tests every flag that it is handed first, also those of an absent cell or term: any other value is refusal 3,
- * place 0, with everything lent as it came and a state as it came. tyn_builds_since refuses nothing and does not look at the flag.
+ * Flags are read as C does: 0 is no, any other number is yes. A flag that is handed back is 0 or 1.
  *
  * Memory. A table or a room is a pointer and the number of its elements. The caller sees to it that each pointer
  *   - is not NULL, also where the number is 0, and is aligned for its elements;

@@ -1,4 +1,4 @@
-"""What the program limits must write (crates/limits/stdout): a plain model of the whole-number frame, which shares nothing with the library. It serves the
+"""What the program run_limits must write (crates/run_limits/stdout): a plain model of the whole-number frame, which shares nothing with the library. It serves the
 pair list too: whole places, edges and radius powers of two, so that no operation of the list rounds."""
 import struct
 def spread(n,wide=10):
@@ -80,3 +80,7 @@ update(new,(3,3,3641),1,[(1,1,1),(1,1,1)],[0.0]*6,32771,2,2)
 def bits(x): return struct.unpack('>Q',struct.pack('>d',x))[0]
 print(0,0,bits(0.375*16384),0,0,bits(0.25),0,0,digest(halves([1.0]*49152)))
 print(*[2,16385]*3,digest(halves([0.5]*49155)))
+
+# ---- the other calls that take atoms, one more than the most: zeros, merge, add_pair_force, pressure_tensor (velocities 0.25), lj_pairs, coulomb_pairs,
+# bonds_all, lj_all, coulomb_all, evaluate. Each is refused, and the forces, 0.5, stay
+for lent in [0.5]*3+[0.25]+[0.5]*6: print(2,16385,digest(halves([lent]*49155)))

@@ -1,4 +1,4 @@
-//! The liquid of crates/liquid over the Rust: what tools/evaluations.rs and tools/steps.rs share.
+//! The liquid of crates/run_melts over the Rust: what tools/evaluations.rs and tools/steps.rs share.
 use crate::cell::Lattice;
 use crate::neighbor::NeighborList;
 use crate::potentials::{Coulomb, HarmonicBonds, LennardJones};

@@ -45,9 +45,9 @@ fn main() {
     let cell = Lattice::cubic(edge);
     let mut list = NeighborList::new(5.0, 0.6);
     list.exclude(1, 0);
-    println!("flag 2: refusal 3, place 0");
     show("radius", list.search_radius());
     show("image y", min_image([edge, 0.75 * edge, 0.0], Some(&cell))[1]);
+    show("flag 7: y", min_image([edge, 0.75 * edge, 0.0], Some(&cell))[1]);
     list.build(&xs, Some(&cell));
     println!("64 rows are too few for {} pairs", list.pairs().len());
     let (i, j) = list.pairs()[0];

@@ -1,12 +1,13 @@
 #!/usr/bin/env python3
-"""Job sheets for the program `sheets`, and the answers that an independent model of the scope paper gives.
+"""Job sheets for the program `pairs_table`, and the answers that an independent model of the scope paper gives.
 
-    tools/sheets.py            writes crates/sheets/stdin and crates/sheets/stdout
+    tools/sheets.py            writes crates/pairs_table/stdin and crates/pairs_table/stdout
     tools/sheets.py FILE       prints the model's answer for one sheet
-    tools/sheets.py -SIZE      prints a sheet of that many bytes: five atoms, then an atom's exclusion with itself again and again (65,536 is whole lines)
+    tools/sheets.py -SIZE      prints a sheet of that many bytes: five atoms, then an atom's exclusion with itself again and again (65,536 is whole lines);
+                               crates/pairs_over/stdin is the one of 65,537
 
 The model shares nothing with the library: lines by regular expressions, pairs by trying the stencil over a dictionary of bins.
-In crates/sheets/stdin each sheet stands after its length, eight hexadecimal digits and a newline."""
+In crates/pairs_table/stdin each sheet stands after its length, eight hexadecimal digits and a newline."""
 import os
 import random
 import re
@@ -153,6 +154,13 @@ def shuffled(rng, lines):
     return lines
 
 
+def sized(size):
+    """A sheet of that many bytes."""
+    lines = b"".join([header(5)] + [atom(k, (k, k, 0)) for k in range(5)])
+    left = size - len(lines)
+    return lines + exclusion(0, 0) * (left // 11) + b"0" * (left % 11)
+
+
 def damaged(rng, text):
     """A byte changed, taken out, put in or two swapped."""
     text = bytearray(text)
@@ -224,20 +232,20 @@ def table():
         lines = [header(count, (1000, 10, 10), 0, 500)] + [atom(k, (0, 0, 0)) for k in range(count)]
         pairs = [(a, b) for a in range(count) for b in range(a + 1, count)]
         out.append(join(lines + [exclusion(a, b) for a, b in pairs[:max(0, min(1024, len(pairs) - 8192 - (1 if spare == 63 else 0)))]]))
+    # as long as a sheet may be
+    out.append(sized(65536))
     return out
 
 
 def main():
     if len(sys.argv) > 1 and sys.argv[1].startswith("-"):
-        lines = [header(5)] + [atom(k, (k, k, 0)) for k in range(5)]
-        left = int(sys.argv[1][1:]) - len(b"".join(lines))
-        sys.stdout.buffer.write(b"".join(lines) + exclusion(0, 0) * (left // 11) + b"0" * (left % 11))
+        sys.stdout.buffer.write(sized(int(sys.argv[1][1:])))
         return
     if len(sys.argv) > 1:
         with open(sys.argv[1], "rb") as f:
             sys.stdout.buffer.write(solve(f.read()))
         return
-    here = os.path.join(os.path.dirname(os.path.abspath(__file__)), "..", "crates", "sheets")
+    here = os.path.join(os.path.dirname(os.path.abspath(__file__)), "..", "crates", "pairs_table")
     sheets = table()
     with open(os.path.join(here, "stdin"), "wb") as f:
         f.write(b"".join(b"%08x\n" % len(s) + s for s in sheets))

@@ -1,5 +1,5 @@
-//! What the program steps must write: the same runs by the Rust itself.
-//! With cell.rs, neighbor.rs, potentials.rs, virial.rs and verlet.rs of the Rust copied beside this file: rustc --edition 2021 -O steps.rs && ./steps >stdout
+//! The third part of crates/run_melts/stdout: the same runs by the Rust itself. tools/digests.rs and tools/evaluations.rs write the two parts before it.
+//! With cell.rs, neighbor.rs, potentials.rs, virial.rs and verlet.rs of the Rust copied beside this file: rustc --edition 2021 -O steps.rs && ./steps
 #[allow(dead_code)]
 mod cell;
 #[allow(dead_code)]

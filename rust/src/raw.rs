@@ -28,6 +28,9 @@ structs! {
     CoulombTerm { present: u32, cutoff: f64 }
     BondTerm { present: u32, bond: Bond }
     Thermostat { present: u32, target_k: f64, tau_fs: f64 }
+    /// What an evaluation goes by besides its tables.
+    Setting { lj: LjTerm, coulomb: CoulombTerm, bond: BondTerm, units: Units, cell: Cell }
+    Pace { dt: f64, thermostat: Thermostat }
 
     YesNo { done: Done, value: u32 }
     RowsAnswer { done: Done, rows: Rows }
@@ -108,21 +111,19 @@ calls! {
     fn tyn_coulomb_pairs(units: Units, cutoff: f64, cell: Cell, charges: &[f64], positions: &[f64], pairs: &[u32], forces: &mut [f64]) -> Summed;
     fn tyn_coulomb_all(units: Units, cutoff: f64, cell: Cell, charges: &[f64], positions: &[f64], forces: &mut [f64]) -> Summed;
     fn tyn_bonds_all(bond: Bond, cell: Cell, bonds: &[u32], lengths: &[f64], ks: &[f64], positions: &[f64], forces: &mut [f64]) -> Summed;
-    fn tyn_evaluate(lj: LjTerm, coulomb: CoulombTerm, bond: BondTerm, units: Units, s: State, cell: Cell, ids: &[u32], params: &[f64], species: &[u32],
-        charges: &[f64], bonds: &[u32], lengths: &[f64], ks: &[f64], positions: &[f64], exclusions: &[u32], pairs: &mut [u32], references: &mut [f64],
-        starts: &mut [u32], items: &mut [u32], forces: &mut [f64]) -> Evaluated;
+    fn tyn_evaluate(setting: Setting, s: State, ids: &[u32], params: &[f64], species: &[u32], charges: &[f64], bonds: &[u32], lengths: &[f64], ks: &[f64],
+        positions: &[f64], exclusions: &[u32], pairs: &mut [u32], references: &mut [f64], starts: &mut [u32], items: &mut [u32],
+        forces: &mut [f64]) -> Evaluated;
 
     fn tyn_kinetic_energy(units: Units, velocities: &[f64], masses: &[f64]) -> Number;
     fn tyn_temperature(units: Units, dof: f64, velocities: &[f64], masses: &[f64]) -> Number;
     fn tyn_berendsen(units: Units, dt: f64, target_k: f64, tau_fs: f64, masses: &[f64], velocities: &mut [f64]) -> Done;
-    fn tyn_step(dt: f64, thermostat: Thermostat, lj: LjTerm, coulomb: CoulombTerm, bond: BondTerm, units: Units, s: State, cell: Cell, ids: &[u32],
-        params: &[f64], species: &[u32], charges: &[f64], bonds: &[u32], lengths: &[f64], ks: &[f64], masses: &[f64], exclusions: &[u32], potential: f64,
-        positions: &mut [f64], velocities: &mut [f64], pairs: &mut [u32], references: &mut [f64], starts: &mut [u32], items: &mut [u32],
-        forces: &mut [f64]) -> Stepped;
-    fn tyn_finish(dt: f64, thermostat: Thermostat, lj: LjTerm, coulomb: CoulombTerm, bond: BondTerm, units: Units, s: State, cell: Cell, ids: &[u32],
-        params: &[f64], species: &[u32], charges: &[f64], bonds: &[u32], lengths: &[f64], ks: &[f64], masses: &[f64], exclusions: &[u32], potential: f64,
-        positions: &[f64], velocities: &mut [f64], pairs: &mut [u32], references: &mut [f64], starts: &mut [u32], items: &mut [u32],
-        forces: &mut [f64]) -> Stepped;
+    fn tyn_step(setting: Setting, pace: Pace, s: State, potential: f64, ids: &[u32], params: &[f64], species: &[u32], charges: &[f64], bonds: &[u32],
+        lengths: &[f64], ks: &[f64], masses: &[f64], exclusions: &[u32], positions: &mut [f64], velocities: &mut [f64], pairs: &mut [u32],
+        references: &mut [f64], starts: &mut [u32], items: &mut [u32], forces: &mut [f64]) -> Stepped;
+    fn tyn_finish(setting: Setting, pace: Pace, s: State, potential: f64, ids: &[u32], params: &[f64], species: &[u32], charges: &[f64], bonds: &[u32],
+        lengths: &[f64], ks: &[f64], masses: &[f64], exclusions: &[u32], positions: &[f64], velocities: &mut [f64], pairs: &mut [u32],
+        references: &mut [f64], starts: &mut [u32], items: &mut [u32], forces: &mut [f64]) -> Stepped;
 }
 
 impl From<[f64; 3]> for Vec3 {

@@ -1,10 +1,8 @@
 -- Number and place tell the refusal, and what is seen of an answer tells the answer: no two answers look the same. Assumes nothing.
 use mathlib.Core.Path.{_≡_, refl, sym, ap, ap₂, _∙_}
-use mathlib.Core.Bool.{Bool, cond}
+use mathlib.Core.Bool.{cond}
 use Prim.Native.Nat.{ℕ}
-use native.Mathlib.Omega.{arith}
 use lib.Dec.{eqb}
-use lib.Ieee.{Float}
 use Rattle.answer.specs.declared.Refusal.{Refusal}
 use Rattle.answer.specs.declared.Refusal.the-variants.{Lengths, TooMany, Range, Drifted, NotThere, Order, Claims, Cells, Room, Malformed, Again, Absent}
 use Rattle.answer.specs.declared.Done as Done
@@ -15,7 +13,7 @@ use Rattle.answer.specs.declared.YesNo as YesNo
 use Rattle.answer.specs.declared.YesNo.the-variants as YesNo·cases
 use Rattle.answer.specs.declared.Whole as Whole
 use Rattle.answer.specs.declared.Whole.the-variants as Whole·cases
-use Rattle.answer.specs.Seen.{numberOf, placeOf, Seen, answered, refused, refusedBy, seenDone, seenNumber, seenYesNo, seenWhole}
+use Rattle.answer.specs.Seen.{numberOf, placeOf, Seen, answered, refused, seenDone, seenNumber, seenYesNo, seenWhole}
 
 -- the refusal of a number and a place
 abbrev pub told : ℕ → ℕ → Refusal

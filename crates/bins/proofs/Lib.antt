@@ -4,6 +4,8 @@ pub mod Signs
 pub mod Wide
 pub mod SortLaws
 pub mod Parts
+pub mod Plans
+pub mod Tables
 pub mod Runs
 pub mod Sweeps
 pub mod Laid

@@ -10,26 +10,11 @@ use lib.ListN.{length, getD, take, drop, length-append, length-drop}
 use lib.Seq.{getD-drop}
 use Rattle.lists.specs.Lists.{numbers, upTo, each, ordered, withEach, inside, across, allPairs}
 use Rattle.lists.proofs.Exactness.{ordered-rising, ordered-falling}
-use Rattle.lists.proofs.Walks.{rest-of, numbers-next, numbers-end, each-next, each-end, with-next, with-end, across-next, across-end, inside-next, inside-end}
+use Rattle.lists.proofs.Walks.{rest-of, each-next, each-end, with-next, with-end, across-next, across-end, inside-next, inside-end, later-next, later-end, pairs-next, pairs-end}
 use Rattle.bins.specs.declared.Tally.{Tally}
 use Rattle.bins.specs.Listing.{Scene, Listing, pushed, considerOf, listOf, Ready, Below}
 
 -- ---- one step, for the code
-module _ (e : Scene) (s : Listing) (low high : ℕ) {x : Bool} (is : x ≡ e .excluded low high) where
-  pub step-skipped : x ≡ true → s ≡ considerOf e s (low, high)
-  unfolding considerOf
-  step-skipped h = rw (← is, h)
-
-  module _ {y : Bool} (h : x ≡ false) (at : y ≡ e .near low high) where
-    pub step-far : y ≡ false → record { tally = record { count = s .tally .count; checks = s .tally .checks + 1 }; mem = s .mem } ≡ considerOf e s (low, high)
-    unfolding considerOf
-    step-far n = rw (← is, h, ← at, n)
-
-    pub step-near : y ≡ true → (m : List ℕ) → m ≡ pushed (s .mem) (s .tally .count) low high
-        → record { tally = record { count = s .tally .count + 1; checks = s .tally .checks + 1 }; mem = m } ≡ considerOf e s (low, high)
-    unfolding considerOf
-    step-near n m q = rw (← is, h, ← at, n, q)
-
 module _ (e : Scene) (s r : Listing) (i j : ℕ) where
   pub step-rising : i ≤ j → r ≡ considerOf e s (i, j) → r ≡ considerOf e s (ordered i j)
   step-rising h q = rw (ordered-rising i j h) q
@@ -129,40 +114,24 @@ module _ {e : Scene} {s₀ s : Listing} {all : List (ℕ × ℕ)} (home other : 
     run-inside-end u = run-end (rw (inside-end home k h) at u)
 
 -- numbers in place of a bin: the fallback
-above-next : (i n k : ℕ) → k < n → withEach i (numbers k (n - k)) ≡ ordered i k ∷ withEach i (numbers (k + 1) (n - (k + 1)))
-unfolding withEach
-above-next i n k h = rw (numbers-next n k h)
-
-above-end : (i n k : ℕ) → n ≤ k → withEach i (numbers k (n - k)) ≡ []
-unfolding withEach
-above-end i n k h = rw (numbers-end n k h)
-
-all-next : (n k : ℕ) → k < n → inside (numbers k (n - k)) ≡ withEach k (numbers (k + 1) (n - (k + 1))) ++ inside (numbers (k + 1) (n - (k + 1)))
-unfolding inside
-all-next n k h = rw (numbers-next n k h)
-
-all-end : (n k : ℕ) → n ≤ k → inside (numbers k (n - k)) ≡ []
-unfolding inside
-all-end n k h = rw (numbers-end n k h)
-
 module _ {e : Scene} {s₀ s : Listing} {all : List (ℕ × ℕ)} (n k : ℕ) where
   pub run-above : (i : ℕ) → k < n → (r : Listing) → Run e s₀ s all (withEach i (numbers k (n - k))) → r ≡ considerOf e s (ordered i k) → Run e s₀ r all (withEach i (numbers (k + 1) (n - (k + 1))))
-  run-above i h r u q = run-step r (rw (above-next i n k h) at u) q
+  run-above i h r u q = run-step r (rw (later-next i n k h) at u) q
 
   pub ready-above : (i : ℕ) → k < n → Run e s₀ s all (withEach i (numbers k (n - k))) → Ready (s .tally) 1
-  ready-above i h u = ready-less 1 (omega arith) (rw (above-next i n k h) at (u .ready))
+  ready-above i h u = ready-less 1 (omega arith) (rw (later-next i n k h) at (u .ready))
 
   pub run-above-end : (i : ℕ) → n ≤ k → Run e s₀ s all (withEach i (numbers k (n - k))) → s ≡ listOf e s₀ all
-  run-above-end i h u = run-end (rw (above-end i n k h) at u)
+  run-above-end i h u = run-end (rw (later-end i n k h) at u)
 
   pub run-numbers : k < n → (r : Listing) → Run e s₀ s all (inside (numbers k (n - k))) → r ≡ listOf e s (withEach k (numbers (k + 1) (n - (k + 1)))) → Run e s₀ r all (inside (numbers (k + 1) (n - (k + 1))))
-  run-numbers h r u q = run-part (withEach k (numbers (k + 1) (n - (k + 1)))) (inside (numbers (k + 1) (n - (k + 1)))) r (rw (all-next n k h) at u) q
+  run-numbers h r u q = run-part (withEach k (numbers (k + 1) (n - (k + 1)))) (inside (numbers (k + 1) (n - (k + 1)))) r (rw (pairs-next n k h) at u) q
 
   pub ready-numbers : k < n → Run e s₀ s all (inside (numbers k (n - k))) → Ready (s .tally) (length (withEach k (numbers (k + 1) (n - (k + 1)))))
-  ready-numbers h u = ready-first (withEach k (numbers (k + 1) (n - (k + 1)))) (inside (numbers (k + 1) (n - (k + 1)))) (rw (all-next n k h) at (u .ready))
+  ready-numbers h u = ready-first (withEach k (numbers (k + 1) (n - (k + 1)))) (inside (numbers (k + 1) (n - (k + 1)))) (rw (pairs-next n k h) at (u .ready))
 
   pub run-numbers-end : n ≤ k → Run e s₀ s all (inside (numbers k (n - k))) → s ≡ listOf e s₀ all
-  run-numbers-end h u = run-end (rw (all-end n k h) at u)
+  run-numbers-end h u = run-end (rw (pairs-end n k h) at u)
 
   -- a loop whose turn k lists f k: the rows of a cell, the cells of a grid
   pub run-each : (f : ℕ → List (ℕ × ℕ)) → k < n → (r : Listing) → Run e s₀ s all (each f (numbers k (n - k))) → r ≡ listOf e s (f k) → Run e s₀ r all (each f (numbers (k + 1) (n - (k + 1))))

@@ -229,9 +229,6 @@ module _ (g : Grid) where
   unfolding LeadsBy way as-dir offset halfStencil
   stays a = (refl, refl, refl)
 
-  pub home-row : (a : Cell) → InGrid g a → reached g a 0 ≡ To a
-  home-row a k = way-reached a a 0 k k (omega arith) (stays a)
-
   -- only row 0 does
   pub only-home : GoodGrid g → (a : Cell) (s : ℕ) → s < 14 → LeadsBy g (way s) a a → s ≡ 0
   only-home good a s h l = row-inj s 0 h (omega arith) (only-way good (way s) (way 0) a a l (stays a))

@@ -208,16 +208,6 @@ module _ (g : Grid) (good : GoodGrid g) (n : ℕ) (cellOf : ℕ → Cell) (place
   pub kept-exactly : (q : ℕ × ℕ → Bool) → Exactly (λ p. Near g n cellOf p × (q p ≡ true)) (keep q (pairsOf g (bin n cellOf)))
   kept-exactly q = exactly-keep q (pairsOf g (bin n cellOf)) (pairs-exactly g good n cellOf placed)
 
-  -- Where what passes the test touches, the bins excuse nothing: exactly the pairs that pass, as many as all pairs give.
-  module _ (q : ℕ × ℕ → Bool) (close : (p : ℕ × ℕ) → Two n p → q p ≡ true → touching g (cellOf (p .0)) (cellOf (p .1)) ≡ true) where
-    pub nothing-missed : Exactly (λ p. Two n p × (q p ≡ true)) (keep q (pairsOf g (bin n cellOf)))
-    nothing-missed =
-        exactly-as (keep q (pairsOf g (bin n cellOf))) (kept-exactly q) (λ p u. (u .0 .0, u .1))
-        (λ p u. ((u .0, close p (u .0) (u .1)), u .1))
-
-    pub as-many : length (keep q (pairsOf g (bin n cellOf))) ≡ length (keep q (allPairs n))
-    as-many = equally-long _ _ nothing-missed (exactly-keep q (allPairs n) (all-exactly n))
-
 -- ---- for the code: what a visit is, case by case
 module _ (g : Grid) (atoms : Cell → List ℕ) (h : Cell) where
   pub visit-nowhere : (s : ℕ) → reached g h s ≡ Nowhere → visit g atoms h s ≡ []

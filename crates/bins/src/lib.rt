@@ -38,6 +38,13 @@ pub enum Reached {
     Nowhere,
 }
 
+// How the pairs are to be found: all of them tried, by a grid, or not at all where it has too many cells.
+pub enum Plan {
+    AllPairs,
+    TooMany,
+    Laid(Grid),
+}
+
 // Pairs found, and candidate distances evaluated.
 pub struct Tally {
     pub count: usize,

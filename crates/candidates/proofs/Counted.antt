@@ -3,9 +3,9 @@ use Prim.Native.Nat.{ℕ, suc, _+_, _<_}
 use mathlib.Core.Path.{_≡_, refl, sym, ap, _∙_}
 use mathlib.Core.Logic.{⊎-elim}
 use mathlib.Core.Bool.{Bool, true, false, cond, not, _&&_, false≢true}
-use mathlib.Core.List.{List, [], _∷_, List·Memᴰ·head, List·Memᴰ·tail, List·Memᴰ·not-nil, List·Memᴰ·cases-cons}
+use mathlib.Core.List.{List, [], _∷_, _++_, List·Memᴰ·head, List·Memᴰ·tail, List·Memᴰ·not-nil, List·Memᴰ·cases-cons}
 use native.Mathlib.Omega.{arith}
-use lib.ListN.{length}
+use lib.ListN.{length, take, drop}
 use lib.Dec.{ltb}
 use borrow.Author.Tests.{ltb-true, lt-ltb}
 use Rattle.lists.specs.Lists.{keep, howMany, some, rows, allPairs, Two}
@@ -19,10 +19,11 @@ use Rattle.bins.specs.Traversal.{bin, pairsOf, Placed}
 use Rattle.bins.specs.Listing.{Scene, free, close, checkedOf, foundOf}
 use Rattle.bins.proofs.TraversalLaws.{checks-counted}
 use Rattle.bins.proofs.FlatLaws as flat
+use Rattle.bins.proofs.Tables.{Filled, done-long, done-at, done-front}
 use Rattle.exclusions.specs.Table.{before, samePair, isTable, isRow}
 use Rattle.exclusions.proofs.RowOrder.{before-other, pair-same, same-pair}
 use Rattle.exclusions.proofs.Search.{ascending, tail-table}
-use Rattle.candidates.specs.Checks.{lazy, there, beside, rowsBelow, rowsTouching}
+use Rattle.candidates.specs.Checks.{lazy, there, beside, cellIn, rowsBelow, rowsTouching}
 
 -- ---- tests on a list
 keep-all : {A : Type 0} (l : List A) → keep (λ a. true) l ≡ l
@@ -157,7 +158,7 @@ module _ (table : List ℕ) (h : isTable (rows table) ≡ true) (n : ℕ) where
         ∙ ap (λ (k : ℕ). howMany (λ p. q p && not (isRow p (rows table))) (allPairs n) + k) (rows-many (rows table) h n q)
 
 -- ---- only the cells of atoms that are there count
-pub touching-agree : (g : Grid) (n : ℕ) (c d : ℕ → Cell) (rs : List (ℕ × ℕ)) → ((k : ℕ) → k < n → c k ≡ d k) → rowsTouching g n c rs ≡ rowsTouching g n d rs
+touching-agree : (g : Grid) (n : ℕ) (c d : ℕ → Cell) (rs : List (ℕ × ℕ)) → ((k : ℕ) → k < n → c k ≡ d k) → rowsTouching g n c rs ≡ rowsTouching g n d rs
 unfolding rowsTouching
 touching-agree g n c d rs same =
     many-agree (beside g n c) (beside g n d) rs
@@ -169,7 +170,15 @@ touching-agree g n c d rs same =
     (λ e f. refl) refl)
 
 -- the cell at a cell's place is that cell
-pub home-flat : (g : Grid) (c : Cell) → InGrid g c → homeOf g (flatten g c) ≡ c
+home-flat : (g : Grid) (c : Cell) → InGrid g c → homeOf g (flatten g c) ≡ c
 home-flat g c k =
     let l = flat.flatten-less g c k in
     flat.flatten-inj g (homeOf g (flatten g c)) c (flat.home-in g (flatten g c) l) k (flat.home-flat g (flatten g c) l)
+
+-- each atom's cell is the one at its place: the count over the places at the front of a room is that over the cells
+module _ {g : Grid} {n : ℕ} {cellOf : ℕ → Cell} {room done : List ℕ} (h : Filled g n cellOf room done) where
+  pub done-rows : {own : Grid} → own ≡ g → (rs : List (ℕ × ℕ))
+      → rowsTouching own (length (take n (done ++ drop n room))) (cellIn own (take n (done ++ drop n room))) rs ≡ rowsTouching g n cellOf rs
+  done-rows e rs =
+      rw (done-front h, done-long h, e)
+      (touching-agree g n (cellIn g done) cellOf rs (λ k l. ap (homeOf g) (done-at h k l) ∙ home-flat g (cellOf k) (h .placed k l)))

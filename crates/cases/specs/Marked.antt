@@ -6,8 +6,7 @@ use lib.Ieee.{nan, fin}
 use Rattle.float.specs.Arith.{bits}
 use Rattle.float.specs.Def.{roundOf, rootOf}
 use Prim.Native.Nat.{ℕ}
-use mathlib.Core.Bool.{Bool}
-use mathlib.Core.List.{List, [], _∷_}
+use mathlib.Core.List.{[], _∷_}
 use lib.ListN.{replicate}
 use Rattle.answer.specs.Seen.{answered, refused}
 use Rattle.frame.specs.declared.Side.{Side}

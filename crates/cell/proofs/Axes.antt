@@ -1,12 +1,11 @@
 -- The long way on three axes is the source's formula on each: what `box_image` and `round_fraction` found. Assumes nothing.
 use mathlib.Core.Path.{_≡_, sym, _∙_}
-use mathlib.Core.Bool.{Bool, true, _&&_, cond}
+use mathlib.Core.Bool.{Bool, true, _&&_}
 use lib.Dec.{T}
 use lib.Ieee.{Float, binary64, fits, ofBits}
+use Rattle.float.proofs.Branches.{both-true}
 use Rattle.float.specs.Def.{absOf}
-use Rattle.float.specs.Arith.{bits}
-use Rattle.cell_axis.specs.Image.{axisOf, fractionOf, inReach, FarSays}
-use Rattle.cell_axis.proofs.Law.{both}
+use Rattle.cell_axis.specs.Image.{axisOf, inReach, FarSays}
 use Rattle.cell_axis.proofs.Unit.{nearest-one}
 use Rattle.cell.specs.Cell.{one, roundAxisOf}
 use Rattle.cell.specs.General.{boxBy, fractionBy}
@@ -36,11 +35,11 @@ pub record Six (p q r s t u : Bool) : Type 0 where
 
 six : (px py pz tx ty tz : Bool) → (px && py && pz && (tx && ty && tz)) ≡ true → Six px py pz tx ty tz
 six px py pz tx ty tz h =
-    let a = both (px && py && pz) (tx && ty && tz) h in
-    let b = both (px && py) pz (a .0) in
-    let c = both px py (b .0) in
-    let d = both (tx && ty) tz (a .1) in
-    let e = both tx ty (d .0) in
+    let a = both-true (px && py && pz) (tx && ty && tz) h in
+    let b = both-true (px && py) pz (a .0) in
+    let c = both-true px py (b .0) in
+    let d = both-true (tx && ty) tz (a .1) in
+    let e = both-true tx ty (d .0) in
     record { px = c .0; py = c .1; pz = b .1; tx = e .0; ty = e .1; tz = d .1 }
 
 pub box-far : (px py pz : Bool) (lx ly lz dx dy dz ax ay az : Float) (tx ty tz : Bool) (u v w : Float) → Axis ax lx dx tx u → Axis ay ly dy ty v → Axis az lz dz tz w

@@ -6,9 +6,9 @@ use lib.Dec.{ltb}
 use lib.Ieee.{Float, nan, inf, fin, Format, binary64, prec, emax, low, add, sum, lt, eq, le, isNan, round, units, odd, up, down, ofBits}
 use lib.Ieee.Fits.{round-is}
 use lib.Ieee.Order.{kept, drop}
+use Rattle.float.proofs.Branches.{both-true}
 use Rattle.float.specs.Arith.{_⊕_, bits}
 use Rattle.float.specs.Def.{absOf}
-use Rattle.cell_axis.proofs.Law.{both}
 use Rattle.ranges.specs.Ranged.{within}
 use Rattle.ranges.proofs.Finite.{Finite, within-finite}
 use Rattle.cell.specs.declared.Vec3.{Vec3}
@@ -87,15 +87,15 @@ pub record Entries (v : Vec3) : Type 0 where
 entries : (v : Vec3) → vecWithin entryLimit v ≡ true → Entries v
 unfolding vecWithin
 entries v h =
-    let p2 = both (within entryLimit (v .x) && within entryLimit (v .y)) (within entryLimit (v .z)) h in
-    let p1 = both (within entryLimit (v .x)) (within entryLimit (v .y)) (p2 .0) in
+    let p2 = both-true (within entryLimit (v .x) && within entryLimit (v .y)) (within entryLimit (v .z)) h in
+    let p1 = both-true (within entryLimit (v .x)) (within entryLimit (v .y)) (p2 .0) in
     record { x = up-within (v .x) (p1 .0); y = up-within (v .y) (p1 .1); z = up-within (v .z) (p2 .1) }
 
 off-diagonal-number : (l : Lattice) → latticeInRange l ≡ true → isNan (offDiagonalOf l) ≡ false
 unfolding latticeInRange offDiagonalOf
 off-diagonal-number l h =
-    let p2 = both (vecWithin entryLimit (l .a) && vecWithin entryLimit (l .b)) (vecWithin entryLimit (l .c)) h in
-    let p1 = both (vecWithin entryLimit (l .a)) (vecWithin entryLimit (l .b)) (p2 .0) in
+    let p2 = both-true (vecWithin entryLimit (l .a) && vecWithin entryLimit (l .b)) (vecWithin entryLimit (l .c)) h in
+    let p1 = both-true (vecWithin entryLimit (l .a)) (vecWithin entryLimit (l .b)) (p2 .0) in
     let a = entries (l .a) (p1 .0) in
     let b = entries (l .b) (p1 .1) in
     let c = entries (l .c) (p2 .1) in

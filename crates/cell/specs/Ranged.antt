@@ -12,6 +12,9 @@ use Rattle.cell.specs.declared.Cell.the-variants.{Absent, Present}
 abbrev pub entryLimit : Float
 entryLimit = bits 0x4130_0000_0000_0000
 
+abbrev pub coordinate : Float → Bool
+coordinate x = within entryLimit x
+
 -- "All other floats: magnitude to 2^500"
 abbrev pub otherLimit : Float
 otherLimit = bits 0x5f30_0000_0000_0000

@@ -1,6 +1,5 @@
 // Lattice cells and minimum-image displacements (cell.rs): the types and the public calls. Each call tests its own arguments
 // and refuses 3. The work without tests, for the crates above: `kernel`, `matrices`, `vectors`, and the range tests in `ranged`.
-ghost use mathlib.Core.Path.{_≡_};
 ghost use Rattle.cell.specs.Calls.{OrthorhombicSays, CubicSays, IsOrthorhombicSays, MatrixSays, VolumeSays, InverseSays, ToFractionalSays, ToCartesianSays, WrapSays, PerpWidthsSays, MinImageSays};
 use answer::Done;
 use answer::Number;

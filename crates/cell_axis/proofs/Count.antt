@@ -1,20 +1,20 @@
 -- `steps-law`: for a q from 0 up and below 2 ^ 51, `stepsOf q` is q to the nearest whole number, a half up. Adding 2 ^ 52 and taking it off leaves the nearest whole number t,
 -- a half to the even one, so that only a half that went down is to be put right. Assumes nothing.
 use mathlib.Core.Path.{_≡_, refl, sym, ap, _∙_, subst}
-use Prim.Native.Nat.{ℕ, zero, suc, _+_, _-_, _*_, _/_, _%_, _^_, _≤_, _<_, compare}
-use native.Mathlib.Nat.{le-trans, le-of-eq, lt-of-lt-of-le, lt-of-le-of-lt, mul-one, mul-pos, zero-lt-suc, mul-comm, mul-assoc, mul-left-comm, mul-right-comm, mul-le-mul-right, mul-lt-mul-of-pos-right, div-lt-iff-lt-mul, le-div-iff-mul-le, div-mul-le-self, div-add-mod', add-mul-div-right, add-mul, suc-mul, pow-suc, le-of-suc-le-suc, lt-of-not-le}
+use Prim.Native.Nat.{ℕ, suc, _+_, _-_, _*_, _/_, _%_, _^_, _≤_, _<_, compare}
+use native.Mathlib.Nat.{le-trans, le-of-eq, lt-of-lt-of-le, lt-of-le-of-lt, mul-one, mul-pos, zero-lt-suc, mul-comm, mul-assoc, mul-left-comm, mul-right-comm, mul-le-mul-right, mul-lt-mul-of-pos-right, div-lt-iff-lt-mul, le-div-iff-mul-le, div-add-mod', add-mul-div-right, add-mul, suc-mul, pow-suc, le-of-suc-le-suc, lt-of-not-le}
 use native.Mathlib.Omega.{arith}
 use mathlib.Core.Bool.{Bool, true, false, not, cond}
-use lib.IntN.{ℤ, pos, negsuc}
-use lib.Dec.{T, ltb, ltb→lt, nltb→le, not-T, lit<, lit≤}
+use lib.IntN.{ℤ, pos}
+use lib.Dec.{T, ltb, ltb→lt, nltb→le, lit<, lit≤}
 use lib.Pow.{pow-pos, pow-add, pow-lt, pow-mono}
-use lib.Ieee.{Float, fin, Format, binary32, binary64, prec, emax, low, up, down, add, sub, lt, round, ofBits}
-use lib.Ieee.Fits.{nearest-le, down-pos, add-fits, sub-fits}
+use lib.Ieee.{Float, fin, Format, binary32, binary64, prec, emax, low, up, down, add, lt, round, ofBits}
+use lib.Ieee.Fits.{nearest-le, down-pos, sub-fits}
 use lib.Ieee.Nearest.{closest, closest-same, nearest-ge}
 use lib.Ieee.Exact.{HasValue, round-exact}
 use lib.Ieee.Scale.{overflow}
 use Rattle.float.specs.Def.{roundOf, wholeOf}
-use Rattle.float.proofs.Branches.{yes, no}
+use Rattle.float.proofs.Branches.{yes}
 use Rattle.float.proofs.Fraction.{rescale, add-at, sub-at, lt-at}
 use Rattle.float.proofs.Whole.{big+, one+, half+, near, whole-val, whole-is}
 use Rattle.float.proofs.Nearness.{closest-low, to-grid}

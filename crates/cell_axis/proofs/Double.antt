@@ -1,7 +1,7 @@
 -- The test `a + a < len` on floats says just that twice a is below len as a number: below 2 ^ (emax + 1) doubling is exact, and beyond it the sum is
 -- no smaller than any value. Assumes nothing.
 use mathlib.Core.Path.{_≡_, refl, sym, ap, _∙_, subst}
-use Prim.Native.Nat.{ℕ, zero, suc, _+_, _-_, _*_, _^_, _≤_, _<_}
+use Prim.Native.Nat.{ℕ, zero, suc, _+_, _*_, _^_, _≤_, _<_}
 use native.Mathlib.Nat.{zero-mul, mul-pos, lt-trans, le-trans, le-of-eq, lt-of-not-le, le-of-suc-le-suc, mul-assoc, mul-left-comm, mul-right-comm, mul-lt-mul-of-pos-right, lt-of-mul-lt-mul-right, pow-succ'}
 use native.Mathlib.Omega.{arith}
 use mathlib.Core.Bool.{Bool, true, false, _&&_, _||_, true≢false}

@@ -3,18 +3,18 @@ use mathlib.Core.Path.{_≡_, refl, sym, ap, _∙_, subst}
 use Prim.Native.Nat.{ℕ, zero, suc, _+_, _-_, _*_, _^_, _≤_, _<_}
 use native.Mathlib.Nat.{mul-one, zero-mul, mul-zero, mul-pos, zero-lt-suc, le-of-lt}
 use native.Mathlib.Omega.{arith}
-use mathlib.Core.Bool.{Bool, true, false, not, _&&_, cond, false≢true}
+use mathlib.Core.Bool.{Bool, true, false, not, cond, false≢true}
 use lib.IntN.{ℤ, pos}
 use lib.Dec.{T, eqb, ltb→lt, eqb→eq, not-T}
-use lib.Ieee.Bits.{is-false, is-true}
+use lib.Ieee.Bits.{is-false}
 use lib.Ieee.{Float, nan, inf, fin, binary64, up, down, neg, add, sub, mul, div, lt, le, eq, fits, round, ofBits}
-use lib.Ieee.Fits.{down-pos, up-pos, and-l, and-r}
+use lib.Ieee.Fits.{down-pos, up-pos}
 use Rattle.float.specs.Def.{absOf, roundOf}
 use Rattle.float.specs.Arith.{_⊕_}
-use Rattle.float.proofs.Branches.{zero+, yes}
+use Rattle.float.proofs.Branches.{zero+, yes, sign-fits}
 use Rattle.float.proofs.Unique.{round-own, holds}
 use Rattle.float.proofs.Fraction.{add-at, sub-at, round-neg}
-use Rattle.float.proofs.Whole.{pos-not-below, neg-below, sign-fits}
+use Rattle.float.proofs.Whole.{pos-not-below, neg-below}
 use Rattle.cell_axis.specs.Image.{nearestOf, shiftOf, nearAxisOf}
 use Rattle.cell_axis.proofs.Quotient.{few-digits, to-zero, to-one, signed-quotient}
 use Rattle.cell_axis.proofs.Double.{double-below, double-reaches}
@@ -191,7 +191,3 @@ bounded nan y h = absurd (false≢true (unfold lt in h))
 bounded (inf true) y h = unfold lt in refl
 bounded (inf false) y h = absurd (inf-not-below y y h)
 bounded (fin s m e) y h = unfold lt in refl
-
--- two tests in one
-pub both : (a b : Bool) → (a && b) ≡ true → (a ≡ true) × (b ≡ true)
-both a b h = let t = yes h in (is-true a (and-l a b t), is-true b (and-r a b t))

@@ -4,3 +4,4 @@ pub mod Count
 pub mod Law
 pub mod Long
 pub mod Unit
+pub mod Twice

@@ -1,24 +1,23 @@
 -- `far-law`: with len above 0 and |x| below 2 ^ 51 lengths, x brought toward 0 by len times the counted lengths is x - len * round(x / len). Assumes nothing.
 use mathlib.Core.Path.{_≡_, refl, sym, ap, _∙_, subst}
-use Prim.Native.Nat.{ℕ, zero, suc, _+_, _-_, _*_, _^_, _≤_, _<_}
+use Prim.Native.Nat.{ℕ, zero, suc, _-_, _*_, _^_, _≤_, _<_}
 use native.Mathlib.Nat.{zero-mul, mul-pos, zero-lt-suc}
 use native.Mathlib.Omega.{arith}
-use mathlib.Core.Bool.{Bool, true, false, not, _&&_, cond, false≢true, true≢false}
+use mathlib.Core.Bool.{Bool, true, false, cond, false≢true, true≢false}
 use lib.IntN.{ℤ, pos}
-use lib.Dec.{T, eqb, ltb, ltb→lt}
-use lib.Ieee.{Float, nan, inf, fin, binary64, up, down, neg, add, sub, mul, div, lt, le, eq, fits, round, ofBits}
+use lib.Dec.{T, ltb→lt}
+use lib.Ieee.{Float, nan, inf, fin, binary64, up, down, neg, add, sub, mul, div, lt, le, eq, round, ofBits}
 use lib.Ieee.Fits.{down-pos, up-pos}
 use lib.Ieee.Exact.{HasValue}
 use lib.Ieee.Order.{round-mono}
 use lib.Ieee.Scale.{finite, grid, round-val, round-under}
-use Rattle.float.specs.Def.{absOf, negative, roundOf, wholeOf}
-use Rattle.float.specs.Arith.{_⊕_, _⊗_, _⊘_}
-use Rattle.float.proofs.Branches.{zero+, yes, abs-high}
+use Rattle.float.specs.Def.{absOf, negative, roundOf}
+use Rattle.float.proofs.Branches.{zero+, yes, abs-high, both-true}
 use Rattle.float.proofs.Fraction.{round-neg}
 use Rattle.cell_axis.specs.Image.{nearestOf, towardOf, stepsOf, inReach, farOf}
 use Rattle.cell_axis.proofs.Quotient.{Plain, round-ends, through-neg, to-zero}
 use Rattle.cell_axis.proofs.Count.{steps-law}
-use Rattle.cell_axis.proofs.Law.{not-zero, div-is, zero-times, less-zero, above-zero, not-under-zero, both}
+use Rattle.cell_axis.proofs.Law.{not-zero, div-is, zero-times, less-zero, above-zero, not-under-zero}
 
 -- 2 ^ 51
 abbrev most : Float
@@ -178,9 +177,9 @@ inf-over (fin false n d) k h = false≢true h
 
 pub far-law : (len x : Float) → inReach (absOf x) len ≡ true → farOf (absOf x) len x ≡ nearestOf len x
 unfolding inReach absOf ofBits
-far-law len nan h = absurd (false≢true (unfold div in unfold lt in both (lt zero+ len) (lt (div binary64 nan len) most) h .1))
-far-law len (inf s) h = let t = both (lt zero+ len) (lt (div binary64 (inf false) len) most) h in absurd (inf-over len (t .0) (t .1))
-far-law len (fin s m e) h = let t = both (lt zero+ len) (lt (div binary64 (fin false m e) len) most) h in by-len len s m e (t .0) (t .1)
+far-law len nan h = absurd (false≢true (unfold div in unfold lt in both-true (lt zero+ len) (lt (div binary64 nan len) most) h .1))
+far-law len (inf s) h = let t = both-true (lt zero+ len) (lt (div binary64 (inf false) len) most) h in absurd (inf-over len (t .0) (t .1))
+far-law len (fin s m e) h = let t = both-true (lt zero+ len) (lt (div binary64 (fin false m e) len) most) h in by-len len s m e (t .0) (t .1)
 
 -- the same as the code has it: a is the magnitude, r the long way's answer
 pub far-apart : (len x a r : Float) → a ≡ absOf x → inReach a len ≡ true → r ≡ farOf a len x → r ≡ nearestOf len x

@@ -1,6 +1,6 @@
 -- `nearest-one`: x - round(x) is the formula at len 1, for a division and a product by 1 change nothing. Assumes nothing.
 use mathlib.Core.Path.{_≡_, refl, ap, _∙_}
-use Prim.Native.Nat.{ℕ, _+_, _*_}
+use Prim.Native.Nat.{ℕ, _*_}
 use native.Mathlib.Nat.{mul-one, one-mul, mul-pos, zero-lt-suc}
 use mathlib.Core.Bool.{Bool, true, false}
 use lib.IntN.{ℤ}

@@ -1,6 +1,7 @@
 // One axis of the minimum image in a box, and one of the general way. The contracts are the source's formulas, x - len * round(x / len)
 // and x - round(x), on every float. `near` has no division, for an |x| below the length; `far` has no branch, for an |x| below 2^51 lengths.
 ghost use mathlib.Core.Path.{_≡_};
+ghost use Rattle.float.specs.Def.{absOf};
 ghost use Rattle.cell_axis.specs.Image.{nearestOf, axisOf, fractionOf, towardOf, shiftOf, stepsOf, inReach, NearSays, FarSays};
 
 // The formula as it stands.
@@ -30,18 +31,23 @@ fn toward(x: f64, l: f64) -> f64
     if x <= 0.0 { l } else { -l }
 }
 
-// What is added to an x of magnitude a: 0 where a is below half of len, and len toward 0 from there on.
-fn shift(a: f64, len: f64, x: f64) -> f64
-    ensures { λ r. ⌜ r ≡ shiftOf a len x ⌝ }
+// What is added to x: 0 where |x| is below half of len, and len toward 0 from there on.
+// By |x + x|, which is |x| + |x| (proofs/Twice.antt): a magnitude that is only compared is one instruction, one that is added a branch on the sign.
+fn shift(len: f64, x: f64) -> f64
+    ensures { λ r. ⌜ r ≡ shiftOf (absOf x) len x ⌝ }
 {
-    if a + a < len { 0.0 } else { toward(x, len) }
+    if float::abs(x + x) < len {
+        0.0
+    } else {
+        toward(x, len)
+    }
 }
 
-// The short way: the formula where a is |x|, below len, and len no infinity.
-pub fn near(a: f64, len: f64, x: f64) -> f64
-    ensures { λ r. ⌜ NearSays a len x r ⌝ }
+// The short way: the formula where |x| is below len, and len no infinity.
+pub fn near(len: f64, x: f64) -> f64
+    ensures { λ r. ⌜ NearSays (absOf x) len x r ⌝ }
 {
-    x + shift(a, len, x)
+    x + shift(len, x)
 }
 
 // q to the nearest whole number, a half up, for a q from 0 up and below 2^51: the sum with 2^52 is rounded to a whole number, a half to the even one.

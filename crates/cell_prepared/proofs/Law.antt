@@ -3,11 +3,12 @@ use mathlib.Core.Path.{_≡_, refl, ap, _∙_}
 use mathlib.Core.Bool.{Bool, true, false, not, cond, _&&_}
 use lib.Ieee.{Float, nan, inf, fin, lt, ofBits}
 use borrow.Author.Tests.{not-true}
+use Rattle.float.proofs.Branches.{both-true}
 use Rattle.float.specs.Arith.{bits}
 use Rattle.float.specs.Def.{absOf}
 use Rattle.float.proofs.Whole.{pos-not-below}
 use Rattle.cell_axis.specs.Image.{nearestOf, axisOf, NearSays, nearAxisOf}
-use Rattle.cell_axis.proofs.Law.{both, bounded}
+use Rattle.cell_axis.proofs.Law.{bounded}
 use Rattle.cell.specs.Vec.{zeroVec}
 use Rattle.cell.specs.Cell.{boxImageOf, skewedOf, latticeImageOf, imageOf}
 use Rattle.cell.specs.General.{generalOf, generalBy, imageBy}
@@ -46,12 +47,12 @@ pub record Box (l : Lattice) : Type 0 where
 box-of : (l : Lattice) → isBox l ≡ true → Box l
 box-of l h =
     let ends = lt (l .a .x) huge && lt (l .b .y) huge && lt (l .c .z) huge in
-    let p4 = both (not (skewedOf l) && l .px && l .py && l .pz) ends h in
-    let p3 = both (not (skewedOf l) && l .px && l .py) (l .pz) (p4 .0) in
-    let p2 = both (not (skewedOf l) && l .px) (l .py) (p3 .0) in
-    let p1 = both (not (skewedOf l)) (l .px) (p2 .0) in
-    let q2 = both (lt (l .a .x) huge && lt (l .b .y) huge) (lt (l .c .z) huge) (p4 .1) in
-    let q1 = both (lt (l .a .x) huge) (lt (l .b .y) huge) (q2 .0) in
+    let p4 = both-true (not (skewedOf l) && l .px && l .py && l .pz) ends h in
+    let p3 = both-true (not (skewedOf l) && l .px && l .py) (l .pz) (p4 .0) in
+    let p2 = both-true (not (skewedOf l) && l .px) (l .py) (p3 .0) in
+    let p1 = both-true (not (skewedOf l)) (l .px) (p2 .0) in
+    let q2 = both-true (lt (l .a .x) huge && lt (l .b .y) huge) (lt (l .c .z) huge) (p4 .1) in
+    let q1 = both-true (lt (l .a .x) huge) (lt (l .b .y) huge) (q2 .0) in
     record { straight = not-true (skewedOf l) (p1 .0); px = p1 .1; py = p2 .1; pz = p3 .1; lx = q1 .0; ly = q1 .1; lz = q2 .1 }
 
 axis-on : (p : Bool) (len x : Float) → p ≡ true → lt len huge ≡ true → shortAxis len x ≡ axisOf p len x
@@ -99,8 +100,8 @@ pub short-way : (s d : Vec3) {a b c u v w : Float} → isShort s d ≡ true → 
     → NearSays a (s .x) (d .x) u → NearSays b (s .y) (d .y) v → NearSays c (s .z) (d .z) w
     → record { x = u; y = v; z = w } ≡ shortImage s d
 short-way s d {a} {b} {c} {u} {v} {w} h A B C nx ny nz =
-    let p2 = both (lt (absOf (d .x)) (s .x) && lt (absOf (d .y)) (s .y)) (lt (absOf (d .z)) (s .z)) h in
-    let p1 = both (lt (absOf (d .x)) (s .x)) (lt (absOf (d .y)) (s .y)) (p2 .0) in
+    let p2 = both-true (lt (absOf (d .x)) (s .x) && lt (absOf (d .y)) (s .y)) (lt (absOf (d .z)) (s .z)) h in
+    let p1 = both-true (lt (absOf (d .x)) (s .x)) (lt (absOf (d .y)) (s .y)) (p2 .0) in
     λ i. record {
       x = near-axis a (s .x) (d .x) u A (rw A (p1 .0)) nx i;
       y = near-axis b (s .y) (d .y) v B (rw B (p1 .1)) ny i;
@@ -110,4 +111,4 @@ short-way s d {a} {b} {c} {u} {v} {w} h A B C nx ny nz =
 -- ---- where there is no cell
 pub free-way : (p : Prepared) (d : Vec3) → isShort (p .short) d ≡ false → p .general .skewed && p .general .singular ≡ true → d ≡ imageIn p d .diff
 unfolding imageIn imageBy generalBy
-free-way p d far free = let f = both (p .general .skewed) (p .general .singular) free in rw (far, f .0, f .1)
+free-way p d far free = let f = both-true (p .general .skewed) (p .general .singular) free in rw (far, f .0, f .1)

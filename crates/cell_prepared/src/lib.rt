@@ -2,8 +2,6 @@
 // proofs/Law.antt: image_in(prepare(cell), d) is cell::kernel::min_image(d, cell).
 ghost use mathlib.Core.Path.{_≡_};
 ghost use mathlib.Core.Bool.{true};
-ghost use Rattle.float.specs.Def.{absOf};
-ghost use Rattle.cell_axis.specs.Image.{towardOf, shiftOf, NearSays};
 ghost use Rattle.cell_prepared.specs.Facts.{shortOf, prepareOf, isShort, shortImage, imageIn};
 use cell::Cell;
 use cell::General;
@@ -65,38 +63,14 @@ fn is_short(s: Vec3, d: Vec3) -> bool
     (float::abs(d.x) < s.x) & (float::abs(d.y) < s.y) & (float::abs(d.z) < s.z)
 }
 
-fn toward(x: f64, len: f64) -> f64
-    ensures { λ r. ⌜ r ≡ towardOf x len ⌝ }
-{
-    if x <= 0.0 { len } else { -len }
-}
-
-// By |x + x|, which is |x| + |x| (proofs/Twice.antt): a magnitude that is only compared is one instruction, one that is added a branch on the sign.
-fn shift(len: f64, x: f64) -> f64
-    ensures { λ r. ⌜ r ≡ shiftOf (absOf x) len x ⌝ }
-{
-    if float::abs(x + x) < len {
-        0.0
-    } else {
-        toward(x, len)
-    }
-}
-
-// `cell_axis::near` of an x and its own magnitude.
-fn near(len: f64, x: f64) -> f64
-    ensures { λ r. ⌜ NearSays (absOf x) len x r ⌝ }
-{
-    x + shift(len, x)
-}
-
 fn short_image(s: Vec3, d: Vec3) -> Vec3
     requires { ⌜ isShort s d ≡ true ⌝ }
     ensures { λ r. ⌜ r ≡ shortImage s d ⌝ }
 {
     Vec3 {
-        x: near(s.x, d.x),
-        y: near(s.y, d.y),
-        z: near(s.z, d.z),
+        x: cell_axis::near(s.x, d.x),
+        y: cell_axis::near(s.y, d.y),
+        z: cell_axis::near(s.z, d.z),
     }
 }
 

@@ -31,7 +31,7 @@ use Rattle.neighbor.specs.declared.State.{State}
 use Rattle.neighbor.specs.declared.Updated.{Updated}
 use Rattle.neighbor.specs.Update.{Given, updateOf, listedOf, lengthsBad, firstOf, tableAsked, andThen}
 use Rattle.neighbor.specs.Update as Update
-use Rattle.neighbor.proofs.Asking.{pass}
+use Rattle.answer.proofs.Passed.{pass}
 use Rattle.evaluate.proofs.Folding.{merged-room}
 use Rattle.evaluate.specs.declared.Evaluated.{Evaluated}
 use Rattle.evaluate.specs.Terms.{Terms, ljGives, contributions, mergedAll}

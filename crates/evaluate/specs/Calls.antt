@@ -1,7 +1,7 @@
 -- What an evaluation answers and leaves in everything lent: one outcome, made from the entry values alone. Definitions only.
 use Prim.Native.Nat.{ℕ}
 use mathlib.Core.Path.{_≡_}
-use mathlib.Core.Bool.{true}
+use mathlib.Core.Bool.{Bool, true}
 use mathlib.Core.List.{List}
 use lib.Ieee.{Float}
 use lib.ListN.{length}
@@ -15,10 +15,12 @@ use Rattle.potentials_pair.specs.declared.Lj.{Lj}
 use Rattle.potentials_pair.specs.declared.Mixed.{Mixed}
 use Rattle.potentials_pair.specs.Pull.{Total}
 use Rattle.potentials_pair.specs.Species.{lookOf}
-use Rattle.neighbor.specs.Update.{Given, updateOf, listedOf, stays}
+use Rattle.neighbor.specs.declared.State.{State}
+use Rattle.neighbor.specs.Update.{Given, given, updateOf, listedOf, stays}
 use Rattle.neighbor.specs.Update as Update
 use Rattle.evaluate.specs.declared.Evaluated.{Evaluated}
-use Rattle.evaluate.specs.Terms.{Terms, contributions, mergedAll}
+use Rattle.evaluate.specs.declared.Setting.{Setting}
+use Rattle.evaluate.specs.Terms.{Terms, terms, contributions, mergedAll}
 
 -- everything that an evaluation is given: the terms and their tables, what a build is given, and the forces, lent to be written
 pub record Job : Type 0 where
@@ -28,6 +30,15 @@ pub record Job : Type 0 where
 
 abbrev pub job : Terms → Given → List Float → Job
 job t g forces = record { terms = t; given = g; forces = forces }
+
+-- that of a call, from what it is handed
+abbrev pub jobOf : Setting → State → (ids : List ℕ) (params : List Float) (species : List ℕ) (charges : List Float) (bonds : List ℕ) (lengths ks positions : List Float) (exclusions pairs : List ℕ) (references : List Float) (starts items : List ℕ) (forces : List Float) → Job
+jobOf setting s ids params species charges bonds lengths ks positions exclusions pairs references starts items forces =
+    job (terms setting ids params species charges bonds lengths ks) (given s (setting .cell) positions exclusions pairs references starts items) forces
+
+-- its tests, with what a step asks besides
+abbrev pub askedOf : (fits inRange : Bool) → Job → Done
+askedOf fits inRange j = jobAsked fits inRange (j .terms) (j .given) (length (j .forces))
 
 -- the list's outcome (answer, rebuilt, state, pairs, references, starts, items), and the sum with the forces
 pub record Outcome : Type 0 where
@@ -60,7 +71,7 @@ afterAsked j (Done·cases.Refused r) = without j (stays (j .given) r)
 afterAsked j Done·cases.Answered = settledOf j
 
 unfoldable pub evaluatedOf : Job → Outcome
-evaluatedOf j = afterAsked j (jobAsked true true (j .terms) (j .given) (length (j .forces)))
+evaluatedOf j = afterAsked j (askedOf true true j)
 
 abbrev pub shown : Evaluated → (pairs : List ℕ) → (references : List Float) → (starts items : List ℕ) → (forces : List Float) → Outcome
 shown r pairs references starts items forces =

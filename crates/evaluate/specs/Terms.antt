@@ -15,6 +15,7 @@ use Rattle.potentials.specs.declared.CoulombTerm.the-variants as CoulombTerm·c
 use Rattle.potentials.specs.declared.BondTerm as BondTerm
 use Rattle.potentials.specs.declared.BondTerm.the-variants as BondTerm·cases
 use Rattle.potentials.specs.Terms.{zeroTotal, ljOver, coulombOver, bondsOver}
+use Rattle.evaluate.specs.declared.Setting.{Setting}
 
 -- the terms, "either absent or present with its numbers", and the tables that they read; `lengths` is the Rust's per_bond, `ks` its per_bond_k
 pub record Terms : Type 0 where
@@ -30,13 +31,14 @@ pub record Terms : Type 0 where
   pub lengths : List Float
   pub ks : List Float
 
-abbrev pub terms : LjTerm.LjTerm → CoulombTerm.CoulombTerm → BondTerm.BondTerm → Units → (ids : List ℕ) → (params : List Float) → (species : List ℕ) → (charges : List Float) → (bonds : List ℕ) → (lengths ks : List Float) → Terms
-terms lj coulomb bond units ids params species charges bonds lengths ks =
+-- those of a setting, with their tables
+abbrev pub terms : Setting → (ids : List ℕ) → (params : List Float) → (species : List ℕ) → (charges : List Float) → (bonds : List ℕ) → (lengths ks : List Float) → Terms
+terms setting ids params species charges bonds lengths ks =
     record {
-      lj = lj;
-      coulomb = coulomb;
-      bond = bond;
-      units = units;
+      lj = setting .lj;
+      coulomb = setting .coulomb;
+      bond = setting .bond;
+      units = setting .units;
       ids = ids;
       params = params;
       species = species;

@@ -1,20 +1,17 @@
 // What is asked before an evaluation, in 01's order. Total, and also for the crates above. Every test is made before the first refusal is picked: where
 // all is well, all are made in any case.
+use crate::Setting;
 use answer::Done;
 use answer::Refusal;
-use cell::Cell;
 use neighbor::State;
 use potentials::BondTerm;
 use potentials::CoulombTerm;
 use potentials::LjTerm;
 use potentials::ranged;
-use virial::Units;
 ghost use mathlib.Core.Path.{_≡_};
-ghost use mathlib.Core.Bool.{_&&_};
-ghost use lib.ListN.{length};
-ghost use Rattle.lists.specs.Atoms.{atomsOf};
-ghost use Rattle.neighbor.specs.Update.{firstOf, keptAsked, andThen};
+ghost use Rattle.neighbor.specs.Update.{andThen};
 ghost use Rattle.evaluate.specs.Asked.{termsFit, ljOk, coulombOk, bondOk, numbersOk, bondsAsked, idsAsked, namesAsked, inTurn};
+ghost use Rattle.evaluate.specs.Calls.{jobOf, askedOf};
 
 fn terms_fit(
     ids: usize,
@@ -63,17 +60,18 @@ fn bond_ok(bond: BondTerm) -> bool
 }
 
 fn numbers_ok(
-    lj: LjTerm,
-    coulomb: CoulombTerm,
-    bond: BondTerm,
-    units: Units,
+    setting: Setting,
     params: &[f64],
     charges: &[f64],
     lengths: &[f64],
     ks: &[f64],
 ) -> bool
-    ensures { λ r. ⌜ r ≡ numbersOk lj coulomb bond units (now (params .entry)) (now (charges .entry)) (now (lengths .entry)) (now (ks .entry)) ⌝ }
+    ensures { λ r. ⌜ r ≡ numbersOk (setting .lj) (setting .coulomb) (setting .bond) (setting .units) (now (params .entry)) (now (charges .entry)) (now (lengths .entry)) (now (ks .entry)) ⌝ }
 {
+    let lj = setting.lj;
+    let coulomb = setting.coulomb;
+    let bond = setting.bond;
+    let units = setting.units;
     lj_ok(lj)
         & coulomb_ok(coulomb)
         & bond_ok(bond)
@@ -137,53 +135,51 @@ fn in_turn(fits: bool, first: Done, ok: bool, kept: Done, names: Done) -> Done
     and_then(first, and_then(kept, names))
 }
 
-// Refusals 1, 2, 6, 3, 4, 5. `fits` and `inside` are what a step asks besides at 1 and at 3. `species`, `items` and `forces` are lengths.
+// Refusals 1, 2, 6, 3, 4, 5. `fits` and `inside` are what a step asks besides at 1 and at 3.
 pub fn asked(
     fits: bool,
     inside: bool,
-    lj: LjTerm,
-    coulomb: CoulombTerm,
-    bond: BondTerm,
-    units: Units,
+    setting: Setting,
     s: State,
-    cell: Cell,
     ids: &[u32],
     params: &[f64],
-    species: usize,
+    species: &[u32],
     charges: &[f64],
     bonds: &[u32],
     lengths: &[f64],
     ks: &[f64],
-    xs: &[f64],
-    table: &[u32],
+    positions: &[f64],
+    exclusions: &[u32],
     pairs: &[u32],
-    refs: &[f64],
-    items: usize,
-    forces: usize,
+    references: &[f64],
+    starts: &[u32],
+    items: &[u32],
+    forces: &[f64],
 ) -> Done
-    ensures { λ r. ⌜ r ≡ inTurn (fits && termsFit (length (now (ids .entry))) (length (now (params .entry))) species (length (now (charges .entry))) (length (now (bonds .entry))) (length (now (xs .entry))) forces) (firstOf s cell (now (xs .entry)) (length (now (table .entry))) (length (now (pairs .entry))) (length (now (refs .entry))) items) (inside && numbersOk lj coulomb bond units (now (params .entry)) (now (charges .entry)) (now (lengths .entry)) (now (ks .entry))) (keptAsked s (atomsOf (now (xs .entry))) (now (pairs .entry)) (now (refs .entry))) (namesAsked (atomsOf (now (xs .entry))) (now (bonds .entry)) (now (table .entry)) (now (ids .entry))) ⌝ }
+    ensures { λ r. ⌜ r ≡ askedOf fits inside (jobOf setting s (now (ids .entry)) (now (params .entry)) (now (species .entry)) (now (charges .entry)) (now (bonds .entry)) (now (lengths .entry)) (now (ks .entry)) (now (positions .entry)) (now (exclusions .entry)) (now (pairs .entry)) (now (references .entry)) (now (starts .entry)) (now (items .entry)) (now (forces .entry))) ⌝ }
 {
-    let n = xs.len() / 3;
+    let cell = setting.cell;
+    let n = positions.len() / 3;
     let fit = terms_fit(
         ids.len(),
         params.len(),
-        species,
+        species.len(),
         charges.len(),
         bonds.len(),
-        xs.len(),
-        forces,
+        positions.len(),
+        forces.len(),
     );
     let first = neighbor::asked::asked_first(
         s,
         cell,
-        xs,
-        table.len(),
+        positions,
+        exclusions.len(),
         pairs.len(),
-        refs.len(),
-        items,
+        references.len(),
+        items.len(),
     );
-    let ok = numbers_ok(lj, coulomb, bond, units, params, charges, lengths, ks);
-    let kept = neighbor::asked::asked_kept(s, n, pairs, refs);
-    let names = asked_names(n, bonds, table, ids);
+    let ok = numbers_ok(setting, params, charges, lengths, ks);
+    let kept = neighbor::asked::asked_kept(s, n, pairs, references);
+    let names = asked_names(n, bonds, exclusions, ids);
     in_turn(fits & fit, first, inside & ok, kept, names)
 }

@@ -1,25 +1,18 @@
 // The evaluation without tests, for the crates above: total. No public call.
 use crate::Evaluated;
+use crate::Setting;
 use crate::merging;
 use answer::Done;
-use cell::Cell;
 use neighbor::State;
 use neighbor::Updated;
-use potentials::BondTerm;
-use potentials::CoulombTerm;
-use potentials::LjTerm;
 use virial::Sum;
-use virial::Units;
 ghost use mathlib.Core.Path.{_≡_};
 ghost use Prim.Native.Nat.{min};
 ghost use lib.ListN.{length};
-ghost use Rattle.lists.specs.Lists.{rows};
-ghost use Rattle.potentials_pair.specs.Species.{lookBy};
 ghost use Rattle.potentials_pair.specs.Pull.{held};
-ghost use Rattle.neighbor.specs.Update.{given};
-ghost use Rattle.evaluate.specs.Terms.{terms, contributions, mergedAll};
-ghost use Rattle.evaluate.specs.Calls.{job, shown};
-ghost use Rattle.evaluate.specs.Steps.{scratchLength, settledIn, evaluatedFrom, totalAfter};
+ghost use Rattle.evaluate.specs.Terms.{terms};
+ghost use Rattle.evaluate.specs.Calls.{jobOf};
+ghost use Rattle.evaluate.specs.Steps.{scratchLength, termsOver, evaluatedFrom, AfterListSays, SettleSays};
 
 // Three floats for each of the most atoms.
 fn scratch() -> [f64; 49152]
@@ -30,11 +23,7 @@ fn scratch() -> [f64; 49152]
 
 // The terms over listed pairs, in a scratch as long as the forces.
 fn combine(
-    lj: LjTerm,
-    coulomb: CoulombTerm,
-    bond: BondTerm,
-    units: Units,
-    cell: Cell,
+    setting: Setting,
     ids: &[u32],
     params: &[f64],
     species: &[u32],
@@ -46,17 +35,13 @@ fn combine(
     pairs: &[u32],
     forces: &mut [f64],
 ) -> Sum
-    ensures { λ r. ⌜ held r (now (forces .exit)) ≡ mergedAll (length (now (forces .entry))) (contributions lookBy (terms lj coulomb bond units (now (ids .entry)) (now (params .entry)) (now (species .entry)) (now (charges .entry)) (now (bonds .entry)) (now (lengths .entry)) (now (ks .entry))) cell (now (xs .entry)) (min (length (now (forces .entry))) scratchLength) (rows (now (pairs .entry)))) ⌝ }
+    ensures { λ r. ⌜ held r (now (forces .exit)) ≡ termsOver (terms setting (now (ids .entry)) (now (params .entry)) (now (species .entry)) (now (charges .entry)) (now (bonds .entry)) (now (lengths .entry)) (now (ks .entry))) (setting .cell) (now (xs .entry)) (now (pairs .entry)) (min (length (now (forces .entry))) scratchLength) (length (now (forces .entry))) ⌝ }
 {
     let n = virial::ranged::shorter(forces.len(), 49152);
     let mut room = scratch();
     merging::all(
         &mut room[..n],
-        lj,
-        coulomb,
-        bond,
-        units,
-        cell,
+        setting,
         ids,
         params,
         species,
@@ -88,11 +73,7 @@ fn with_sum(u: Updated, sum: Sum) -> Evaluated
 fn after_list(
     forces: &mut [f64],
     u: Updated,
-    lj: LjTerm,
-    coulomb: CoulombTerm,
-    bond: BondTerm,
-    units: Units,
-    cell: Cell,
+    setting: Setting,
     ids: &[u32],
     params: &[f64],
     species: &[u32],
@@ -103,7 +84,7 @@ fn after_list(
     xs: &[f64],
     pairs: &[u32],
 ) -> Evaluated
-    ensures { λ r. ⌜ (held (r .sum) (now (forces .exit)) ≡ totalAfter (terms lj coulomb bond units (now (ids .entry)) (now (params .entry)) (now (species .entry)) (now (charges .entry)) (now (bonds .entry)) (now (lengths .entry)) (now (ks .entry))) cell (now (xs .entry)) (now (pairs .entry)) (now (forces .entry)) (u .done) (u .state)) × (r ≡ evaluatedFrom u (r .sum)) ⌝ }
+    ensures { λ r. ⌜ AfterListSays u (terms setting (now (ids .entry)) (now (params .entry)) (now (species .entry)) (now (charges .entry)) (now (bonds .entry)) (now (lengths .entry)) (now (ks .entry))) (setting .cell) (now (xs .entry)) (now (pairs .entry)) (now (forces .entry)) r (now (forces .exit)) ⌝ }
 {
     let done = u.done;
     if let Done::Refused(_) = done {
@@ -112,11 +93,7 @@ fn after_list(
     let state = u.state;
     let part = neighbor::listed(state, pairs);
     let sum = combine(
-        lj,
-        coulomb,
-        bond,
-        units,
-        cell,
+        setting,
         ids,
         params,
         species,
@@ -133,12 +110,8 @@ fn after_list(
 
 // The list brought up to date, then the terms.
 pub fn settle(
-    lj: LjTerm,
-    coulomb: CoulombTerm,
-    bond: BondTerm,
-    units: Units,
+    setting: Setting,
     s: State,
-    cell: Cell,
     ids: &[u32],
     params: &[f64],
     species: &[u32],
@@ -154,8 +127,9 @@ pub fn settle(
     items: &mut [u32],
     forces: &mut [f64],
 ) -> Evaluated
-    ensures { λ r. ⌜ shown r (now (pairs .exit)) (now (references .exit)) (now (starts .exit)) (now (items .exit)) (now (forces .exit)) ≡ settledIn (job (terms lj coulomb bond units (now (ids .entry)) (now (params .entry)) (now (species .entry)) (now (charges .entry)) (now (bonds .entry)) (now (lengths .entry)) (now (ks .entry))) (given s cell (now (positions .entry)) (now (exclusions .entry)) (now (pairs .entry)) (now (references .entry)) (now (starts .entry)) (now (items .entry))) (now (forces .entry))) ⌝ }
+    ensures { λ r. ⌜ SettleSays (jobOf setting s (now (ids .entry)) (now (params .entry)) (now (species .entry)) (now (charges .entry)) (now (bonds .entry)) (now (lengths .entry)) (now (ks .entry)) (now (positions .entry)) (now (exclusions .entry)) (now (pairs .entry)) (now (references .entry)) (now (starts .entry)) (now (items .entry)) (now (forces .entry))) r (now (pairs .exit)) (now (references .exit)) (now (starts .exit)) (now (items .exit)) (now (forces .exit)) ⌝ }
 {
+    let cell = setting.cell;
     let u = neighbor::kernel::update(
         true,
         s,
@@ -170,11 +144,7 @@ pub fn settle(
     after_list(
         forces,
         u,
-        lj,
-        coulomb,
-        bond,
-        units,
-        cell,
+        setting,
         ids,
         params,
         species,

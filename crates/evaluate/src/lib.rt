@@ -18,9 +18,16 @@ ghost use mathlib.Core.Path.{_≡_};
 ghost use mathlib.Core.Bool.{false};
 ghost use Rattle.answer.specs.declared.Done.the-variants.{Refused};
 ghost use Rattle.virial.specs.Virial.{zeroSum};
-ghost use Rattle.neighbor.specs.Update.{given};
-ghost use Rattle.evaluate.specs.Calls.{job, EvaluateSays};
-ghost use Rattle.evaluate.specs.Terms.{terms};
+ghost use Rattle.evaluate.specs.Calls.{jobOf, EvaluateSays};
+
+// What an evaluation goes by besides its tables: the terms, each absent or present with its numbers, the units, and the cell.
+pub struct Setting {
+    pub lj: LjTerm,
+    pub coulomb: CoulombTerm,
+    pub bond: BondTerm,
+    pub units: Units,
+    pub cell: Cell,
+}
 
 // Energy, forces and virial, or why not; whether the list was built anew; its state, which comes back in every case; and the sum, zero where refused. The
 // forces stand in what the caller lends.
@@ -46,12 +53,8 @@ fn refused(s: State, why: Refusal) -> Evaluated
 // The terms over the list brought up to date; refusals 1, 2, 6, 3, 4, 5, 7, 8. `ids` are the species that `params` has epsilon and sigma of; `lengths` is the
 // Rust's per_bond, `ks` its per_bond_k.
 pub fn evaluate(
-    lj: LjTerm,
-    coulomb: CoulombTerm,
-    bond: BondTerm,
-    units: Units,
+    setting: Setting,
     s: State,
-    cell: Cell,
     ids: &[u32],
     params: &[f64],
     species: &[u32],
@@ -67,20 +70,16 @@ pub fn evaluate(
     items: &mut [u32],
     forces: &mut [f64],
 ) -> Evaluated
-    ensures { λ r. ⌜ EvaluateSays (job (terms lj coulomb bond units (now (ids .entry)) (now (params .entry)) (now (species .entry)) (now (charges .entry)) (now (bonds .entry)) (now (lengths .entry)) (now (ks .entry))) (given s cell (now (positions .entry)) (now (exclusions .entry)) (now (pairs .entry)) (now (references .entry)) (now (starts .entry)) (now (items .entry))) (now (forces .entry))) r (now (pairs .exit)) (now (references .exit)) (now (starts .exit)) (now (items .exit)) (now (forces .exit)) ⌝ }
+    ensures { λ r. ⌜ EvaluateSays (jobOf setting s (now (ids .entry)) (now (params .entry)) (now (species .entry)) (now (charges .entry)) (now (bonds .entry)) (now (lengths .entry)) (now (ks .entry)) (now (positions .entry)) (now (exclusions .entry)) (now (pairs .entry)) (now (references .entry)) (now (starts .entry)) (now (items .entry)) (now (forces .entry))) r (now (pairs .exit)) (now (references .exit)) (now (starts .exit)) (now (items .exit)) (now (forces .exit)) ⌝ }
 {
     let a = asked::asked(
         true,
         true,
-        lj,
-        coulomb,
-        bond,
-        units,
+        setting,
         s,
-        cell,
         ids,
         params,
-        species.len(),
+        species,
         charges,
         bonds,
         lengths,
@@ -89,19 +88,16 @@ pub fn evaluate(
         exclusions,
         pairs,
         references,
-        items.len(),
-        forces.len(),
+        starts,
+        items,
+        forces,
     );
     if let Done::Refused(why) = a {
         return refused(s, why);
     }
     kernel::settle(
-        lj,
-        coulomb,
-        bond,
-        units,
+        setting,
         s,
-        cell,
         ids,
         params,
         species,

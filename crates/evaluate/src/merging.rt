@@ -1,4 +1,5 @@
 // One term after the other: each from zero in the scratch, then merged. An absent term is not merged, so that it adds not even +0.
+use crate::Setting;
 use cell::Cell;
 use potentials::BondTerm;
 use potentials::CoulombTerm;
@@ -10,7 +11,8 @@ ghost use lib.ListN.{length};
 ghost use Rattle.lists.specs.Lists.{rows};
 ghost use Rattle.potentials_pair.specs.Species.{lookBy};
 ghost use Rattle.potentials_pair.specs.Pull.{held};
-ghost use Rattle.evaluate.specs.Terms.{terms, ljGives, coulombGives, bondGives, contributions, merged, mergedInto, mergedAll};
+ghost use Rattle.evaluate.specs.Terms.{terms, ljGives, coulombGives, bondGives, merged, mergedInto};
+ghost use Rattle.evaluate.specs.Steps.{termsOver};
 
 // A term's own sum and forces, added.
 fn merge(sum: Sum, forces: &mut [f64], own: Sum, added: &[f64]) -> Sum
@@ -84,11 +86,7 @@ fn with_bonds(
 // The present terms, merged in order into zero.
 pub(crate) fn all(
     scratch: &mut [f64],
-    lj: LjTerm,
-    coulomb: CoulombTerm,
-    bond: BondTerm,
-    units: Units,
-    cell: Cell,
+    setting: Setting,
     ids: &[u32],
     params: &[f64],
     species: &[u32],
@@ -100,8 +98,13 @@ pub(crate) fn all(
     pairs: &[u32],
     forces: &mut [f64],
 ) -> Sum
-    ensures { λ r. ⌜ held r (now (forces .exit)) ≡ mergedAll (length (now (forces .entry))) (contributions lookBy (terms lj coulomb bond units (now (ids .entry)) (now (params .entry)) (now (species .entry)) (now (charges .entry)) (now (bonds .entry)) (now (lengths .entry)) (now (ks .entry))) cell (now (xs .entry)) (length (now (scratch .entry))) (rows (now (pairs .entry)))) ⌝ }
+    ensures { λ r. ⌜ held r (now (forces .exit)) ≡ termsOver (terms setting (now (ids .entry)) (now (params .entry)) (now (species .entry)) (now (charges .entry)) (now (bonds .entry)) (now (lengths .entry)) (now (ks .entry))) (setting .cell) (now (xs .entry)) (now (pairs .entry)) (length (now (scratch .entry))) (length (now (forces .entry))) ⌝ }
 {
+    let lj = setting.lj;
+    let coulomb = setting.coulomb;
+    let bond = setting.bond;
+    let units = setting.units;
+    let cell = setting.cell;
     virial::kernel::clear(forces);
     let zero = virial::kernel::zero();
     let a = with_lj(

@@ -1,4 +1,4 @@
--- No second answer fits the contract of a call that tells a part; of the other exports flat/proofs/Only.antt says it. Assumes nothing.
+-- No second answer fits the contract of a call that tells a part; of the other exports field_structs/proofs/Only.antt says it. Assumes nothing.
 use Prim.Native.Nat.{ℕ}
 use mathlib.Core.Path.{_≡_, refl, sym, _∙_}
 use mathlib.Core.List.{List}

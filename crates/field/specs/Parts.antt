@@ -5,9 +5,8 @@ use mathlib.Core.Bool.{cond}
 use mathlib.Core.List.{List}
 use lib.ListN.{length, getD, take, drop}
 use Rattle.answer.specs.declared.Done.{Done}
-use Rattle.answer.specs.declared.Refusal.the-variants.{Range}
 use Rattle.bins.specs.Sort.{heldOf}
-use Rattle.field_structs.specs.Flat.{flatDone, flatRefusal}
+use Rattle.field_structs.specs.Flat.{flatDone}
 use Rattle.field_structs.specs.Shown.{Shown}
 use Rattle.field_structs.specs.declared.FlatPart.{FlatPart}
 
@@ -17,10 +16,6 @@ pub record PartSays (asked : Done → Type 0) (first : ℕ) (part table : List �
   pub begins : r .start ≡ first
   pub counts : r .length ≡ length part
   pub told : take (r .length) (drop (r .start) table) ≡ part
-
--- a flag was none: 3
-unfoldable pub noPart : FlatPart
-noPart = record { done = flatRefusal Range; start = 0; length = 0 }
 
 -- where the atoms of a grid cell begin
 unfoldable pub startOf : ℕ → List ℕ → List ℕ → ℕ

@@ -1,10 +1,5 @@
 // Lattices and the minimum image (cell.rs). Refusal 3.
-use answer::Number;
-use answer::Refusal;
-use answer::YesNo;
-use cell::ImageAnswer;
 use cell::Vec3;
-use cell::Vector;
 use field_structs::FlatCell;
 use field_structs::FlatImageAnswer;
 use field_structs::FlatInverseAnswer;
@@ -14,18 +9,12 @@ use field_structs::FlatNumber;
 use field_structs::FlatRowsAnswer;
 use field_structs::FlatVector;
 use field_structs::FlatYesNo;
-use field_structs::flags;
 use field_structs::give;
 use field_structs::take;
-ghost use Rattle.answer.specs.declared.Number.the-variants as Number·cases;
-ghost use Rattle.answer.specs.declared.Refusal.the-variants.{Range};
-ghost use Rattle.answer.specs.declared.YesNo.the-variants as YesNo·cases;
 ghost use Rattle.cell.specs.Calls.{CubicSays, InverseSays, IsOrthorhombicSays, MatrixSays, MinImageSays, OrthorhombicSays, PerpWidthsSays, ToCartesianSays, ToFractionalSays, VolumeSays, WrapSays};
-ghost use Rattle.cell.specs.declared.ImageAnswer.the-variants as ImageAnswer·cases;
-ghost use Rattle.cell.specs.declared.Vector.the-variants as Vector·cases;
-ghost use Rattle.field_structs.specs.Flat.{flatImage, flatInverse, flatLatticeAnswer, flatNumber, flatRows, flatVector, flatYesNo, unaskedInverse, unaskedRows};
-ghost use Rattle.field_structs.specs.Shown.{Flagged, Shown};
-ghost use Rattle.field_structs.specs.Taken.{cellFlags, cellOf, latticeFlags, latticeOf};
+ghost use Rattle.field_structs.specs.Flat.{flatImage, flatInverse, flatLatticeAnswer, flatNumber, flatRows, flatVector, flatYesNo};
+ghost use Rattle.field_structs.specs.Shown.{Shown};
+ghost use Rattle.field_structs.specs.Taken.{cellOf, latticeOf};
 
 // The lattice of a box with edges lx, ly, lz along the axes, periodic on all three. Refusal 3.
 #[no_mangle]
@@ -46,98 +35,71 @@ pub extern "C" fn tyn_cubic(l: f64) -> FlatLatticeAnswer
 // Whether the off-diagonal magnitudes sum to less than 1e-9. Refusal 3.
 #[no_mangle]
 pub extern "C" fn tyn_is_orthorhombic(lattice: FlatLattice) -> FlatYesNo
-    ensures { λ r. ⌜ Flagged (latticeFlags lattice) flatYesNo (IsOrthorhombicSays (latticeOf lattice)) (flatYesNo (YesNo·cases.Refused Range)) (Unit {0}) r ⌝ }
+    ensures { λ r. ⌜ Shown flatYesNo (IsOrthorhombicSays (latticeOf lattice)) r ⌝ }
 {
-    if !flags::lattice(lattice) {
-        return give::yes_no(YesNo::Refused(Refusal::Range));
-    }
     give::yes_no(cell::is_orthorhombic(take::lattice(lattice)))
 }
 
 // The lattice vectors as the columns of three rows. Refusal 3.
 #[no_mangle]
 pub extern "C" fn tyn_matrix(lattice: FlatLattice) -> FlatRowsAnswer
-    ensures { λ r. ⌜ Flagged (latticeFlags lattice) flatRows (MatrixSays (latticeOf lattice)) (unaskedRows) (Unit {0}) r ⌝ }
+    ensures { λ r. ⌜ Shown flatRows (MatrixSays (latticeOf lattice)) r ⌝ }
 {
-    if !flags::lattice(lattice) {
-        return give::unasked_rows();
-    }
     give::rows(cell::matrix(take::lattice(lattice)))
 }
 
 // The volume. Refusal 3.
 #[no_mangle]
 pub extern "C" fn tyn_volume(lattice: FlatLattice) -> FlatNumber
-    ensures { λ r. ⌜ Flagged (latticeFlags lattice) flatNumber (VolumeSays (latticeOf lattice)) (flatNumber (Number·cases.Refused Range)) (Unit {0}) r ⌝ }
+    ensures { λ r. ⌜ Shown flatNumber (VolumeSays (latticeOf lattice)) r ⌝ }
 {
-    if !flags::lattice(lattice) {
-        return give::number(Number::Refused(Refusal::Range));
-    }
     give::number(cell::volume(take::lattice(lattice)))
 }
 
 // The inverse of the matrix, if there is one. Refusal 3.
 #[no_mangle]
 pub extern "C" fn tyn_inverse(lattice: FlatLattice) -> FlatInverseAnswer
-    ensures { λ r. ⌜ Flagged (latticeFlags lattice) flatInverse (InverseSays (latticeOf lattice)) (unaskedInverse) (Unit {0}) r ⌝ }
+    ensures { λ r. ⌜ Shown flatInverse (InverseSays (latticeOf lattice)) r ⌝ }
 {
-    if !flags::lattice(lattice) {
-        return give::unasked_inverse();
-    }
     give::inverse(cell::inverse(take::lattice(lattice)))
 }
 
 // Fractional coordinates of r. Refusal 3.
 #[no_mangle]
 pub extern "C" fn tyn_to_fractional(lattice: FlatLattice, r: Vec3) -> FlatVector
-    ensures { λ w. ⌜ Flagged (latticeFlags lattice) flatVector (ToFractionalSays (latticeOf lattice) r) (flatVector (Vector·cases.Refused Range)) (Unit {0}) w ⌝ }
+    ensures { λ w. ⌜ Shown flatVector (ToFractionalSays (latticeOf lattice) r) w ⌝ }
 {
-    if !flags::lattice(lattice) {
-        return give::vector(Vector::Refused(Refusal::Range));
-    }
     give::vector(cell::to_fractional(take::lattice(lattice), r))
 }
 
 // Cartesian coordinates of s. Refusal 3.
 #[no_mangle]
 pub extern "C" fn tyn_to_cartesian(lattice: FlatLattice, s: Vec3) -> FlatVector
-    ensures { λ r. ⌜ Flagged (latticeFlags lattice) flatVector (ToCartesianSays (latticeOf lattice) s) (flatVector (Vector·cases.Refused Range)) (Unit {0}) r ⌝ }
+    ensures { λ r. ⌜ Shown flatVector (ToCartesianSays (latticeOf lattice) s) r ⌝ }
 {
-    if !flags::lattice(lattice) {
-        return give::vector(Vector::Refused(Refusal::Range));
-    }
     give::vector(cell::to_cartesian(take::lattice(lattice), s))
 }
 
 // r folded into the cell on its periodic axes. Refusal 3.
 #[no_mangle]
 pub extern "C" fn tyn_wrap(lattice: FlatLattice, r: Vec3) -> FlatVector
-    ensures { λ w. ⌜ Flagged (latticeFlags lattice) flatVector (WrapSays (latticeOf lattice) r) (flatVector (Vector·cases.Refused Range)) (Unit {0}) w ⌝ }
+    ensures { λ w. ⌜ Shown flatVector (WrapSays (latticeOf lattice) r) w ⌝ }
 {
-    if !flags::lattice(lattice) {
-        return give::vector(Vector::Refused(Refusal::Range));
-    }
     give::vector(cell::wrap(take::lattice(lattice), r))
 }
 
 // The widths between opposite faces. Refusal 3.
 #[no_mangle]
 pub extern "C" fn tyn_perp_widths(lattice: FlatLattice) -> FlatVector
-    ensures { λ r. ⌜ Flagged (latticeFlags lattice) flatVector (PerpWidthsSays (latticeOf lattice)) (flatVector (Vector·cases.Refused Range)) (Unit {0}) r ⌝ }
+    ensures { λ r. ⌜ Shown flatVector (PerpWidthsSays (latticeOf lattice)) r ⌝ }
 {
-    if !flags::lattice(lattice) {
-        return give::vector(Vector::Refused(Refusal::Range));
-    }
     give::vector(cell::perp_widths(take::lattice(lattice)))
 }
 
 // The minimum image of the difference d. Refusal 3.
 #[no_mangle]
 pub extern "C" fn tyn_min_image(d: Vec3, cell: FlatCell) -> FlatImageAnswer
-    ensures { λ r. ⌜ Flagged (cellFlags cell) flatImage (MinImageSays d (cellOf cell)) (flatImage (ImageAnswer·cases.Refused Range)) (Unit {0}) r ⌝ }
+    ensures { λ r. ⌜ Shown flatImage (MinImageSays d (cellOf cell)) r ⌝ }
 {
-    if !flags::cell(cell) {
-        return give::image(ImageAnswer::Refused(Refusal::Range));
-    }
     give::image(cell::min_image(d, take::cell(cell)))
 }

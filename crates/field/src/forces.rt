@@ -1,31 +1,21 @@
 // The terms over pairs (potentials.rs), and the evaluator.
-use answer::Refusal;
 use field_structs::FlatBondAnswer;
-use field_structs::FlatBondTerm;
 use field_structs::FlatCell;
-use field_structs::FlatCoulombTerm;
 use field_structs::FlatEvaluated;
 use field_structs::FlatLj;
 use field_structs::FlatLjAnswer;
-use field_structs::FlatLjTerm;
+use field_structs::FlatSetting;
 use field_structs::FlatState;
 use field_structs::FlatSummed;
-use field_structs::flags;
 use field_structs::give;
 use field_structs::take;
 use potentials::Bond;
-use virial::Summed;
 use virial::Units;
-ghost use Rattle.answer.specs.declared.Refusal.the-variants.{Range};
-ghost use Rattle.evaluate.specs.Calls.{EvaluateSays, job};
-ghost use Rattle.evaluate.specs.Terms.{terms};
-ghost use Rattle.field_structs.specs.Flat.{flatBondAnswer, flatEvaluated, flatLj, flatLjAnswer, flatSummed, unaskedEvaluation};
-ghost use Rattle.field_structs.specs.Shown.{Flagged, Shown};
-ghost use Rattle.field_structs.specs.Taken.{bondTermOf, cellFlags, cellOf, coulombTermOf, ljFlags, ljOf, ljTermOf, stateFlags, stateOf, termFlags};
-ghost use Rattle.neighbor.specs.Update.{given};
+ghost use Rattle.evaluate.specs.Calls.{EvaluateSays, jobOf};
+ghost use Rattle.field_structs.specs.Flat.{flatBondAnswer, flatEvaluated, flatLj, flatLjAnswer, flatSummed};
+ghost use Rattle.field_structs.specs.Shown.{Shown};
+ghost use Rattle.field_structs.specs.Taken.{cellOf, ljOf, settingOf, stateOf};
 ghost use Rattle.potentials.specs.Calls.{BondsAllSays, CoulombAllSays, CoulombPairsSays, LjAllSays, LjPairsSays, MonatomicSays, UniformSays, argonOf};
-ghost use Rattle.virial.specs.declared.Summed.the-variants as Summed·cases;
-ghost use mathlib.Core.Bool.{_&&_};
 ghost use mathlib.Core.Path.{_≡_};
 
 // Lennard-Jones numbers of a single species, shifted. Refusal 3.
@@ -65,11 +55,8 @@ pub extern "C" fn tyn_lj_pairs(
     pairs: &[u32],
     forces: &mut [f64],
 ) -> FlatSummed
-    ensures { λ r. ⌜ Flagged (ljFlags lj && cellFlags cell) flatSummed (λ a. LjPairsSays (ljOf lj) (cellOf cell) (now (ids .entry)) (now (params .entry)) (now (species .entry)) (now (positions .entry)) (now (pairs .entry)) (now (forces .entry)) a (now (forces .exit))) (flatSummed (Summed·cases.Refused Range)) ((now (forces .exit) ≡ now (forces .entry))) r ⌝ }
+    ensures { λ r. ⌜ Shown flatSummed (λ a. LjPairsSays (ljOf lj) (cellOf cell) (now (ids .entry)) (now (params .entry)) (now (species .entry)) (now (positions .entry)) (now (pairs .entry)) (now (forces .entry)) a (now (forces .exit))) r ⌝ }
 {
-    if !(flags::lj(lj) & flags::cell(cell)) {
-        return give::summed(Summed::Refused(Refusal::Range));
-    }
     give::summed(potentials::lj_pairs(
         take::lj(lj),
         take::cell(cell),
@@ -93,11 +80,8 @@ pub extern "C" fn tyn_lj_all(
     positions: &[f64],
     forces: &mut [f64],
 ) -> FlatSummed
-    ensures { λ r. ⌜ Flagged (ljFlags lj && cellFlags cell) flatSummed (λ a. LjAllSays (ljOf lj) (cellOf cell) (now (ids .entry)) (now (params .entry)) (now (species .entry)) (now (positions .entry)) (now (forces .entry)) a (now (forces .exit))) (flatSummed (Summed·cases.Refused Range)) ((now (forces .exit) ≡ now (forces .entry))) r ⌝ }
+    ensures { λ r. ⌜ Shown flatSummed (λ a. LjAllSays (ljOf lj) (cellOf cell) (now (ids .entry)) (now (params .entry)) (now (species .entry)) (now (positions .entry)) (now (forces .entry)) a (now (forces .exit))) r ⌝ }
 {
-    if !(flags::lj(lj) & flags::cell(cell)) {
-        return give::summed(Summed::Refused(Refusal::Range));
-    }
     give::summed(potentials::lj_all(
         take::lj(lj),
         take::cell(cell),
@@ -120,11 +104,8 @@ pub extern "C" fn tyn_coulomb_pairs(
     pairs: &[u32],
     forces: &mut [f64],
 ) -> FlatSummed
-    ensures { λ r. ⌜ Flagged (cellFlags cell) flatSummed (λ a. CoulombPairsSays units cutoff (cellOf cell) (now (charges .entry)) (now (positions .entry)) (now (pairs .entry)) (now (forces .entry)) a (now (forces .exit))) (flatSummed (Summed·cases.Refused Range)) ((now (forces .exit) ≡ now (forces .entry))) r ⌝ }
+    ensures { λ r. ⌜ Shown flatSummed (λ a. CoulombPairsSays units cutoff (cellOf cell) (now (charges .entry)) (now (positions .entry)) (now (pairs .entry)) (now (forces .entry)) a (now (forces .exit))) r ⌝ }
 {
-    if !flags::cell(cell) {
-        return give::summed(Summed::Refused(Refusal::Range));
-    }
     give::summed(potentials::coulomb_pairs(
         units,
         cutoff,
@@ -146,11 +127,8 @@ pub extern "C" fn tyn_coulomb_all(
     positions: &[f64],
     forces: &mut [f64],
 ) -> FlatSummed
-    ensures { λ r. ⌜ Flagged (cellFlags cell) flatSummed (λ a. CoulombAllSays units cutoff (cellOf cell) (now (charges .entry)) (now (positions .entry)) (now (forces .entry)) a (now (forces .exit))) (flatSummed (Summed·cases.Refused Range)) ((now (forces .exit) ≡ now (forces .entry))) r ⌝ }
+    ensures { λ r. ⌜ Shown flatSummed (λ a. CoulombAllSays units cutoff (cellOf cell) (now (charges .entry)) (now (positions .entry)) (now (forces .entry)) a (now (forces .exit))) r ⌝ }
 {
-    if !flags::cell(cell) {
-        return give::summed(Summed::Refused(Refusal::Range));
-    }
     give::summed(potentials::coulomb_all(
         units,
         cutoff,
@@ -172,11 +150,8 @@ pub extern "C" fn tyn_bonds_all(
     positions: &[f64],
     forces: &mut [f64],
 ) -> FlatSummed
-    ensures { λ r. ⌜ Flagged (cellFlags cell) flatSummed (λ a. BondsAllSays bond (cellOf cell) (now (bonds .entry)) (now (lengths .entry)) (now (ks .entry)) (now (positions .entry)) (now (forces .entry)) a (now (forces .exit))) (flatSummed (Summed·cases.Refused Range)) ((now (forces .exit) ≡ now (forces .entry))) r ⌝ }
+    ensures { λ r. ⌜ Shown flatSummed (λ a. BondsAllSays bond (cellOf cell) (now (bonds .entry)) (now (lengths .entry)) (now (ks .entry)) (now (positions .entry)) (now (forces .entry)) a (now (forces .exit))) r ⌝ }
 {
-    if !flags::cell(cell) {
-        return give::summed(Summed::Refused(Refusal::Range));
-    }
     give::summed(potentials::bonds_all(
         bond,
         take::cell(cell),
@@ -191,12 +166,8 @@ pub extern "C" fn tyn_bonds_all(
 // The list brought up to date, then each present term, Lennard-Jones, Coulomb, bonds, merged in this order into zero. Refusals 1, 2, 6, 3, 4, 5, 7, 8.
 #[no_mangle]
 pub extern "C" fn tyn_evaluate(
-    lj: FlatLjTerm,
-    coulomb: FlatCoulombTerm,
-    bond: FlatBondTerm,
-    units: Units,
+    setting: FlatSetting,
     s: FlatState,
-    cell: FlatCell,
     ids: &[u32],
     params: &[f64],
     species: &[u32],
@@ -212,18 +183,11 @@ pub extern "C" fn tyn_evaluate(
     items: &mut [u32],
     forces: &mut [f64],
 ) -> FlatEvaluated
-    ensures { λ r. ⌜ Flagged (termFlags lj coulomb bond && stateFlags s && cellFlags cell) flatEvaluated (λ a. EvaluateSays (job (terms (ljTermOf lj) (coulombTermOf coulomb) (bondTermOf bond) units (now (ids .entry)) (now (params .entry)) (now (species .entry)) (now (charges .entry)) (now (bonds .entry)) (now (lengths .entry)) (now (ks .entry))) (given (stateOf s) (cellOf cell) (now (positions .entry)) (now (exclusions .entry)) (now (pairs .entry)) (now (references .entry)) (now (starts .entry)) (now (items .entry))) (now (forces .entry))) a (now (pairs .exit)) (now (references .exit)) (now (starts .exit)) (now (items .exit)) (now (forces .exit))) (unaskedEvaluation s) ((now (pairs .exit) ≡ now (pairs .entry)) × (now (references .exit) ≡ now (references .entry)) × (now (starts .exit) ≡ now (starts .entry)) × (now (items .exit) ≡ now (items .entry)) × (now (forces .exit) ≡ now (forces .entry))) r ⌝ }
+    ensures { λ r. ⌜ Shown flatEvaluated (λ a. EvaluateSays (jobOf (settingOf setting) (stateOf s) (now (ids .entry)) (now (params .entry)) (now (species .entry)) (now (charges .entry)) (now (bonds .entry)) (now (lengths .entry)) (now (ks .entry)) (now (positions .entry)) (now (exclusions .entry)) (now (pairs .entry)) (now (references .entry)) (now (starts .entry)) (now (items .entry)) (now (forces .entry))) a (now (pairs .exit)) (now (references .exit)) (now (starts .exit)) (now (items .exit)) (now (forces .exit))) r ⌝ }
 {
-    if !(flags::terms(lj, coulomb, bond) & flags::state(s) & flags::cell(cell)) {
-        return give::unasked_evaluation(s);
-    }
     give::evaluated(evaluate::evaluate(
-        take::lj_term(lj),
-        take::coulomb_term(coulomb),
-        take::bond_term(bond),
-        units,
+        take::setting(setting),
         take::state(s),
-        take::cell(cell),
         ids,
         params,
         species,

@@ -1,36 +1,25 @@
 // The whole-number frame, and job sheets.
-use answer::Refusal;
-use answer::Whole;
 use field_structs::FlatBuilt;
 use field_structs::FlatFrame;
 use field_structs::FlatSheet;
 use field_structs::FlatWhole;
-use field_structs::flags;
 use field_structs::give;
 use field_structs::take;
-use frame::Built;
 use frame::Spot;
-ghost use Rattle.answer.specs.declared.Refusal.the-variants.{Range};
-ghost use Rattle.answer.specs.declared.Whole.the-variants as Whole·cases;
 ghost use Rattle.field_structs.specs.Flat.{flatBuilt, flatSheet, flatWhole};
-ghost use Rattle.field_structs.specs.Shown.{Flagged, Shown};
-ghost use Rattle.field_structs.specs.Taken.{frameFlags, frameOf};
+ghost use Rattle.field_structs.specs.Shown.{Shown};
+ghost use Rattle.field_structs.specs.Taken.{frameOf};
 ghost use Rattle.frame.specs.Build.{BuildSays, given};
 ghost use Rattle.frame.specs.Distance.{SquaredSays};
 ghost use Rattle.frame.specs.Listed.{BuildLists};
-ghost use Rattle.frame.specs.declared.Built.the-variants as Built·cases;
 ghost use Rattle.sheet.specs.Read.{ReadSays};
 ghost use Rattle.sheet_answer.specs.Solve.{SolveFits, SolveSays};
-ghost use mathlib.Core.Path.{_≡_};
 
 // The exact squared distance of the nearest images of two atoms. Refusal 3.
 #[no_mangle]
 pub extern "C" fn tyn_squared_distance(f: FlatFrame, p: Spot, q: Spot) -> FlatWhole
-    ensures { λ r. ⌜ Flagged (frameFlags f) flatWhole (SquaredSays (frameOf f) p q) (flatWhole (Whole·cases.Refused Range)) (Unit {0}) r ⌝ }
+    ensures { λ r. ⌜ Shown flatWhole (SquaredSays (frameOf f) p q) r ⌝ }
 {
-    if !flags::frame(f) {
-        return give::whole(Whole::Refused(Refusal::Range));
-    }
     give::whole(frame::squared_distance(take::frame(f), p, q))
 }
 
@@ -44,11 +33,8 @@ pub extern "C" fn tyn_frame_build(
     starts: &mut [u32],
     items: &mut [u32],
 ) -> FlatBuilt
-    ensures { λ r. ⌜ Flagged (frameFlags f) flatBuilt (λ a. BuildSays (given (frameOf f) (now (coordinates .entry)) (now (exclusions .entry)) (now (pairs .entry)) (now (starts .entry)) (now (items .entry))) a (now (pairs .exit)) (now (starts .exit)) (now (items .exit)) × BuildLists (given (frameOf f) (now (coordinates .entry)) (now (exclusions .entry)) (now (pairs .entry)) (now (starts .entry)) (now (items .entry))) a (now (pairs .exit))) (flatBuilt (Built·cases.Refused Range)) ((now (pairs .exit) ≡ now (pairs .entry)) × (now (starts .exit) ≡ now (starts .entry)) × (now (items .exit) ≡ now (items .entry))) r ⌝ }
+    ensures { λ r. ⌜ Shown flatBuilt (λ a. BuildSays (given (frameOf f) (now (coordinates .entry)) (now (exclusions .entry)) (now (pairs .entry)) (now (starts .entry)) (now (items .entry))) a (now (pairs .exit)) (now (starts .exit)) (now (items .exit)) × BuildLists (given (frameOf f) (now (coordinates .entry)) (now (exclusions .entry)) (now (pairs .entry)) (now (starts .entry)) (now (items .entry))) a (now (pairs .exit))) r ⌝ }
 {
-    if !flags::frame(f) {
-        return give::built(Built::Refused(Refusal::Range));
-    }
     give::built(frame::build(
         take::frame(f),
         coordinates,

@@ -1,6 +1,6 @@
 // The static library: every public call as a function that C can call, over numbers, `#[repr(C)]` structs and slices (a pointer, then a length). Each
-// function's `ensures` names the relation of the call that it wraps: `Shown` where no flag is taken, else `Flagged`, by which a flag other than 0 or 1
-// is refusal 3 before any other test, with everything lent as it came. include/tyngyrlak.h is made of these files and of crate `flat`'s structs.
+// function's `ensures` is `Shown`: its struct stands for an answer of which the relation of the call that it wraps holds. A flag is read as C does.
+// include/tyngyrlak.h is made of these files and of the structs of crate `field_structs`.
 pub mod cells;
 pub mod floats;
 pub mod forces;
@@ -8,5 +8,5 @@ pub mod frames;
 pub mod motion;
 pub mod pairs;
 pub mod parts;
-pub mod steps;
+pub mod speeds;
 pub mod virials;

@@ -1,7 +1,4 @@
 // The pair list of a float frame (neighbor.rs), and exclusion tables.
-use answer::Number;
-use answer::Refusal;
-use answer::YesNo;
 use field_structs::FlatCell;
 use field_structs::FlatNumber;
 use field_structs::FlatState;
@@ -9,21 +6,17 @@ use field_structs::FlatStateAnswer;
 use field_structs::FlatUpdated;
 use field_structs::FlatWhole;
 use field_structs::FlatYesNo;
-use field_structs::flags;
 use field_structs::give;
 use field_structs::take;
-ghost use Rattle.answer.specs.declared.Number.the-variants as Number·cases;
-ghost use Rattle.answer.specs.declared.Refusal.the-variants.{Range};
-ghost use Rattle.answer.specs.declared.YesNo.the-variants as YesNo·cases;
 ghost use Rattle.exclusions.specs.Calls.{ExcludeSays, SetSays};
-ghost use Rattle.field_structs.specs.Flat.{flatNumber, flatStateAnswer, flatUpdated, flatWhole, flatYesNo, unaskedUpdate};
-ghost use Rattle.field_structs.specs.Shown.{Flagged, Shown};
-ghost use Rattle.field_structs.specs.Taken.{cellFlags, cellOf, stateFlags, stateOf};
+ghost use Rattle.field_structs.specs.Flat.{flatNumber, flatStateAnswer, flatUpdated, flatWhole, flatYesNo};
+ghost use Rattle.field_structs.specs.Shown.{Shown};
+ghost use Rattle.field_structs.specs.Taken.{cellOf, stateOf};
 ghost use Rattle.neighbor.specs.Listed.{UpdateLists};
 ghost use Rattle.neighbor.specs.Rebuild.{NeedsSays};
 ghost use Rattle.neighbor.specs.State.{NewSays, RadiusSays, sinceOf};
 ghost use Rattle.neighbor.specs.Update.{UpdateSays, given};
-ghost use mathlib.Core.Bool.{_&&_, false, true};
+ghost use mathlib.Core.Bool.{false, true};
 ghost use mathlib.Core.Path.{_≡_};
 
 // A list with the given cutoff and skin: no pairs, references, checks, fallback, builds. Refusal 3.
@@ -37,11 +30,8 @@ pub extern "C" fn tyn_new(cutoff: f64, skin: f64) -> FlatStateAnswer
 // The search radius, cutoff + skin. Refusal 3.
 #[no_mangle]
 pub extern "C" fn tyn_search_radius(s: FlatState) -> FlatNumber
-    ensures { λ r. ⌜ Flagged (stateFlags s) flatNumber (RadiusSays (stateOf s)) (flatNumber (Number·cases.Refused Range)) (Unit {0}) r ⌝ }
+    ensures { λ r. ⌜ Shown flatNumber (RadiusSays (stateOf s)) r ⌝ }
 {
-    if !flags::state(s) {
-        return give::number(Number::Refused(Refusal::Range));
-    }
     give::number(neighbor::search_radius(take::state(s)))
 }
 
@@ -78,11 +68,8 @@ pub extern "C" fn tyn_needs_rebuild(
     positions: &[f64],
     references: &[f64],
 ) -> FlatYesNo
-    ensures { λ r. ⌜ Flagged (stateFlags s && cellFlags cell) flatYesNo (NeedsSays (stateOf s) (cellOf cell) (now (positions .entry)) (now (references .entry))) (flatYesNo (YesNo·cases.Refused Range)) (Unit {0}) r ⌝ }
+    ensures { λ r. ⌜ Shown flatYesNo (NeedsSays (stateOf s) (cellOf cell) (now (positions .entry)) (now (references .entry))) r ⌝ }
 {
-    if !(flags::state(s) & flags::cell(cell)) {
-        return give::yes_no(YesNo::Refused(Refusal::Range));
-    }
     give::yes_no(neighbor::needs_rebuild(take::state(s), take::cell(cell), positions, references))
 }
 
@@ -98,11 +85,8 @@ pub extern "C" fn tyn_build(
     starts: &mut [u32],
     items: &mut [u32],
 ) -> FlatUpdated
-    ensures { λ r. ⌜ Flagged (stateFlags s && cellFlags cell) flatUpdated (λ a. UpdateSays false (given (stateOf s) (cellOf cell) (now (positions .entry)) (now (exclusions .entry)) (now (pairs .entry)) (now (references .entry)) (now (starts .entry)) (now (items .entry))) a (now (pairs .exit)) (now (references .exit)) (now (starts .exit)) (now (items .exit)) × UpdateLists (given (stateOf s) (cellOf cell) (now (positions .entry)) (now (exclusions .entry)) (now (pairs .entry)) (now (references .entry)) (now (starts .entry)) (now (items .entry))) a (now (pairs .exit))) (unaskedUpdate s) ((now (pairs .exit) ≡ now (pairs .entry)) × (now (references .exit) ≡ now (references .entry)) × (now (starts .exit) ≡ now (starts .entry)) × (now (items .exit) ≡ now (items .entry))) r ⌝ }
+    ensures { λ r. ⌜ Shown flatUpdated (λ a. UpdateSays false (given (stateOf s) (cellOf cell) (now (positions .entry)) (now (exclusions .entry)) (now (pairs .entry)) (now (references .entry)) (now (starts .entry)) (now (items .entry))) a (now (pairs .exit)) (now (references .exit)) (now (starts .exit)) (now (items .exit)) × UpdateLists (given (stateOf s) (cellOf cell) (now (positions .entry)) (now (exclusions .entry)) (now (pairs .entry)) (now (references .entry)) (now (starts .entry)) (now (items .entry))) a (now (pairs .exit))) r ⌝ }
 {
-    if !(flags::state(s) & flags::cell(cell)) {
-        return give::unasked_update(s);
-    }
     give::updated(neighbor::build(
         take::state(s),
         take::cell(cell),
@@ -127,11 +111,8 @@ pub extern "C" fn tyn_maybe_build(
     starts: &mut [u32],
     items: &mut [u32],
 ) -> FlatUpdated
-    ensures { λ r. ⌜ Flagged (stateFlags s && cellFlags cell) flatUpdated (λ a. UpdateSays true (given (stateOf s) (cellOf cell) (now (positions .entry)) (now (exclusions .entry)) (now (pairs .entry)) (now (references .entry)) (now (starts .entry)) (now (items .entry))) a (now (pairs .exit)) (now (references .exit)) (now (starts .exit)) (now (items .exit)) × UpdateLists (given (stateOf s) (cellOf cell) (now (positions .entry)) (now (exclusions .entry)) (now (pairs .entry)) (now (references .entry)) (now (starts .entry)) (now (items .entry))) a (now (pairs .exit))) (unaskedUpdate s) ((now (pairs .exit) ≡ now (pairs .entry)) × (now (references .exit) ≡ now (references .entry)) × (now (starts .exit) ≡ now (starts .entry)) × (now (items .exit) ≡ now (items .entry))) r ⌝ }
+    ensures { λ r. ⌜ Shown flatUpdated (λ a. UpdateSays true (given (stateOf s) (cellOf cell) (now (positions .entry)) (now (exclusions .entry)) (now (pairs .entry)) (now (references .entry)) (now (starts .entry)) (now (items .entry))) a (now (pairs .exit)) (now (references .exit)) (now (starts .exit)) (now (items .exit)) × UpdateLists (given (stateOf s) (cellOf cell) (now (positions .entry)) (now (exclusions .entry)) (now (pairs .entry)) (now (references .entry)) (now (starts .entry)) (now (items .entry))) a (now (pairs .exit))) r ⌝ }
 {
-    if !(flags::state(s) & flags::cell(cell)) {
-        return give::unasked_update(s);
-    }
     give::updated(neighbor::maybe_build(
         take::state(s),
         take::cell(cell),

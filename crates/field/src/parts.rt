@@ -1,40 +1,22 @@
 // Parts of lent tables, told by their first element and length.
 use answer::Done;
-use answer::Refusal;
 use field_structs::FlatPart;
 use field_structs::FlatState;
-use field_structs::flags;
 use field_structs::give;
 use field_structs::take;
-ghost use mathlib.Core.Path.{_≡_};
 ghost use Rattle.bins.specs.Sort.{atomsIn};
 ghost use Rattle.bins.specs.Sort as Bins;
 ghost use Rattle.exclusions.specs.Calls.{excludedRows};
 ghost use Rattle.exclusions.specs.Calls as Exclusions;
 ghost use Rattle.neighbor.specs.Update.{listedOf, ListedSays};
-ghost use Rattle.field_structs.specs.Shown.{Flagged};
-ghost use Rattle.field_structs.specs.Taken.{stateFlags, stateOf};
-ghost use Rattle.field.specs.Parts.{PartSays, noPart, startOf};
-
-// No part: 3.
-fn none() -> FlatPart
-    ensures { λ r. ⌜ r ≡ noPart ⌝ }
-{
-    FlatPart {
-        done: give::refusal(Refusal::Range),
-        start: 0,
-        length: 0,
-    }
-}
+ghost use Rattle.field_structs.specs.Taken.{stateOf};
+ghost use Rattle.field.specs.Parts.{PartSays, startOf};
 
 // The listed pairs: the part of the lent pairs that the state counts. Refusal 6.
 #[no_mangle]
 pub extern "C" fn tyn_listed(s: FlatState, pairs: &[u32]) -> FlatPart
-    ensures { λ r. ⌜ Flagged (stateFlags s) (λ p. p) (PartSays (ListedSays (stateOf s) (now (pairs .entry))) 0 (listedOf (stateOf s) (now (pairs .entry))) (now (pairs .entry))) noPart (Unit {0}) r ⌝ }
+    ensures { λ r. ⌜ PartSays (ListedSays (stateOf s) (now (pairs .entry))) 0 (listedOf (stateOf s) (now (pairs .entry))) (now (pairs .entry)) r ⌝ }
 {
-    if !flags::state(s) {
-        return none();
-    }
     let state = take::state(s);
     let done = give::done(neighbor::listed_asked(state, pairs));
     let part = neighbor::listed(state, pairs);

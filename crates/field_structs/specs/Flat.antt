@@ -5,7 +5,6 @@ use Rattle.cell.specs.Vec.{zeroVec}
 use Rattle.float.specs.Arith.{bits}
 use Rattle.answer.specs.Seen.{numberOf, placeOf}
 use Rattle.answer.specs.declared.Refusal.{Refusal}
-use Rattle.answer.specs.declared.Refusal.the-variants.{Range}
 use Rattle.answer.specs.declared.Done.{Done}
 use Rattle.answer.specs.declared.Done.the-variants as Done·cases
 use Rattle.answer.specs.declared.Number.{Number}
@@ -44,6 +43,7 @@ use Rattle.potentials.specs.declared.LjAnswer.the-variants as LjAnswer·cases
 use Rattle.potentials.specs.declared.BondAnswer.{BondAnswer}
 use Rattle.potentials.specs.declared.BondAnswer.the-variants as BondAnswer·cases
 use Rattle.evaluate.specs.declared.Evaluated.{Evaluated}
+use Rattle.verlet_step.specs.declared.Stepped.{Stepped}
 use Rattle.field_structs.specs.declared.FlatDone.{FlatDone}
 use Rattle.field_structs.specs.declared.FlatNumber.{FlatNumber}
 use Rattle.field_structs.specs.declared.FlatYesNo.{FlatYesNo}
@@ -65,6 +65,7 @@ use Rattle.field_structs.specs.declared.FlatLj.{FlatLj}
 use Rattle.field_structs.specs.declared.FlatLjAnswer.{FlatLjAnswer}
 use Rattle.field_structs.specs.declared.FlatBondAnswer.{FlatBondAnswer}
 use Rattle.field_structs.specs.declared.FlatEvaluated.{FlatEvaluated}
+use Rattle.field_structs.specs.declared.FlatStepped.{FlatStepped}
 
 abbrev pub flag : Bool → ℕ
 flag true = 1
@@ -122,13 +123,6 @@ flatRows a = record { done = flatDone (a .done); rows = a .rows }
 unfoldable pub flatInverse : InverseAnswer → FlatInverseAnswer
 flatInverse a = record { done = flatYesNo (a .found) .done; found = flatYesNo (a .found) .value; rows = a .rows }
 
--- a flag was none: 3, with rows of zeros
-unfoldable pub unaskedRows : FlatRowsAnswer
-unaskedRows = record { done = flatRefusal Range; rows = zeroRows }
-
-unfoldable pub unaskedInverse : FlatInverseAnswer
-unaskedInverse = record { done = flatRefusal Range; found = 0; rows = zeroRows }
-
 -- ---- virial
 
 unfoldable pub flatSummed : Summed → FlatSummed
@@ -158,10 +152,6 @@ flatStateAnswer (StateAnswer·cases.Refused r) = record { done = flatRefusal r; 
 
 unfoldable pub flatUpdated : Updated → FlatUpdated
 flatUpdated u = record { done = flatDone (u .done); rebuilt = flag (u .rebuilt); state = flatState (u .state) }
-
--- a flag was none: 3, with the state as it came
-unfoldable pub unaskedUpdate : FlatState → FlatUpdated
-unaskedUpdate s = record { done = flatRefusal Range; rebuilt = 0; state = s }
 
 -- ---- the whole-number frame and the job sheet
 
@@ -212,5 +202,6 @@ flatBondAnswer (BondAnswer·cases.Refused r) = record { done = flatRefusal r; bo
 unfoldable pub flatEvaluated : Evaluated → FlatEvaluated
 flatEvaluated e = record { done = flatDone (e .done); rebuilt = flag (e .rebuilt); state = flatState (e .state); sum = e .sum }
 
-unfoldable pub unaskedEvaluation : FlatState → FlatEvaluated
-unaskedEvaluation s = record { done = flatRefusal Range; rebuilt = 0; state = s; sum = zeroSum }
+unfoldable pub flatStepped : Stepped → FlatStepped
+flatStepped a =
+    record { done = flatDone (a .done); stopped = flag (a .stopped); rebuilt = flag (a .rebuilt); state = flatState (a .state); potential = a .potential }

@@ -1,13 +1,14 @@
--- The argument that a struct from C stands for, and whether its flags are flags (CALLS.md, "Words used"). Definitions only.
+-- The argument that a struct from C stands for. Definitions only.
 use Prim.Native.Nat.{ℕ}
-use mathlib.Core.Bool.{Bool, cond, _&&_}
+use mathlib.Core.Bool.{Bool, cond, not}
 use mathlib.Core.List.{List, [], _∷_}
-use lib.Dec.{eqb, leb}
+use lib.Dec.{eqb}
 use lib.Ieee.{Float}
 use Rattle.cell.specs.declared.Cell.{Cell}
 use Rattle.cell.specs.declared.Cell.the-variants as Cell·cases
 use Rattle.cell.specs.declared.Lattice.{Lattice}
 use Rattle.cell.specs.declared.Rows.{Rows}
+use Rattle.evaluate.specs.declared.Setting.{Setting}
 use Rattle.frame.specs.declared.Frame.{Frame}
 use Rattle.neighbor.specs.declared.State.{State}
 use Rattle.potentials.specs.declared.LjTerm.{LjTerm}
@@ -19,6 +20,7 @@ use Rattle.potentials.specs.declared.BondTerm.the-variants as BondTerm·cases
 use Rattle.potentials_pair.specs.declared.Lj.{Lj}
 use Rattle.verlet.specs.declared.Thermostat.{Thermostat}
 use Rattle.verlet.specs.declared.Thermostat.the-variants as Thermostat·cases
+use Rattle.verlet_step.specs.declared.Pace.{Pace}
 use Rattle.field_structs.specs.declared.FlatLattice.{FlatLattice}
 use Rattle.field_structs.specs.declared.FlatCell.{FlatCell}
 use Rattle.field_structs.specs.declared.FlatState.{FlatState}
@@ -27,42 +29,13 @@ use Rattle.field_structs.specs.declared.FlatLjTerm.{FlatLjTerm}
 use Rattle.field_structs.specs.declared.FlatCoulombTerm.{FlatCoulombTerm}
 use Rattle.field_structs.specs.declared.FlatBondTerm.{FlatBondTerm}
 use Rattle.field_structs.specs.declared.FlatThermostat.{FlatThermostat}
+use Rattle.field_structs.specs.declared.FlatSetting.{FlatSetting}
+use Rattle.field_structs.specs.declared.FlatPace.{FlatPace}
 use Rattle.field_structs.specs.declared.FlatFrame.{FlatFrame}
 
--- ---- flags: a number of which 1 is set and 0 is not
-
-abbrev pub isFlag : ℕ → Bool
-isFlag n = leb n 1
-
+-- a flag, read as C does in `if (flag)`
 abbrev pub isSet : ℕ → Bool
-isSet n = eqb n 1
-
-unfoldable pub latticeFlags : FlatLattice → Bool
-latticeFlags l = isFlag (l .px) && isFlag (l .py) && isFlag (l .pz)
-
--- the flags of an absent cell are tested too
-unfoldable pub cellFlags : FlatCell → Bool
-cellFlags cell = isFlag (cell .present) && latticeFlags (cell .lattice)
-
-unfoldable pub stateFlags : FlatState → Bool
-stateFlags s = isFlag (s .fallback)
-
-unfoldable pub ljFlags : FlatLj → Bool
-ljFlags lj = isFlag (lj .shift)
-
-unfoldable pub ljTermFlags : FlatLjTerm → Bool
-ljTermFlags term = isFlag (term .present) && ljFlags (term .lj)
-
-unfoldable pub termFlags : FlatLjTerm → FlatCoulombTerm → FlatBondTerm → Bool
-termFlags lj coulomb bond = ljTermFlags lj && isFlag (coulomb .present) && isFlag (bond .present)
-
-unfoldable pub thermostatFlags : FlatThermostat → Bool
-thermostatFlags t = isFlag (t .present)
-
-unfoldable pub frameFlags : FlatFrame → Bool
-frameFlags f = isFlag (f .px) && isFlag (f .py) && isFlag (f .pz)
-
--- ---- the arguments
+isSet n = not (eqb n 0)
 
 unfoldable pub latticeOf : FlatLattice → Lattice
 latticeOf l = record { a = l .a; b = l .b; c = l .c; px = isSet (l .px); py = isSet (l .py); pz = isSet (l .pz) }
@@ -96,6 +69,13 @@ bondTermOf term = cond (isSet (term .present)) (BondTerm·cases.Present (term .b
 
 unfoldable pub thermostatOf : FlatThermostat → Thermostat
 thermostatOf t = cond (isSet (t .present)) (Thermostat·cases.Present (t .«target_k») (t .«tau_fs»)) Thermostat·cases.Absent
+
+unfoldable pub settingOf : FlatSetting → Setting
+settingOf s =
+    record { lj = ljTermOf (s .lj); coulomb = coulombTermOf (s .coulomb); bond = bondTermOf (s .bond); units = s .units; cell = cellOf (s .cell) }
+
+unfoldable pub paceOf : FlatPace → Pace
+paceOf p = record { dt = p .dt; thermostat = thermostatOf (p .thermostat) }
 
 unfoldable pub frameOf : FlatFrame → Frame
 frameOf f =

@@ -15,6 +15,7 @@ use crate::FlatRowsAnswer;
 use crate::FlatSheet;
 use crate::FlatState;
 use crate::FlatStateAnswer;
+use crate::FlatStepped;
 use crate::FlatSummed;
 use crate::FlatUpdated;
 use crate::FlatVector;
@@ -44,10 +45,11 @@ use potentials::LjAnswer;
 use potentials_pair::Lj;
 use sheet::Job;
 use sheet::Sheet;
+use verlet_step::Stepped;
 use virial::Summed;
 ghost use mathlib.Core.Path.{_≡_};
 ghost use Rattle.cell.specs.Vec.{zeroVec};
-ghost use Rattle.field_structs.specs.Flat.{flag, wellDone, flatRefusal, flatDone, flatNumber, flatYesNo, flatWhole, flatVector, flatLattice, zeroLattice, flatLatticeAnswer, flatImage, flatRows, flatInverse, unaskedRows, unaskedInverse, flatSummed, flatState, zeroState, flatStateAnswer, flatUpdated, unaskedUpdate, flatBuilt, flatLj, zeroLj, flatLjAnswer, zeroBond, flatBondAnswer, flatEvaluated, unaskedEvaluation, flatJob, zeroJob, flatSheet};
+ghost use Rattle.field_structs.specs.Flat.{flag, wellDone, flatRefusal, flatDone, flatNumber, flatYesNo, flatWhole, flatVector, flatLattice, zeroLattice, flatLatticeAnswer, flatImage, flatRows, flatInverse, flatSummed, flatState, zeroState, flatStateAnswer, flatUpdated, flatBuilt, flatLj, zeroLj, flatLjAnswer, zeroBond, flatBondAnswer, flatEvaluated, flatStepped, flatJob, zeroJob, flatSheet};
 
 // 1 where it is set.
 pub fn flag_of(b: bool) -> u32
@@ -246,26 +248,6 @@ pub fn inverse(a: InverseAnswer) -> FlatInverseAnswer
     }
 }
 
-// A flag was none: 3.
-pub fn unasked_rows() -> FlatRowsAnswer
-    ensures { λ r. ⌜ r ≡ unaskedRows ⌝ }
-{
-    FlatRowsAnswer {
-        done: refusal(Refusal::Range),
-        rows: cell::matrices::zero_rows(),
-    }
-}
-
-pub fn unasked_inverse() -> FlatInverseAnswer
-    ensures { λ r. ⌜ r ≡ unaskedInverse ⌝ }
-{
-    FlatInverseAnswer {
-        done: refusal(Refusal::Range),
-        found: 0,
-        rows: cell::matrices::zero_rows(),
-    }
-}
-
 // ---- virial
 
 pub fn summed(a: Summed) -> FlatSummed
@@ -337,17 +319,6 @@ pub fn updated(u: Updated) -> FlatUpdated
         done: done(answer),
         rebuilt: flag_of(u.rebuilt),
         state: state(list),
-    }
-}
-
-// A flag was none: 3, with the state as it came.
-pub fn unasked_update(s: FlatState) -> FlatUpdated
-    ensures { λ r. ⌜ r ≡ unaskedUpdate s ⌝ }
-{
-    FlatUpdated {
-        done: refusal(Refusal::Range),
-        rebuilt: 0,
-        state: s,
     }
 }
 
@@ -497,14 +468,16 @@ pub fn evaluated(e: Evaluated) -> FlatEvaluated
     }
 }
 
-// A flag was none: 3, with the state as it came.
-pub fn unasked_evaluation(s: FlatState) -> FlatEvaluated
-    ensures { λ r. ⌜ r ≡ unaskedEvaluation s ⌝ }
+pub fn stepped(a: Stepped) -> FlatStepped
+    ensures { λ r. ⌜ r ≡ flatStepped a ⌝ }
 {
-    FlatEvaluated {
-        done: refusal(Refusal::Range),
-        rebuilt: 0,
-        state: s,
-        sum: virial::kernel::zero(),
+    let answer = a.done;
+    let list = a.state;
+    FlatStepped {
+        done: done(answer),
+        stopped: flag_of(a.stopped),
+        rebuilt: flag_of(a.rebuilt),
+        state: state(list),
+        potential: a.potential,
     }
 }

@@ -1,13 +1,13 @@
 // What crosses the boundary to C: structs of numbers in place of enums and flags. An answer holds a refusal's number and place (0 and 0 where it is
-// answered) and the values, zeros where there are none; a flag is 0 or 1. specs/Flat.antt says which answer each struct stands for, specs/Taken.antt
-// which argument. `give` turns an answer into its struct, `take` a struct into an argument, `flags` tests the flags.
+// answered) and the values, zeros where there are none; a flag is read as C does, set where it is not 0, and handed back as 0 or 1. specs/Flat.antt says
+// which answer each struct stands for, specs/Taken.antt which argument. `give` turns an answer into its struct, `take` a struct into an argument.
 use cell::Image;
 use cell::Rows;
 use cell::Vec3;
 use potentials::Bond;
 use virial::Sum;
+use virial::Units;
 
-pub mod flags;
 pub mod give;
 pub mod take;
 
@@ -24,7 +24,7 @@ pub struct FlatLattice {
     pub pz: u32,
 }
 
-// No cell (present 0), or a lattice (present 1).
+// No cell (present 0), or a lattice (present not 0).
 #[repr(C)]
 pub struct FlatCell {
     pub present: u32,
@@ -52,33 +52,50 @@ pub struct FlatLj {
     pub shift: u32,
 }
 
-// No Lennard-Jones term (present 0), or one (present 1).
+// No Lennard-Jones term (present 0), or one (present not 0).
 #[repr(C)]
 pub struct FlatLjTerm {
     pub present: u32,
     pub lj: FlatLj,
 }
 
-// No Coulomb term (present 0), or one (present 1).
+// No Coulomb term (present 0), or one (present not 0).
 #[repr(C)]
 pub struct FlatCoulombTerm {
     pub present: u32,
     pub cutoff: f64,
 }
 
-// No bonds (present 0), or bonds (present 1).
+// No bonds (present 0), or bonds (present not 0).
 #[repr(C)]
 pub struct FlatBondTerm {
     pub present: u32,
     pub bond: Bond,
 }
 
-// No thermostat (present 0), or Berendsen's (present 1).
+// No thermostat (present 0), or Berendsen's (present not 0).
 #[repr(C)]
 pub struct FlatThermostat {
     pub present: u32,
     pub target_k: f64,
     pub tau_fs: f64,
+}
+
+// What an evaluation goes by besides its tables: the terms, the units, and the cell.
+#[repr(C)]
+pub struct FlatSetting {
+    pub lj: FlatLjTerm,
+    pub coulomb: FlatCoulombTerm,
+    pub bond: FlatBondTerm,
+    pub units: Units,
+    pub cell: FlatCell,
+}
+
+// How a step goes on in time.
+#[repr(C)]
+pub struct FlatPace {
+    pub dt: f64,
+    pub thermostat: FlatThermostat,
 }
 
 // A whole-number frame: its edges, which axes are periodic (flags), and the radius.
@@ -208,6 +225,17 @@ pub struct FlatEvaluated {
     pub rebuilt: u32,
     pub state: FlatState,
     pub sum: Sum,
+}
+
+// Whether a 7 or 8 stopped the step after the drift and whether the list was built anew (flags); the list's state and the potential, which come back in
+// every case.
+#[repr(C)]
+pub struct FlatStepped {
+    pub done: FlatDone,
+    pub stopped: u32,
+    pub rebuilt: u32,
+    pub state: FlatState,
+    pub potential: f64,
 }
 
 // What a job sheet says beside its coordinates and exclusions; px, py, pz are flags.

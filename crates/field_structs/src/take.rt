@@ -1,4 +1,4 @@
-// The argument that a struct stands for. A flag is read as set where it is 1; `flags` says whether it is one.
+// The argument that a struct stands for. A flag is read as C does: set where it is not 0.
 use crate::FlatBondTerm;
 use crate::FlatCell;
 use crate::FlatCoulombTerm;
@@ -6,11 +6,14 @@ use crate::FlatFrame;
 use crate::FlatLattice;
 use crate::FlatLj;
 use crate::FlatLjTerm;
+use crate::FlatPace;
+use crate::FlatSetting;
 use crate::FlatState;
 use crate::FlatThermostat;
 use cell::Cell;
 use cell::Lattice;
 use cell::Rows;
+use evaluate::Setting;
 use frame::Frame;
 use frame::Side;
 use neighbor::State;
@@ -19,8 +22,9 @@ use potentials::CoulombTerm;
 use potentials::LjTerm;
 use potentials_pair::Lj;
 use verlet::Thermostat;
+use verlet_step::Pace;
 ghost use mathlib.Core.Path.{_≡_};
-ghost use Rattle.field_structs.specs.Taken.{latticeOf, cellOf, stateOf, ljOf, ljTermOf, coulombTermOf, bondTermOf, thermostatOf, frameOf, rowsTable};
+ghost use Rattle.field_structs.specs.Taken.{latticeOf, cellOf, stateOf, ljOf, ljTermOf, coulombTermOf, bondTermOf, thermostatOf, settingOf, paceOf, frameOf, rowsTable};
 
 pub fn lattice(l: FlatLattice) -> Lattice
     ensures { λ r. ⌜ r ≡ latticeOf l ⌝ }
@@ -32,16 +36,16 @@ pub fn lattice(l: FlatLattice) -> Lattice
         a,
         b,
         c,
-        px: l.px == 1,
-        py: l.py == 1,
-        pz: l.pz == 1,
+        px: l.px != 0,
+        py: l.py != 0,
+        pz: l.pz != 0,
     }
 }
 
 pub fn cell(cell: FlatCell) -> Cell
     ensures { λ r. ⌜ r ≡ cellOf cell ⌝ }
 {
-    if cell.present == 1 {
+    if cell.present != 0 {
         let l = cell.lattice;
         return Cell::Present(lattice(l));
     }
@@ -57,7 +61,7 @@ pub fn state(s: FlatState) -> State
         pairs: s.pairs,
         references: s.references,
         checks: s.checks,
-        fallback: s.fallback == 1,
+        fallback: s.fallback != 0,
         builds: s.builds,
     }
 }
@@ -69,14 +73,14 @@ pub fn lj(lj: FlatLj) -> Lj
         epsilon: lj.epsilon,
         sigma: lj.sigma,
         cutoff: lj.cutoff,
-        shift: lj.shift == 1,
+        shift: lj.shift != 0,
     }
 }
 
 pub fn lj_term(term: FlatLjTerm) -> LjTerm
     ensures { λ r. ⌜ r ≡ ljTermOf term ⌝ }
 {
-    if term.present == 1 {
+    if term.present != 0 {
         let numbers = term.lj;
         return LjTerm::Present(lj(numbers));
     }
@@ -86,7 +90,7 @@ pub fn lj_term(term: FlatLjTerm) -> LjTerm
 pub fn coulomb_term(term: FlatCoulombTerm) -> CoulombTerm
     ensures { λ r. ⌜ r ≡ coulombTermOf term ⌝ }
 {
-    if term.present == 1 {
+    if term.present != 0 {
         return CoulombTerm::Present {
             cutoff: term.cutoff,
         };
@@ -97,7 +101,7 @@ pub fn coulomb_term(term: FlatCoulombTerm) -> CoulombTerm
 pub fn bond_term(term: FlatBondTerm) -> BondTerm
     ensures { λ r. ⌜ r ≡ bondTermOf term ⌝ }
 {
-    if term.present == 1 {
+    if term.present != 0 {
         let bond = term.bond;
         return BondTerm::Present(bond);
     }
@@ -107,7 +111,7 @@ pub fn bond_term(term: FlatBondTerm) -> BondTerm
 pub fn thermostat(t: FlatThermostat) -> Thermostat
     ensures { λ r. ⌜ r ≡ thermostatOf t ⌝ }
 {
-    if t.present == 1 {
+    if t.present != 0 {
         return Thermostat::Present {
             target_k: t.target_k,
             tau_fs: t.tau_fs,
@@ -116,21 +120,48 @@ pub fn thermostat(t: FlatThermostat) -> Thermostat
     Thermostat::Absent
 }
 
+pub fn setting(s: FlatSetting) -> Setting
+    ensures { λ r. ⌜ r ≡ settingOf s ⌝ }
+{
+    let lj = s.lj;
+    let coulomb = s.coulomb;
+    let bond = s.bond;
+    let units = s.units;
+    let held = s.cell;
+    Setting {
+        lj: lj_term(lj),
+        coulomb: coulomb_term(coulomb),
+        bond: bond_term(bond),
+        units,
+        cell: cell(held),
+    }
+}
+
+pub fn pace(p: FlatPace) -> Pace
+    ensures { λ r. ⌜ r ≡ paceOf p ⌝ }
+{
+    let t = p.thermostat;
+    Pace {
+        dt: p.dt,
+        thermostat: thermostat(t),
+    }
+}
+
 pub fn frame(f: FlatFrame) -> Frame
     ensures { λ r. ⌜ r ≡ frameOf f ⌝ }
 {
     Frame {
         x: Side {
             edge: f.ex,
-            round: f.px == 1,
+            round: f.px != 0,
         },
         y: Side {
             edge: f.ey,
-            round: f.py == 1,
+            round: f.py != 0,
         },
         z: Side {
             edge: f.ez,
-            round: f.pz == 1,
+            round: f.pz != 0,
         },
         radius: f.radius,
     }

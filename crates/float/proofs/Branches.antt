@@ -1,17 +1,17 @@
 -- Magnitude, maximum, minimum: each branch of the code against the definition, on plain values. Assumes nothing.
 use mathlib.Core.Path.{_≡_, refl, sym, ap, _∙_, subst}
-use Prim.Native.Nat.{ℕ, zero, suc, _+_, _*_, _/_, _^_, _≤_, _<_}
+use Prim.Native.Nat.{ℕ, zero, suc, _+_, _*_, _≤_, _<_}
 use mathlib.Core.Logic.{_⊎_, inl, inr}
 use native.Mathlib.Nat.{mul-one, zero-mul, mul-pos, zero-lt-suc, lt-of-lt-of-le, le-add-right, le-antisymm, le-of-eq, one-mul, zero-add}
 use native.Mathlib.Omega.{arith}
 use mathlib.Core.Bool.{Bool, true, false, not, _&&_, _||_, cond, Bool·beq, false≢true, true≢false}
 use lib.IntN.{ℤ, pos, negsuc}
-use lib.Dec.{T, ltb, leb, eqb, eqb→eq, ltb→lt, lt→ltb, nltb→le, not-T, eqb-refl}
-use lib.Ieee.{Float, nan, inf, fin, Format, binary64, up, down, neg, add, sub, sum, rem, lt, le, eq, ne, round, fits, isNan, level}
+use lib.Dec.{T, ltb, eqb, eqb→eq, ltb→lt, lt→ltb, nltb→le, not-T, eqb-refl}
+use lib.Ieee.{Float, nan, inf, fin, binary64, up, down, neg, add, sub, sum, rem, lt, le, eq, ne, round, fits, isNan, level}
 use lib.Ieee.Fits.{and-l, and-r, and-i, up-pos, down-pos}
 use lib.Ieee.Compare.{differs-from-itself}
 use Rattle.float.specs.Def.{absOf, negative, maxOf, minOf, clampOf, remEuclidOf}
-use Rattle.float.specs.Steps.{signOf, halfUp}
+use Rattle.float.specs.Steps.{halfUp}
 use Rattle.float.proofs.Unique.{unique-cross, zero-exp, not-zero', round-own}
 
 abbrev pub zero+ : Float
@@ -112,13 +112,13 @@ sum-first : (b c : ℕ) → sum binary64 false 0 false b c ≡ round binary64 fa
 unfolding sum
 sum-first b c = ap (λ (z : ℕ). round binary64 false z c) (zero-add b)
 
-sign-free : (s : Bool) (m : ℕ) (e : ℤ) → T (fits binary64 (fin s m e)) → T (fits binary64 (fin false m e))
+pub sign-fits : (s : Bool) (m : ℕ) (e : ℤ) → T (fits binary64 (fin s m e)) → T (fits binary64 (fin false m e))
 unfolding fits
-sign-free s zero e p = p
-sign-free s (suc m) e p = p
+sign-fits s zero e p = p
+sign-fits s (suc m) e p = p
 
 own : (s : Bool) (m : ℕ) (e : ℤ) → T (fits binary64 (fin s m e)) → round binary64 false (m * up e * 1) (1 * down e) ≡ fin false m e
-own s m e p = round-own binary64 (fin false m e) false (m * up e * 1) (1 * down e) (mul-pos (zero-lt-suc 0) (down-pos e)) (sign-free s m e p) (refl, regroup (m * up e) (down e))
+own s m e p = round-own binary64 (fin false m e) false (m * up e * 1) (1 * down e) (mul-pos (zero-lt-suc 0) (down-pos e)) (sign-fits s m e p) (refl, regroup (m * up e) (down e))
   where
     regroup : (a d : ℕ) → a * (1 * d) ≡ a * 1 * d
     regroup a d = ap (λ (z : ℕ). a * z) (one-mul d) ∙ ap (λ (z : ℕ). z * d) (sym (mul-one a))
@@ -381,7 +381,7 @@ by-cases : {P : Type 0} (b : Bool) → (b ≡ true → P) → (b ≡ false → P
 by-cases true f g = f refl
 by-cases false f g = g refl
 
-both-true : (a b : Bool) → (a && b) ≡ true → (a ≡ true) × (b ≡ true)
+pub both-true : (a b : Bool) → (a && b) ≡ true → (a ≡ true) × (b ≡ true)
 both-true true true h = (refl, refl)
 both-true true false h = absurd (false≢true h)
 both-true false b h = absurd (false≢true h)

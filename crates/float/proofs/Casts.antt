@@ -1,15 +1,15 @@
 -- The branches of `to_u64` and `to_i64` that bring a number to an end of the range, over the width. Assumes nothing.
-use mathlib.Core.Path.{_≡_, refl, sym, ap, _∙_, subst}
-use Prim.Native.Nat.{ℕ, zero, suc, _+_, _-_, _*_, _/_, _^_, _≤_, _<_, min}
+use mathlib.Core.Path.{_≡_, refl, sym, ap, subst}
+use Prim.Native.Nat.{ℕ, _+_, _-_, _*_, _/_, _^_, _≤_, _<_, min}
 use native.Mathlib.Nat.{mul-one, one-mul, mul-pos, zero-lt-suc, le-div-iff-mul-le}
 use native.Mathlib.Omega.{arith}
-use mathlib.Core.Bool.{Bool, true, false, not, _&&_, _||_, cond, false≢true, true≢false}
-use lib.IntN.{ℤ, pos, negsuc, negℤ}
-use lib.Dec.{T, ltb, leb, eqb, ltb→lt, lt→ltb, nltb→le, not-T}
+use mathlib.Core.Bool.{Bool, true, false, _||_, false≢true, true≢false}
+use lib.IntN.{ℤ, pos, negℤ}
+use lib.Dec.{ltb, lt→ltb, nltb→le, not-T}
 use lib.Pow.{pow-pos}
 use lib.Ieee.{Float, nan, inf, fin, up, down, lt, le, ne, toUnsigned, toSigned}
 use lib.Ieee.Fits.{down-pos}
-use Rattle.float.proofs.Branches.{yes, no}
+use Rattle.float.proofs.Branches.{no}
 
 -- a negative number is below one that is not, where one of them is not zero
 lt-mixed : (a b : ℕ) → 0 < a + b → ltb 0 (a + b) ≡ false → ⊥

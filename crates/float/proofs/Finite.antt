@@ -1,20 +1,20 @@
 -- The fields of the bits of a finite f64 above zero, and the root by them; and the other cases of `root`. Assumes nothing.
 use mathlib.Core.Path.{_≡_, refl, sym, ap, _∙_, subst}
-use mathlib.Core.Logic.{_⊎_, inl, inr}
-use Prim.Native.Nat.{ℕ, zero, suc, _+_, _-_, _*_, _/_, _%_, _^_, _≤_, _<_}
-use native.Mathlib.Nat.{lt-irrefl, mul-one, zero-mul, mul-pos, zero-lt-suc, mul-comm, mul-assoc, mul-left-comm, mul-right-comm, mod-lt, mul-div-cancel, eq-or-lt-of-le, le-of-suc-le-suc, eq-zero-or-pos}
+use mathlib.Core.Logic.{inl, inr}
+use Prim.Native.Nat.{ℕ, zero, suc, _+_, _-_, _*_, _/_, _%_, _^_, _<_}
+use native.Mathlib.Nat.{lt-irrefl, mul-one, zero-mul, mul-pos, zero-lt-suc, mul-assoc, mul-right-comm, mod-lt, mul-div-cancel, eq-zero-or-pos}
 use native.Mathlib.Omega.{arith}
 use mathlib.Core.Bool.{Bool, true, false, not, _&&_, _||_, cond, Bool·beq, false≢true, true≢false}
-use lib.IntN.{ℤ, pos, negsuc}
-use lib.Dec.{T, ltb, leb, eqb, eqb→eq, ltb→lt, lt→ltb, eqb-refl, not-T}
+use lib.IntN.{ℤ, pos}
+use lib.Dec.{T, leb, eqb, eqb→eq, ltb→lt, lt→ltb, not-T}
 use lib.Pow.{pow-pos, pow-add, field}
-use lib.Ieee.{Float, nan, inf, fin, binary64, up, down, odd, lt, eq, fits, isNan, ofBits, toBits, ofFields}
-use lib.Ieee.Bits.{ofBits-toBits, is-true, is-false}
+use lib.Ieee.{Float, nan, inf, fin, binary64, up, down, odd, lt, eq, fits, isNan, toBits, ofFields}
+use lib.Ieee.Bits.{ofBits-toBits, is-false}
 use lib.Ieee.Fits.{down-pos, up-pos}
 use lib.Ieee.Exact.{HasValue, odd-sign}
 use lib.Ieee.Positive.{positive}
 use Rattle.float.specs.Def.{rootScaled, rootOf}
-use Rattle.float.proofs.Branches.{zero+, yes, no, IsZero, zero-left}
+use Rattle.float.proofs.Branches.{zero+, yes, no, zero-left}
 use Rattle.float.proofs.Patterns.{ofBits-is, normal-is}
 
 -- ---- a value's fields

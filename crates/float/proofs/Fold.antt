@@ -1,23 +1,23 @@
 -- A finite number folded by `rem_euclid` with 1 lies from 0 to 1, 1 included: a tiny negative number folds to 1. Assumes nothing.
 use mathlib.Core.Path.{_≡_, refl, sym, ap, _∙_, subst}
 use mathlib.Core.Logic.{_⊎_, inl, inr}
-use Prim.Native.Nat.{ℕ, zero, suc, _+_, _-_, _*_, _/_, _%_, _^_, _≤_, _<_, zero-le}
-use native.Mathlib.Nat.{mul-one, one-mul, zero-mul, mul-pos, zero-lt-suc, lt-irrefl, mod-lt, eq-zero-or-pos, sub-le, le-of-lt, lt-of-mul-lt-mul-right, mul-lt-mul-of-pos-right, mul-comm}
+use Prim.Native.Nat.{ℕ, zero, suc, _-_, _*_, _%_, _≤_, _<_}
+use native.Mathlib.Nat.{mul-one, one-mul, zero-mul, mul-pos, zero-lt-suc, lt-irrefl, mod-lt, eq-zero-or-pos, le-of-lt, lt-of-mul-lt-mul-right, mul-lt-mul-of-pos-right, mul-comm}
 use native.Mathlib.Omega.{arith}
-use mathlib.Core.Bool.{Bool, true, false, not, cond, true≢false}
-use lib.IntN.{ℤ, pos, negsuc}
-use lib.Dec.{T, ltb, leb, ltb→lt, lt→ltb, not-T}
+use mathlib.Core.Bool.{Bool, true, false, cond, true≢false}
+use lib.IntN.{ℤ, pos}
+use lib.Dec.{T, ltb, ltb→lt, lt→ltb, not-T}
 use lib.Ieee.{Float, nan, inf, fin, binary64, up, down, neg, add, sum, rem, lt, le, fits, round}
 use lib.Ieee.Bits.{is-true, is-false}
-use lib.Ieee.Fits.{down-pos, up-pos}
+use lib.Ieee.Fits.{down-pos}
 use lib.Ieee.Exact.{HasValue}
 use lib.Ieee.Order.{round-mono}
 use Rattle.float.specs.Theorems.{InUnit}
 use Rattle.float.specs.Def.{absOf, remEuclidOf}
 use Rattle.float.proofs.Unique.{round-own}
-use Rattle.float.proofs.Branches.{zero+}
+use Rattle.float.proofs.Branches.{zero+, sign-fits}
 use Rattle.float.proofs.Fraction.{lt-at, round-neg}
-use Rattle.float.proofs.Whole.{one+, frac-val, sign-fits, neg-below}
+use Rattle.float.proofs.Whole.{one+, frac-val, neg-below}
 
 round-ends : (round binary64 false 0 1 ≡ zero+) × (round binary64 false 1 1 ≡ one+)
 unfolding round

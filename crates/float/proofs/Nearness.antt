@@ -2,25 +2,20 @@
 use mathlib.Core.Path.{_≡_, refl, sym, ap, _∙_, subst}
 use mathlib.Core.Logic.{_⊎_, inl, inr}
 use Prim.Native.Nat.{ℕ, zero, suc, _+_, _-_, _*_, _/_, _%_, _^_, _≤_, _<_, zero-le, compare, Ordering, Ordering·lt, Ordering·eq, Ordering·gt}
-use native.Mathlib.Nat.{le-trans, le-of-eq, lt-of-lt-of-le, lt-of-le-of-lt, mul-one, one-mul, zero-mul, mul-pos, zero-lt-suc, mul-comm, mul-assoc, mul-left-comm, mul-right-comm, mul-le-mul-right, mul-lt-mul-of-pos-right, mul-mul-mul-comm, add-mul, eq-of-mul-eq-mul-right, div-lt-iff-lt-mul, le-div-iff-mul-le, div-div-eq-div-mul, mod-eq-of-lt, lt-irrefl, eq-or-lt-of-le, le-of-suc-le-suc, mod-lt, mul-add, pow-suc, le-add-right, add-le-add, le-refl, mul-le-mul}
+use native.Mathlib.Nat.{le-trans, le-of-eq, lt-of-lt-of-le, lt-of-le-of-lt, mul-one, one-mul, mul-pos, zero-lt-suc, mul-comm, mul-assoc, mul-left-comm, mul-le-mul-right, mul-lt-mul-of-pos-right, mul-mul-mul-comm, add-mul, eq-of-mul-eq-mul-right, div-lt-iff-lt-mul, le-div-iff-mul-le, mod-lt, mul-add, pow-suc, le-add-right, add-le-add, le-refl, mul-le-mul}
 use native.Mathlib.Omega.{arith}
-use mathlib.Core.Bool.{Bool, true, false, not, _&&_, _||_, cond, false≢true, true≢false}
-use lib.IntN.{ℤ, pos, negsuc}
-use lib.Dec.{T, ltb, leb, eqb, isLe, isEq, eqb→eq, ltb→lt, lt→ltb, le→leb, leb→le, nleb→lt, not-T, eqb-refl, lit<, lit≤}
-use lib.Arith.{digits-div, digits-mod, lt→nleb}
+use mathlib.Core.Bool.{Bool, true, false, cond}
+use lib.Dec.{T, eqb, isLe, isEq, eqb→eq, le→leb, leb→le, lit≤}
+use lib.Arith.{digits-div, digits-mod}
 use lib.Pow.{pow-pos, pow-add, pow-mono, pow-lt}
-use lib.Ieee.{Float, nan, inf, fin, Format, binary32, binary64, prec, emax, low, up, down, size, nearest, odd, round, fits, ofBits, ofFields, hid, ones, top, nanBits}
-use lib.Ieee.Bits.{ofBits-fits, nanBits-above, is-true, is-false}
-use lib.Ieee.Fits.{down-pos, round-fits}
+use lib.Ieee.{Format, binary64, prec, low, size, nearest, round}
 use lib.Ieee.Nearest.{closest, closest-same}
-use lib.Ieee.Exact.{HasValue, odd-sign}
-use lib.Ieee.Order.{drop, kept}
+use lib.Ieee.Exact.{HasValue}
+use lib.Ieee.Order.{drop}
 use lib.Ieee.Scale.{grid, overflow, round-val}
 use Rattle.float.specs.Def.{wholeRoot, rootScaled}
-use Rattle.float.proofs.Unique.{unique}
-use Rattle.float.proofs.Fraction.{rescale}
-use Rattle.float.proofs.Whole.{size-is}
-use Rattle.float.proofs.WholeRoots.{IsRoot, whole-root, sq-lt-back, sq-plus, sq-twice}
+use Rattle.float.proofs.Whole.{size-is, pred, shift, take-off}
+use Rattle.float.proofs.WholeRoots.{IsRoot, whole-root, sq-lt-back, sq-twice}
 
 -- ---- `compare`
 pub cmp-lt : (a b : ℕ) → a < b → compare a b ≡ Ordering·lt
@@ -67,16 +62,6 @@ closest-high N D s R e l h =
     ∙ ap (λ (o : Ordering). nearest s o) (cmp-gt (R * 2) D h)
 
 -- ---- `round` at a fraction whose unit is known: a / c has the leading digit of its whole part, in units, at place prec - 1 + k
-pred : (f : Format) → suc (prec f - 1) ≡ prec f
-pred binary32 = refl
-pred binary64 = refl
-
-shift : (p l : ℕ) → suc (p - 1) ≡ p → suc (p - 1 + l) ≡ p + l
-shift p l h = omega arith
-
-take-off : (p l : ℕ) → p + l - p ≡ l
-take-off p l = omega arith
-
 pub to-grid : (f : Format) (a c k : ℕ) → 0 < c → 2 ^ (prec f - 1) * 2 ^ k * c ≤ a * 2 ^ low f → a * 2 ^ low f < 2 ^ prec f * 2 ^ k * c
     → closest (a * 2 ^ low f) (c * 2 ^ k) * 2 ^ k < overflow f
     → HasValue (round f false a c) false (closest (a * 2 ^ low f) (c * 2 ^ k) * 2 ^ k) (2 ^ low f)
@@ -109,7 +94,7 @@ odd-product r g h = ap (λ (z : ℕ). z * g) (split r h) ∙ add-mul (2 * (r / 2
     split : (r : ℕ) → r % 2 ≡ 1 → r ≡ 2 * (r / 2) + 1
     split r h = omega arith
 
-next-product : (r g : ℕ) → (r + 1) * g ≡ r * g + g
+pub next-product : (r g : ℕ) → (r + 1) * g ≡ r * g + g
 next-product r g = add-mul r 1 g ∙ ap (λ (z : ℕ). r * g + z) (one-mul g)
 
 module _ (r g w st : ℕ) (lo : r * g ≤ w) (hi : w < (r + 1) * g) (bit : st ≤ 1) (no-tie : r % 2 ≡ 1 → 2 * w + st ≡ 2 * (r * g) → ⊥) where
@@ -157,10 +142,6 @@ sq-odd r h =
 
     grouped : (s r : ℕ) → r ≡ 2 * s + 1 → 2 * s * r + r ≡ 2 * (s * (r + 1)) + 1
     grouped s r e = omega (arith, mul-assoc 2 s r, mul-add s r 1, mul-one s)
-
--- n is v * 2 ^ 54 * (g * g)
-bitOf : ℕ → ℕ → ℕ
-bitOf w n = cond (eqb (w * w) n) 0 1
 
 bit-le : (b : Bool) → cond b 0 1 ≤ 1
 bit-le true = zero-le

@@ -1,21 +1,19 @@
 -- An f64's value from its bit pattern, and a pattern's fields from its value. Assumes nothing.
 use mathlib.Core.Path.{_≡_, refl, sym, ap, _∙_, subst}
 use mathlib.Core.Logic.{_⊎_, inl, inr}
-use Prim.Native.Nat.{ℕ, zero, suc, _+_, _-_, _*_, _/_, _%_, _^_, _≤_, _<_, zero-le}
-use native.Mathlib.Nat.{le-trans, le-of-eq, lt-of-lt-of-le, lt-of-le-of-lt, mul-one, one-mul, zero-mul, mul-pos, zero-lt-suc, mul-comm, mul-assoc, mul-left-comm, mul-right-comm, mod-eq-of-lt, lt-irrefl, eq-or-lt-of-le, mod-lt, pow-succ', mul-div-cancel, add-zero, mod-le}
+use Prim.Native.Nat.{ℕ, suc, _+_, _-_, _*_, _/_, _%_, _^_, _≤_, _<_}
+use native.Mathlib.Nat.{mod-eq-of-lt, eq-or-lt-of-le, pow-succ', mod-le}
 use native.Mathlib.Omega.{arith}
-use mathlib.Core.Bool.{Bool, true, false, not, _&&_, _||_, cond, false≢true, true≢false}
-use lib.IntN.{ℤ, pos, negsuc}
-use lib.Dec.{T, ltb, leb, eqb, eqb→eq, ltb→lt, lt→ltb, le→leb, leb→le, not-T, eqb-refl}
+use mathlib.Core.Bool.{Bool, true, false, not, cond, false≢true}
+use lib.Dec.{T, ltb, leb, eqb, eqb→eq, ltb→lt, not-T}
 use borrow.Author.Tests.{lt-ltb, le-ltb}
 use lib.Arith.{digits-div, digits-mod, lt→nleb}
-use lib.Pow.{pow-pos, pow-add, field}
-use lib.Ieee.{Float, nan, inf, fin, binary64, up, down, odd, fits, isNan, ofBits, toBits, ofFields, nanBits, round}
-use lib.Ieee.Bits.{ofBits-fits, ofBits-toBits, nanBits-above, nanBits-is, is-true, is-false}
-use lib.Ieee.Fits.{down-pos, up-pos, round-fits}
+use lib.Pow.{pow-pos}
+use lib.Ieee.{Float, nan, inf, fin, binary64, odd, fits, isNan, ofBits, ofFields, nanBits}
+use lib.Ieee.Bits.{ofBits-fits, nanBits-above, nanBits-is, is-false}
+use lib.Ieee.Fits.{round-fits}
 use lib.Ieee.Exact.{HasValue, odd-sign}
-use lib.Ieee.Positive.{positive}
-use Rattle.float.specs.Def.{wholeRoot, rootScaled, rootOf}
+use Rattle.float.specs.Def.{wholeRoot, rootScaled}
 use Rattle.float.proofs.Unique.{unique}
 use Rattle.float.proofs.Nearness.{scaled-val, r-ge, r-under}
 use Rattle.float.proofs.WholeRoots.{whole-root}

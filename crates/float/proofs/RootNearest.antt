@@ -2,25 +2,23 @@
 use mathlib.Core.Path.{_≡_, refl, sym, ap, _∙_, subst}
 use mathlib.Core.Logic.{_⊎_, inl, inr}
 use Prim.Native.Nat.{ℕ, zero, suc, _+_, _-_, _*_, _/_, _%_, _^_, _≤_, _<_}
-use native.Mathlib.Nat.{le-trans, le-of-eq, le-of-suc-le-suc, lt-of-lt-of-le, lt-of-le-of-lt, lt-of-not-le, not-le-of-lt, lt-irrefl, mul-one, one-mul, mul-pos, zero-lt-suc, mul-comm, mul-assoc, mul-left-comm, mul-right-comm, mul-mul-mul-comm, add-mul, mul-add, mul-le-mul, mul-le-mul-right, mul-lt-mul-of-pos-right, lt-of-mul-lt-mul-right, le-of-mul-le-mul-right, mod-lt, mul-div-cancel, add-comm, le-antisymm}
+use native.Mathlib.Nat.{le-trans, le-of-eq, le-of-suc-le-suc, lt-of-lt-of-le, lt-of-le-of-lt, lt-of-not-le, not-le-of-lt, lt-irrefl, mul-pos, zero-lt-suc, mul-comm, mul-assoc, mul-right-comm, mul-mul-mul-comm, add-mul, mul-le-mul, mul-le-mul-right, mul-lt-mul-of-pos-right, lt-of-mul-lt-mul-right, le-of-mul-le-mul-right, mod-lt, mul-div-cancel, add-comm, le-antisymm}
 use native.Mathlib.Omega.{arith}
-use mathlib.Core.Bool.{Bool, true, false, not, true≢false}
-use lib.IntN.{ℤ, pos, negsuc}
-use lib.Dec.{T, ltb→lt, ltb, leb, leb→le, nleb→lt, not-T, nltb→le, lt→ltb}
-use lib.Pow.{pow-pos, pow-add, pow-mono, pow-lt}
+use mathlib.Core.Bool.{Bool, true, false, not}
+use lib.Dec.{T, ltb→lt, leb, leb→le, nleb→lt, lt→ltb}
+use lib.Pow.{pow-pos, pow-add, pow-mono}
 use lib.Count.{leadingZeros}
-use lib.Ieee.{Float, nan, inf, fin, binary64, up, down, lt, fits, toBits}
+use lib.Ieee.{Float, nan, inf, fin, binary64, up, down, lt, fits}
 use lib.Ieee.Exact.{HasValue}
 use lib.Ieee.Positive.{num, den, den-pos, positive, own-value, value→cross, positive-of-value}
 use Rattle.float.specs.Def.{wholeRoot, rootScaled, rootOf}
 use Rattle.float.specs.Theorems.{sumNum, sumDen, MiddleAtMost, MiddleAbove, NearestRoot}
-use Rattle.float.proofs.Unique.{Holds, holds, place, unique}
+use Rattle.float.proofs.Unique.{holds, place, unique}
 use Rattle.float.proofs.Fraction.{lt-at, rescale}
-use Rattle.float.proofs.Branches.{yes, no}
-use Rattle.float.proofs.WholeRoots.{IsRoot, whole-root, sq-lt-back}
-use Rattle.float.proofs.Nearness.{scaled-val, r-ge, r-under, four-pow}
+use Rattle.float.proofs.WholeRoots.{whole-root}
+use Rattle.float.proofs.Nearness.{scaled-val, r-ge, four-pow, next-product}
 use Rattle.float.proofs.Patterns.{scaled-fits}
-use Rattle.float.proofs.Normal.{Norm, normal, rescaled, even-sum, odd-sum, half-le}
+use Rattle.float.proofs.Normal.{normal, rescaled, even-sum, odd-sum, half-le}
 use Rattle.float.proofs.Finite.{units-of, root-fin}
 
 -- ---- on whole numbers: the digits p of the root, the rounded q, and the unit k
@@ -57,19 +55,16 @@ one-less b q k K h = mul-le-mul-right k (weak b q (lt-of-mul-lt-mul-right k h))
     weak : (b q : ℕ) → b < q → b + 1 ≤ q
     weak b q h = omega arith
 
-plus-one : (b k : ℕ) → (b + 1) * k ≡ b * k + k
-plus-one b k = add-mul b 1 k ∙ ap (λ (z : ℕ). b * k + z) (one-mul k)
-
 below-sum : (n p k : ℕ) → 0 < k → 2 ^ 53 ≤ p → OnGrid n k → n < (p + 1) / 2 * k → n + (p + 1) / 2 * k ≤ p * k
 below-sum n p k K least grid h = elim (parity p) [
   | inl e ↦ weak n ((p + 1) / 2 * k) (p * k) h (doubled ((p + 1) / 2) p k (twice-even p e))
   | inr o ↦
       let q = (p + 1) / 2 in
       let step : n + k ≤ q * k = elim (le-or-lt (2 ^ 52 * k) n) [
-        | inl g ↦ let b = grid g in subst (λ (z : ℕ). z + k ≤ q * k) (sym (b .1)) (le-trans (le-of-eq (sym (plus-one (b .0) k))) (one-less (b .0) q k K (subst (λ (z : ℕ). z < q * k) (b .1) h)))
+        | inl g ↦ let b = grid g in subst (λ (z : ℕ). z + k ≤ q * k) (sym (b .1)) (le-trans (le-of-eq (sym (next-product (b .0) k))) (one-less (b .0) q k K (subst (λ (z : ℕ). z < q * k) (b .1) h)))
         | inr l ↦ under n k q l (mul-le-mul-right k (big p least o))
       ] in
-      odd-end n (q * k) (p * k) k step (doubled q (p + 1) k (twice-odd p o) ∙ plus-one p k)
+      odd-end n (q * k) (p * k) k step (doubled q (p + 1) k (twice-odd p o) ∙ next-product p k)
 ]
   where
     weak : (n x y : ℕ) → n < x → x + x ≡ y → n + x ≤ y
@@ -82,7 +77,7 @@ below-sum n p k K least grid h = elim (parity p) [
     big p h o = omega arith
 
     under : (n k q : ℕ) → n < 2 ^ 52 * k → (2 ^ 52 + 1) * k ≤ q * k → n + k ≤ q * k
-    under n k q l h = omega (arith, plus-one (2 ^ 52) k)
+    under n k q l h = omega (arith, next-product (2 ^ 52) k)
 
     le-or-lt : (a b : ℕ) → (a ≤ b) ⊎ (b < a)
     le-or-lt a b = go (leb a b) (leb→le a b) (nleb→lt a b)
@@ -97,8 +92,8 @@ above-sum n p k K least grid h = elim (parity p) [
   | inl e ↦
       let q = (p + 1) / 2 in
       let b = grid (le-trans (mul-le-mul-right k (big p least)) (less (q * k) n h)) in
-      let step : q * k + k ≤ n = subst (λ (z : ℕ). q * k + k ≤ z) (sym (b .1)) (le-trans (le-of-eq (sym (plus-one q k))) (one-less q (b .0) k K (subst (λ (z : ℕ). q * k < z) (b .1) h))) in
-      even-end n (q * k) (p * k) k ((p + 1) * k) step (doubled q p k (twice-even p e)) (plus-one p k)
+      let step : q * k + k ≤ n = subst (λ (z : ℕ). q * k + k ≤ z) (sym (b .1)) (le-trans (le-of-eq (sym (next-product q k))) (one-less q (b .0) k K (subst (λ (z : ℕ). q * k < z) (b .1) h))) in
+      even-end n (q * k) (p * k) k ((p + 1) * k) step (doubled q p k (twice-even p e)) (next-product p k)
 ]
   where
     weak : (n x y : ℕ) → x < n → x + x ≡ y → y ≤ n + x

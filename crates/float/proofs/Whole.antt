@@ -1,26 +1,25 @@
 -- Rounding to a whole number. Adding 2 ^ 52 to an x from 0 up and below 2 ^ 52, and taking it off again, leaves a whole number next to x (`shifted`). Assumes nothing.
 use mathlib.Core.Path.{_≡_, refl, sym, ap, _∙_, subst}
-use mathlib.Core.Logic.{_⊎_, inl, inr}
 use Prim.Native.Nat.{ℕ, zero, suc, _+_, _-_, _*_, _/_, _%_, _^_, _≤_, _<_, zero-le, compare}
-use native.Mathlib.Nat.{le-trans, le-of-eq, le-suc, lt-of-lt-of-le, lt-of-le-of-lt, lt-of-not-le, not-le-of-lt, mul-one, one-mul, zero-mul, mul-pos, zero-lt-suc, mul-comm, mul-assoc, mul-left-comm, mul-right-comm, mul-le-mul-right, mul-lt-mul-of-pos-right, div-lt-iff-lt-mul, le-div-iff-mul-le, div-add-mod', add-mul-div-right, mod-lt, div-one, mul-div-cancel, zero-div, pow-succ', le-antisymm, div-mul-le-self, mod-one, mod-le, suc-mul, zero-mod}
+use native.Mathlib.Nat.{le-trans, le-of-eq, le-suc, lt-of-lt-of-le, lt-of-le-of-lt, lt-of-not-le, not-le-of-lt, mul-one, one-mul, zero-mul, mul-pos, zero-lt-suc, mul-comm, mul-assoc, mul-left-comm, mul-right-comm, mul-le-mul-right, mul-lt-mul-of-pos-right, div-lt-iff-lt-mul, le-div-iff-mul-le, div-add-mod', add-mul-div-right, mod-lt, div-one, zero-div, pow-succ', le-antisymm, div-mul-le-self, mod-one, mod-le, suc-mul, zero-mod}
 use native.Mathlib.Omega.{arith}
 use mathlib.Core.Bool.{Bool, true, false, not, _&&_, _||_, cond, false≢true, true≢false, Bool·beq}
 use lib.IntN.{ℤ, pos, negsuc}
-use lib.Dec.{T, ltb, leb, eqb, eqb→eq, ltb→lt, lt→ltb, nltb→le, leb→le, not-T, eqb-refl, lit<, lit≤}
+use lib.Dec.{T, ltb, eqb, eqb→eq, ltb→lt, lt→ltb, nltb→le, not-T, eqb-refl, lit<}
 use lib.Arith.{digits-div}
 use lib.Pow.{pow-pos, pow-add, pow-mono, pow-lt}
 use lib.Ieee.{Float, nan, inf, fin, Format, binary32, binary64, prec, emax, low, up, down, size, neg, add, sub, lt, eq, round, fits}
-use lib.Ieee.Digits.{size-lt, size-le, size-reaches}
-use lib.Ieee.Fits.{nearest-le, down-pos, round-fits, up-pos, and-l, and-r}
+use lib.Ieee.Digits.{size-lt, size-le}
+use lib.Ieee.Fits.{nearest-le, down-pos, up-pos, and-l}
 use lib.Ieee.Nearest.{nearest-ge, closest, div-same}
 use lib.Ieee.Exact.{HasValue, round-exact}
-use lib.Ieee.Order.{drop, kept}
+use lib.Ieee.Order.{drop}
 use lib.Ieee.Scale.{grid, overflow, round-val}
 use lib.Ieee.Back.{round-whole}
 use Rattle.float.specs.Def.{absOf, negative, wholeOf, truncOf, floorOf, roundOf, ceilDiv}
 use Rattle.float.specs.Steps.{signOf, halfUp}
-use Rattle.float.proofs.Unique.{round-own, unique, Holds, holds, zero-exp, place, under-units}
-use Rattle.float.proofs.Branches.{zero+, yes, no}
+use Rattle.float.proofs.Unique.{round-own, holds, zero-exp, place, under-units}
+use Rattle.float.proofs.Branches.{zero+, yes, no, sign-fits}
 use Rattle.float.proofs.Fraction.{rescale, add-at, sub-at, lt-at, round-neg}
 
 -- ---- the digits of a number between two powers of two
@@ -35,14 +34,14 @@ room : (f : Format) → prec f < suc (emax f)
 room binary32 = lit< tt
 room binary64 = lit< tt
 
-pred : (f : Format) → suc (prec f - 1) ≡ prec f
+pub pred : (f : Format) → suc (prec f - 1) ≡ prec f
 pred binary32 = refl
 pred binary64 = refl
 
-take-off : (p l : ℕ) → p + l - p ≡ l
+pub take-off : (p l : ℕ) → p + l - p ≡ l
 take-off p l = omega arith
 
-shift : (p l : ℕ) → suc (p - 1) ≡ p → suc (p - 1 + l) ≡ p + l
+pub shift : (p l : ℕ) → suc (p - 1) ≡ p → suc (p - 1 + l) ≡ p + l
 shift p l h = omega arith
 
 -- what is left of a / c is whole, and next to it
@@ -315,14 +314,6 @@ abs-not-negative (inf s) = refl
 abs-not-negative (fin s m e) = refl
 
 -- ---- t + 1, for the whole part t
-pub part-is : (x : Float) → negative x ≡ false → lt x big+ ≡ true → (a : ℕ) × (c : ℕ) × (0 < c) × HasValue x false a c × (a < 2 ^ 52 * c) × (truncOf x ≡ wholeOf false (a / c))
-unfolding truncOf negative lt
-part-is nan n h = absurd (false≢true h)
-part-is (inf true) n h = absurd (true≢false n)
-part-is (inf false) n h = absurd (false≢true h)
-part-is (fin true m e) n h = absurd (true≢false n)
-part-is (fin false m e) n h = (m * up e, down e, down-pos e, (refl, refl), part-lt m e h, refl)
-
 small-part : (q : ℕ) → q < 2 ^ 52 → q ≤ 2 ^ 53
 small-part q h = omega arith
 
@@ -470,11 +461,6 @@ zero-no m e z h = none (down e) (m * up e % down e) (down-pos e) h (ap (λ (k : 
   where
     none : (c r : ℕ) → 0 < c → 1 * c ≤ r * 2 → r ≡ 0 → ⊥
     none c r a b d = omega arith
-
-pub sign-fits : (s : Bool) (m : ℕ) (e : ℤ) → T (fits binary64 (fin s m e)) → T (fits binary64 (fin false m e))
-unfolding fits
-sign-fits s zero e p = p
-sign-fits s (suc m) e p = p
 
 pub round-less : (x : Float) → T (fits binary64 x) → lt (absOf x) big+ ≡ true → lt (sub binary64 (absOf x) (truncOf (absOf x))) half+ ≡ true → signOf x (truncOf (absOf x)) ≡ roundOf x
 unfolding truncOf absOf roundOf

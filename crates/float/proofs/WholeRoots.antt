@@ -1,7 +1,7 @@
 -- Whole square roots: squares and their order, what `wholeRoot` gives, and the loop that finds a root digit by digit. Nothing here is about floats. Assumes nothing.
 use mathlib.Core.Path.{_≡_, refl, sym, ap, _∙_, subst}
 use Prim.Native.Nat.{ℕ, zero, suc, _+_, _-_, _*_, _/_, _%_, _^_, _≤_, _<_, zero-le}
-use native.Mathlib.Nat.{le-trans, le-of-eq, le-suc, le-antisymm, le-of-suc-le-suc, lt-of-not-le, not-le-of-lt, lt-of-lt-of-le, lt-of-le-of-lt, mul-le-mul, mul-comm, mul-assoc, mul-left-comm, mul-right-comm, mul-one, one-mul, add-mul, mul-add, pow-suc, div-lt-iff-lt-mul, div-add-mod', mod-lt, zero-lt-suc, zero-add}
+use native.Mathlib.Nat.{le-trans, le-suc, le-antisymm, le-of-suc-le-suc, lt-of-not-le, not-le-of-lt, lt-of-lt-of-le, lt-of-le-of-lt, mul-le-mul, mul-comm, mul-assoc, mul-left-comm, mul-right-comm, mul-one, add-mul, mul-add, pow-suc, div-lt-iff-lt-mul, div-add-mod', mod-lt, zero-lt-suc, zero-add}
 use native.Mathlib.Numerals.{add-one}
 use native.Mathlib.Omega.{arith}
 use mathlib.Core.Bool.{Bool, true, false, not, cond}
@@ -11,9 +11,6 @@ use Rattle.float.specs.Def.{wholeRoot}
 use Rattle.float.specs.Steps.{Digits}
 
 -- ---- squares
-sq-suc : (x : ℕ) → suc x * suc x ≡ x * x + 2 * x + 1
-sq-suc x = omega (arith, add-mul x 1 (x + 1), mul-add x x 1, mul-one x)
-
 pub sq-plus : (x : ℕ) → (x + 1) * (x + 1) ≡ x * x + 2 * x + 1
 sq-plus x = add-mul x 1 (x + 1) ∙ ap (λ (y : ℕ). y + 1 * (x + 1)) (mul-add x x 1) ∙ rest (x * x) x
   where
@@ -139,17 +136,3 @@ finish v r rem rest i D k =
 -- the invariant of equal numbers
 pub moved : (v r rem rest i r' rem' : ℕ) → r ≡ r' → rem ≡ rem' → Digits v r' rem' rest i → Digits v r rem rest i
 moved v r rem rest i r' rem' p q D = subst (λ (z : ℕ). Digits v z rem rest i) (sym p) (subst (λ (z : ℕ). Digits v r' z rest i) (sym q) D)
-
--- a start after 13 turns, from the whole root of v's 26 leading digits
-pub table-start : (v r : ℕ) → v < 2 ^ 54 → IsRoot (v / 2 ^ 28) r → Digits v r (v / 2 ^ 28 - r * r) (v % 2 ^ 28 * 2 ^ 26) 13
-table-start v r h R = record {
-  sum = sums (r * r) (v / 2 ^ 28) (v % 2 ^ 28) v (R .low) (div-add-mod' v (2 ^ 28));
-  left = omega (arith, R .high, sq-plus r);
-  room = omega (arith, mod-lt v (pow-pos 28));
-  small = sq-lt-back r (2 ^ 13) (lt-of-le-of-lt (R .low) (div-lt-iff-lt-mul (pow-pos 28) .1 h));
-  turns = omega arith;
-  short = h;
-}
-  where
-    sums : (s n t v : ℕ) → s ≤ n → n * 2 ^ 28 + t ≡ v → (s + (n - s)) * 2 ^ 54 + t * 2 ^ 26 ≡ v * 4 ^ 13
-    sums s n t v a b = omega arith

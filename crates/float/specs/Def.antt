@@ -1,10 +1,9 @@
 -- What Rust's library gives on an `f64`, and IEEE 754's square root, as functions on the values of `lib.Ieee`. Definitions only.
-use mathlib.Core.Path.{_≡_}
-use Prim.Native.Nat.{ℕ, zero, suc, _+_, _*_, _/_, _^_, _≤_, _<_}
-use mathlib.Core.Bool.{Bool, true, false, cond}
-use lib.IntN.{ℤ, pos, negsuc}
+use Prim.Native.Nat.{ℕ, zero, suc, _+_, _*_, _/_, _^_}
+use mathlib.Core.Bool.{Bool, false, cond}
+use lib.IntN.{pos}
 use lib.Dec.{leb, eqb}
-use lib.Ieee.{Float, nan, inf, fin, binary64, up, down, round, neg, add, rem, lt, eq, isNan}
+use lib.Ieee.{Float, nan, inf, fin, binary64, up, down, round, add, rem, lt, isNan}
 
 -- ---- magnitude, minimum, maximum, clamp
 unfoldable pub absOf : Float → Float

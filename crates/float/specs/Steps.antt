@@ -1,7 +1,7 @@
 -- What the private functions say of themselves: the steps of the root's loop, and two small shapes. No public contract cites this file, so nobody has to believe it.
 use mathlib.Core.Path.{_≡_}
 use Prim.Native.Nat.{ℕ, _+_, _*_, _^_, _≤_, _<_}
-use mathlib.Core.Bool.{true, false, cond}
+use mathlib.Core.Bool.{false, cond}
 use lib.IntN.{pos, negsuc}
 use lib.Ieee.{Float, fin, binary64, neg, add, lt, eq}
 

@@ -1,7 +1,7 @@
 -- A run of a build: what the tally and the memory are, by the lists that the outcome names. Assumes nothing.
 use Prim.Native.Nat.{ℕ, _+_, _-_, _/_, _≤_, _<_}
-use mathlib.Core.Path.{_≡_, refl, sym, ap, _∙_}
-use mathlib.Core.Bool.{Bool, true, false, cond, _||_}
+use mathlib.Core.Path.{_≡_, sym, ap, _∙_}
+use mathlib.Core.Bool.{Bool, true, false, _||_}
 use mathlib.Core.List.{List}
 use native.Mathlib.Omega.{arith}
 use lib.ListN.{length}
@@ -12,6 +12,7 @@ use Rattle.answer.specs.declared.Refusal.the-variants.{Cells}
 use Rattle.answer.specs.Seen.{Seen, refusedBy}
 use Rattle.lists.specs.Lists.{allPairs, rows}
 use Rattle.lists.proofs.Cases.{or-neither}
+use Rattle.bins.proofs.Plans.{planned-plain, planned-many, planned-laid}
 use Rattle.bins.specs.declared.Tally.{Tally}
 use Rattle.bins.specs.declared.Grid.{Grid}
 use Rattle.bins.specs.Axis.{Good}
@@ -28,8 +29,8 @@ use Rattle.candidates.proofs.Counted.{plain-less, binned-less}
 use Rattle.candidates.proofs.Runs.{Ended, ended}
 use Rattle.frame.specs.declared.Side.{Side}
 use Rattle.frame.specs.declared.Frame.{Frame}
-use Rattle.frame.specs.declared.laying.Plan.{Plan}
-use Rattle.frame.specs.declared.laying.Plan.the-variants.{AllPairs, Laid, TooMany}
+use Rattle.bins.specs.declared.Plan.{Plan}
+use Rattle.bins.specs.declared.Plan.the-variants.{AllPairs, Laid, TooMany}
 use Rattle.frame.specs.Distance.{spotOf, nearOf}
 use Rattle.frame.specs.Laying.{gridOf, cellAt, narrow, plainOf, crowded}
 use Rattle.frame.specs.Build.{Given, Counts, stays, sceneOf, candidates, nearPairs, beside, checksOf, shownOf, runOf, afterOf, startsLaid, itemsLaid}
@@ -132,37 +133,19 @@ module _ {f : Frame} {g : Grid} {xs : List ℕ} (w : Gridded f g) (framed : Fram
       ended (lookedBy f xs table) old (pairsOf (gridOf f) (atomsBy f xs)) t m (rw (w .is) at q) (grid-ready f xs (w .wide) framed few (sceneBy f xs table))
 
 -- ---- what a plan shows
-impossible : {A : Type 0} → _≡_ {A = ℕ} 0 1 → A
-impossible e = absurd (omega arith)
-
-is-plain : (a b : Bool) (g : Grid) → cond a AllPairs (cond b TooMany (Laid g)) ≡ AllPairs → a ≡ true
-is-plain true b g e = refl
-is-plain false true g e = impossible (cc)
-is-plain false false g e = impossible (cc)
-
-is-crowded : (a b : Bool) (g : Grid) → cond a AllPairs (cond b TooMany (Laid g)) ≡ TooMany → (a ≡ false) × (b ≡ true)
-is-crowded true b g e = impossible (cc)
-is-crowded false true g e = (refl, refl)
-is-crowded false false g e = impossible (cc)
-
-is-laid : (a b : Bool) (g h : Grid) → cond a AllPairs (cond b TooMany (Laid g)) ≡ Laid h → (a ≡ false) × (b ≡ false) × (h ≡ g)
-is-laid true b g h e = impossible (cc)
-is-laid false true g h e = impossible (cc)
-is-laid false false g h e = (refl, refl, cc)
-
 module _ (f : Frame) (starts : ℕ) {p : Plan} (is : p ≡ planOf f starts) where
   pub plan-plain : p ≡ AllPairs → plainOf f ≡ true
   unfolding planOf
-  plan-plain e = is-plain (plainOf f) (crowded f starts) (gridOf f) (sym is ∙ e)
+  plan-plain e = planned-plain (plainOf f) (crowded f starts) (gridOf f) (sym is ∙ e)
 
   pub plan-crowd : p ≡ TooMany → (plainOf f ≡ false) × (crowded f starts ≡ true)
   unfolding planOf
-  plan-crowd e = is-crowded (plainOf f) (crowded f starts) (gridOf f) (sym is ∙ e)
+  plan-crowd e = planned-many (plainOf f) (crowded f starts) (gridOf f) (sym is ∙ e)
 
   module _ {g : Grid} (e : p ≡ Laid g) where
     pub plan-grid : (plainOf f ≡ false) × (crowded f starts ≡ false) × (g ≡ gridOf f)
     unfolding planOf
-    plan-grid = is-laid (plainOf f) (crowded f starts) (gridOf f) g (sym is ∙ e)
+    plan-grid = planned-laid (plainOf f) (crowded f starts) (gridOf f) g (sym is ∙ e)
 
     both : (ltb 32768 (cells (gridOf f)) ≡ false) × (leb starts (cells (gridOf f)) ≡ false)
     unfolding crowded

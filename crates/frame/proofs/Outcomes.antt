@@ -1,19 +1,21 @@
 -- The outcome of a build by its cases, what an answered one lists, and that the lent pairs stay as long as they were. Assumes nothing.
-use Prim.Native.Nat.{ℕ, zero, suc, _/_, _%_, _≤_, _<_}
+use Prim.Native.Nat.{ℕ, _/_, _%_, _≤_, _<_}
 use mathlib.Core.Path.{_≡_, refl, sym, ap, _∙_}
 use mathlib.Core.Bool.{Bool, true, false, cond, not, _||_}
-use mathlib.Core.List.{List, [], List·Memᴰ·not-nil}
+use mathlib.Core.List.{List, List·Memᴰ·not-nil}
 use native.Mathlib.Omega.{arith}
 use lib.ListN.{length}
 use lib.Dec.{eqb, ltb, leb}
 use borrow.Author.Tests.{ltb-true, ltb-false, lt-ltb, leb-true, not-false}
+use Rattle.lists.proofs.Exactness.{no-pairs}
+use Rattle.answer.proofs.Passed.{pass}
 use Rattle.answer.specs.declared.Done.{Done}
 use Rattle.answer.specs.declared.Done.the-variants.{Answered, Refused}
 use Rattle.answer.specs.declared.Refusal.{Refusal}
 use Rattle.answer.specs.declared.Refusal.the-variants.{Lengths, TooMany, Range, Order, Cells, Room}
 use Rattle.answer.specs.Seen.{answered, refusedBy}
-use Rattle.lists.specs.Lists.{allPairs, numbers, inside, withEach, howMany, rows}
-use Rattle.lists.proofs.Cases.{by-test, or-neither}
+use Rattle.lists.specs.Lists.{howMany, rows}
+use Rattle.lists.proofs.Cases.{by-test, or-neither, impossible}
 use Rattle.bins.specs.Listing.{laidOf}
 use Rattle.bins.proofs.Laid.{laid-rows, laid-length}
 use Rattle.exclusions.specs.Table.{isTable}
@@ -26,14 +28,7 @@ use Rattle.frame.specs.Steps.{Framed}
 use Rattle.frame.proofs.Ranges.{ranges-framed}
 use Rattle.frame.proofs.Nearby.{near-exactly}
 
-impossible : {A : Type 0} → _≡_ {A = ℕ} 0 1 → A
-impossible e = absurd (omega arith)
-
 -- ---- what it shows that a build's tests have passed
-pass : (t : Bool) (r : Refusal) (rest : Done) → cond t (Refused r) rest ≡ Answered → (t ≡ false) × (rest ≡ Answered)
-pass true r rest q = impossible (cc)
-pass false r rest q = (refl, q)
-
 pub record Fine (f : Frame) (xs table : List ℕ) (items : ℕ) : Type 0 where
   pub framed : Framed f xs
   pub ascending : isTable (rows table) ≡ true
@@ -118,13 +113,6 @@ module _ (i : Given) (framed : Framed (i .frame) (i .coordinates)) (c : Counts) 
   unfolding runOf shownOf
   run-lists fallback starts items q =
       let z = fitting (leb (length found) (length (i .pairs) / 2)) fallback refl q in lists-are fallback (z .0) (z .1)
-
--- below two atoms there is no pair
-no-pairs : (n : ℕ) → n < 2 → allPairs n ≡ []
-unfolding inside numbers withEach
-no-pairs zero h = refl
-no-pairs (suc zero) h = refl
-no-pairs (suc (suc n)) h = absurd (omega arith)
 
 few-lists : (i : Given) (c : Counts) → length (i .coordinates) / 3 < 2 → c ≡ record { pairs = 0; checks = 0; fallback = false } → Listed i c (i .pairs)
 unfolding rows howMany

@@ -19,7 +19,7 @@ use Rattle.bins.proofs.EdgeLaws.{bin-in}
 use Rattle.bins.proofs.FlatLaws.{flatten-less}
 use Rattle.frame.specs.declared.Frame.{Frame}
 use Rattle.frame.specs.declared.Spot.{Spot}
-use Rattle.frame.specs.declared.laying.Plan.the-variants.{AllPairs, Laid, TooMany}
+use Rattle.bins.specs.declared.Plan.the-variants.{AllPairs, Laid, TooMany}
 use Rattle.frame.specs.Laying.{gridOf, cellOf, narrow, plainOf, crowded, homeAt}
 use Rattle.frame.specs.Steps.{Inside, Gridded, planOf}
 

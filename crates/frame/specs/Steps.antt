@@ -15,8 +15,8 @@ use Rattle.exclusions.specs.Table.{lookedUp}
 use Rattle.candidates.specs.Checks.{lazy}
 use Rattle.frame.specs.declared.Frame.{Frame}
 use Rattle.frame.specs.declared.Spot.{Spot}
-use Rattle.frame.specs.declared.laying.Plan.{Plan}
-use Rattle.frame.specs.declared.laying.Plan.the-variants.{AllPairs, Laid, TooMany}
+use Rattle.bins.specs.declared.Plan.{Plan}
+use Rattle.bins.specs.declared.Plan.the-variants.{AllPairs, Laid, TooMany}
 use Rattle.frame.specs.Distance.{spotOf, nearOf}
 use Rattle.frame.specs.Laying.{gridOf, cellAt, plainOf, crowded}
 

@@ -1,13 +1,13 @@
 // A build that may go on: all pairs, or the grid's.
 use crate::Built;
 use crate::Frame;
-use crate::laying::Plan;
 use crate::laying::lay;
 use crate::laying::plan_of;
 use crate::listing::consider_all;
 use crate::sweep::sweep_all;
 use answer::Refusal;
 use bins::Grid;
+use bins::Plan;
 use bins::Tally;
 ghost use mathlib.Core.Path.{_≡_};
 ghost use mathlib.Core.Bool.{true, false};

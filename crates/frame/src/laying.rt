@@ -5,8 +5,9 @@ use crate::Spot;
 use bins::Axis;
 use bins::Cell;
 use bins::Grid;
+use bins::Plan;
 ghost use mathlib.Core.Path.{_≡_};
-ghost use Prim.Native.Nat.{_+_, _*_, _/_, _≤_, _<_};
+ghost use Prim.Native.Nat.{_+_, _/_, _≤_, _<_};
 ghost use lib.ListN.{length};
 ghost use Rattle.bins.specs.Edge.{binsOn, binOn};
 ghost use Rattle.bins.specs.Stencil.{flatten, cells};
@@ -18,13 +19,6 @@ ghost use Rattle.frame.specs.Distance.{spotOf};
 ghost use Rattle.frame.specs.Laying.{gridOf, cellAt, cellOf, narrow, homeAt};
 ghost use Rattle.frame.specs.Build.{startsLaid, itemsLaid};
 ghost use Rattle.frame.specs.Steps.{Sized, Inside, Framed, Gridded, planOf};
-
-// How the pairs are to be found.
-pub enum Plan {
-    AllPairs,
-    Laid(Grid),
-    TooMany,
-}
 
 // floor(edge / radius), at least 1.
 fn bins_on(edge: u32, radius: u32) -> u32

@@ -7,7 +7,7 @@ use bins::Grid;
 use bins::Reached;
 use bins::Tally;
 ghost use lib.ListN.{length};
-ghost use Rattle.bins.specs.Stencil.{InGrid, cells};
+ghost use Rattle.bins.specs.Stencil.{InGrid};
 ghost use Rattle.bins.specs.Traversal.{visit, cellPairs, pairsOf};
 ghost use Rattle.bins.specs.Listing.{Ready};
 ghost use Rattle.frame.specs.Steps.{Swept, atomsBy, Lists};

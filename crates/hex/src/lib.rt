@@ -1,7 +1,7 @@
 // Lowercase hexadecimal numbers of 2, 4 and 8 digits, read from bytes and written into them. A place past the end reads as no
 // digit, and nothing is written there.
 ghost use mathlib.Core.Path.{_≡_};
-ghost use Prim.Native.Nat.{_+_, _≤_, _<_};
+ghost use Prim.Native.Nat.{_≤_, _<_};
 ghost use lib.ListN.{set};
 ghost use lib.Seq.{sets};
 ghost use Rattle.hex.specs.Digits.{byteAt, digitOf, joined, hex2 as Digits·hex2, hex4 as Digits·hex4, hex8 as Digits·hex8};

@@ -7,6 +7,10 @@ use native.Mathlib.Omega.{arith}
 use lib.Dec.{eqb, ltb}
 use borrow.Author.Tests.{ltb-true, ltb-false, eqb-true, eqb-false}
 
+-- two numbers that differ are not equal: `impossible (cc)` closes a case whose facts contradict each other
+pub impossible : {A : Type 0} → _≡_ {A = ℕ} 0 1 → A
+impossible e = absurd (omega arith)
+
 -- a test's two cases
 pub by-test : (P : Bool → Type 0) (b : Bool) → (b ≡ true → P true) → (b ≡ false → P false) → P b
 by-test P true f g = f refl

@@ -66,13 +66,6 @@ pub rising-once : (l : List ℕ) → Rising l → Once l
 rising-once [] h = tt
 rising-once (a ∷ l) h = (λ m. let p = h .0 a m in omega arith, rising-once l (h .1))
 
-pub rising-append : (s t : List ℕ) → Rising s → Rising t → ((a b : ℕ) → a ∈ s → b ∈ t → a < b) → Rising (s ++ t)
-rising-append [] t hs ht d = ht
-rising-append (a ∷ s) t hs ht d = (
-  λ b m. ⊎-elim (λ h. hs .0 b h) (λ h. d a b (List·Memᴰ·head refl) h) (List·Memᴰ·append-cases s m),
-  rising-append s t (hs .1) ht (λ b c p q. d b c (List·Memᴰ·tail p) q),
-)
-
 -- ---- `numbers` and `upTo`
 pub mem-numbers : (k n : ℕ) {i : ℕ} → i ∈ numbers k n → (k ≤ i) × (i < k + n)
 unfolding numbers
@@ -327,6 +320,13 @@ exactly-each P f n h key =
     }
 
 -- ---- all pairs
+-- below two atoms there is no pair
+pub no-pairs : (n : ℕ) → n < 2 → allPairs n ≡ []
+unfolding inside numbers withEach
+no-pairs zero h = refl
+no-pairs (suc zero) h = refl
+no-pairs (suc (suc n)) h = absurd (omega arith)
+
 pub all-exactly : (n : ℕ) → Exactly (Two n) (allPairs n)
 all-exactly n =
     exactly-as (inside (upTo n)) (exactly-inside (upTo n) (rising-upTo n)) (λ p b. (b .2, mem-upTo n (b .1)))

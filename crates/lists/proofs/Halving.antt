@@ -52,18 +52,6 @@ module _ (q : ℕ → Bool) where
         ∙ sym (halved-down (to - from) from to h e)
         ∙ halved-enough (suc (to - from)) (to - from) from to (omega arith) (omega arith)
 
-  pub halved-most : (f from to : ℕ) → from ≤ to → halved q f from to ≤ to
-  unfolding halved
-  halved-most zero from to h = h
-  halved-most (suc f) from to h =
-      ⊎-elim
-      (λ (l : from < to).
-      ⊎-elim
-      (λ (e : q (middle from to) ≡ true). rw (halved-up f from to l e) (halved-most f (middle from to + 1) to (omega arith)))
-      (λ (e : q (middle from to) ≡ false). let r = halved-most f from (middle from to) (omega arith) in rw (halved-down f from to l e) (omega arith))
-      (true-or-false (q (middle from to))))
-      (λ (l : to ≤ from). rw (halved-stop (suc f) from to l) h) (below-or from to)
-
 -- the test holds below r, and from there up to n it does not
 pub record Split (q : ℕ → Bool) (n r : ℕ) : Type 0 where
   pub most : r ≤ n

@@ -1,11 +1,12 @@
 -- Laws of the loops' definitions: where a loop starts, one turn of it, where it ends. Assumes nothing.
 use mathlib.Core.Path.{_≡_, refl, _∙_, ap}
 use mathlib.Core.List.{List, [], _∷_}
-use Prim.Native.Nat.{ℕ, zero, suc, _+_, _<_}
+use Prim.Native.Nat.{ℕ, zero, suc, _+_, _<_, _≤_}
 use native.Mathlib.Nat.{add-zero, zero-add, not-suc-le-zero}
 use native.Mathlib.Numerals.{add-one}
 use native.Mathlib.Omega.{arith}
-use lib.ListN.{length, getD, set}
+use lib.ListN.{length, getD, set, take}
+use lib.Seq.{length-take-le}
 use Rattle.lists.specs.Loops.{foldUpTo, mapFrom, mapAt, partFrom, partAt}
 
 module _ {A : Type 0} (f : ℕ → A → A) where
@@ -74,3 +75,7 @@ module _ {A : Type 0} (g : ℕ → A → A) (d : A) where
   pub part-none : (l : List A) → l ≡ partAt g 0 l
   unfolding partFrom
   part-none l = refl
+
+-- the front of a room that holds the most there can be
+pub room-front : {A : Type 0} (room : List A) (n : ℕ) {most : ℕ} → length room ≡ most → n ≤ most → length (take n room) ≡ n
+room-front room n big few = length-take-le n room (omega arith)

@@ -1,15 +1,15 @@
 -- A walk through a list from the front, at place i: what is left, `drop i l`, decides. One law a step, over the test. Assumes nothing.
-use mathlib.Core.Path.{_≡_, refl, ap, _∙_}
-use mathlib.Core.Bool.{Bool, true, false, cond}
+use mathlib.Core.Path.{_≡_, refl}
+use mathlib.Core.Bool.{Bool, true, false}
 use mathlib.Core.List.{List, [], _∷_, _++_, foldl}
-use Prim.Native.Nat.{ℕ, zero, suc, _+_, _-_, _*_, _<_, _≤_}
+use Prim.Native.Nat.{ℕ, zero, suc, _+_, _-_, _<_, _≤_}
 use native.Mathlib.Nat.{not-suc-le-zero}
 use native.Mathlib.Numerals.{add-one}
 use native.Mathlib.Omega.{arith}
 use lib.ListN.{length, getD, take, drop, drop-of-length-le, length-drop}
 use lib.Seq.{drop-cons, take-all}
 use Rattle.lists.specs.Lists.{numbers, each, howMany, every, some, firstWhere, ordered, withEach, inside, across}
-use Rattle.lists.proofs.Cases.{by-test, and-both, both-and, or-left, or-right}
+use Rattle.lists.proofs.Cases.{and-both, both-and, or-left, or-right}
 
 -- what is left at i, and at the end
 pub drop-next : {A : Type 0} (d : A) (l : List A) (i : ℕ) → i < length l → drop i l ≡ getD l i d ∷ drop (i + 1) l
@@ -21,22 +21,6 @@ drop-past l i h = drop-of-length-le l h
 -- the rest of a slice, as a part that is lent has it
 pub rest-of : {A : Type 0} (l : List A) (k : ℕ) → take (length l - k) (drop k l) ≡ drop k l
 rest-of l k = take-all (length l - k) (drop k l) (omega (arith, length-drop k l))
-
--- two and three elements at once, as the rows of a table stand
-pub drop-two : {A : Type 0} (d : A) (l : List A) (k : ℕ) → 2 * k + 1 < length l → drop (2 * k) l ≡ getD l (2 * k) d ∷ getD l (2 * k + 1) d ∷ drop (2 * (k + 1)) l
-drop-two {A} d l k h =
-    let e : 2 * (k + 1) ≡ 2 * k + 1 + 1 = omega arith in
-    rw e (drop-next d l (2 * k) (omega arith) ∙ ap (λ (t : List A). getD l (2 * k) d ∷ t) (drop-next d l (2 * k + 1) h))
-
-pub drop-three : {A : Type 0} (d : A) (l : List A) (k : ℕ) → 3 * k + 2 < length l
-    → drop (3 * k) l ≡ getD l (3 * k) d ∷ getD l (3 * k + 1) d ∷ getD l (3 * k + 2) d ∷ drop (3 * (k + 1)) l
-drop-three {A} d l k h =
-    let e : 3 * (k + 1) ≡ 3 * k + 2 + 1 = omega arith in
-    let f : 3 * k + 2 ≡ 3 * k + 1 + 1 = omega arith in
-    rw (e, f)
-    (drop-next d l (3 * k) (omega arith)
-    ∙ ap (λ (t : List A). getD l (3 * k) d ∷ t)
-    (drop-next d l (3 * k + 1) (omega arith) ∙ ap (λ (t : List A). getD l (3 * k + 1) d ∷ t) (drop-next d l (3 * k + 1 + 1) (omega arith))))
 
 -- a read with another default
 pub any-default : {A : Type 0} (l : List A) (k : ℕ) (a b : A) → k < length l → getD l k a ≡ getD l k b
@@ -65,18 +49,6 @@ module _ {A : Type 0} (d : A) (l : List A) (i : ℕ) where
     unfolding every
     every-past h = rw (drop-past l i h)
 
-    pub some-passes : i < length l → p (getD l i d) ≡ true → some p (drop i l) ≡ true
-    unfolding some
-    some-passes h t = rw (drop-next d l i h, t)
-
-    pub some-fails : i < length l → p (getD l i d) ≡ false → some p (drop i l) ≡ some p (drop (i + 1) l)
-    unfolding some
-    some-fails h t = rw (drop-next d l i h, t)
-
-    pub some-past : length l ≤ i → some p (drop i l) ≡ false
-    unfolding some
-    some-past h = rw (drop-past l i h)
-
     pub first-passes : i < length l → p (getD l i d) ≡ true → firstWhere p (drop i l) ≡ 0
     unfolding firstWhere
     first-passes h t = rw (drop-next d l i h, t)
@@ -88,14 +60,6 @@ module _ {A : Type 0} (d : A) (l : List A) (i : ℕ) where
     pub first-past : length l ≤ i → firstWhere p (drop i l) ≡ 0
     unfolding firstWhere
     first-past h = rw (drop-past l i h)
-
-    pub many-passes : i < length l → p (getD l i d) ≡ true → howMany p (drop i l) ≡ suc (howMany p (drop (i + 1) l))
-    unfolding howMany
-    many-passes h t = rw (drop-next d l i h, t)
-
-    pub many-fails : i < length l → p (getD l i d) ≡ false → howMany p (drop i l) ≡ howMany p (drop (i + 1) l)
-    unfolding howMany
-    many-fails h t = rw (drop-next d l i h, t)
 
     pub many-past : length l ≤ i → howMany p (drop i l) ≡ 0
     unfolding howMany
@@ -124,34 +88,6 @@ module _ {A : Type 0} (d : A) (p : A → Bool) where
   unfolding some
   none-at [] h = refl
   none-at (a ∷ l) h = rw (h 0 (omega arith)) (none-at l (λ k lt. h (suc k) (omega arith)))
-
-  first-cons : (b : Bool) (a : A) (l : List A) → p a ≡ b → firstWhere p (a ∷ l) ≡ suc (length l) → (p a ≡ false) × (firstWhere p l ≡ length l)
-  unfolding firstWhere
-  first-cons true a l e h = let z : 0 ≡ suc (length l) = rw e at h in absurd (omega (arith, z))
-  first-cons false a l e h = let z : suc (firstWhere p l) ≡ suc (length l) = rw e at h in (e, omega (arith, z))
-
-  -- where the search finds nothing, the test fails everywhere
-  pub nowhere : (l : List A) → firstWhere p l ≡ length l → (k : ℕ) → k < length l → p (getD l k d) ≡ false
-  nowhere [] h k lt = absurd (not-suc-le-zero lt)
-  nowhere (a ∷ l) h zero lt = first-cons (p a) a l refl h .0
-  nowhere (a ∷ l) h (suc k) lt = nowhere l (first-cons (p a) a l refl h .1) k (omega arith)
-
-  pub first-most : (l : List A) → firstWhere p l ≤ length l
-  unfolding firstWhere
-  first-most [] = omega arith
-  first-most (a ∷ l) =
-      by-test (λ b. cond b 0 (suc (firstWhere p l)) ≤ suc (length l)) (p a) (λ e. omega arith) (λ e. omega (arith, first-most l))
-
-  -- what stands where the search ends
-  pub first-holds : (l : List A) → firstWhere p l < length l → p (getD l (firstWhere p l) d) ≡ true
-  unfolding firstWhere
-  first-holds [] h = absurd (not-suc-le-zero h)
-  first-holds (a ∷ l) h =
-      by-test (λ b. p a ≡ b → cond b 0 (suc (firstWhere p l)) < suc (length l) → p (getD (a ∷ l) (cond b 0 (suc (firstWhere p l))) d) ≡ true) (p a)
-      (λ e q lt. q)
-      (λ e q lt. first-holds l (omega arith))
-      refl
-      h
 
 -- ---- what is left of the numbers below n at k
 pub numbers-next : (n k : ℕ) → k < n → numbers k (n - k) ≡ k ∷ numbers (k + 1) (n - (k + 1))
@@ -195,3 +131,20 @@ module _ (home : List ℕ) (k : ℕ) where
   pub inside-end : length home ≤ k → inside (drop k home) ≡ []
   unfolding inside
   inside-end h = rw (drop-past home k h)
+
+-- the same of numbers: an atom with each later one, all pairs
+pub later-next : (i n k : ℕ) → k < n → withEach i (numbers k (n - k)) ≡ ordered i k ∷ withEach i (numbers (k + 1) (n - (k + 1)))
+unfolding withEach
+later-next i n k h = rw (numbers-next n k h)
+
+pub later-end : (i n k : ℕ) → n ≤ k → withEach i (numbers k (n - k)) ≡ []
+unfolding withEach
+later-end i n k h = rw (numbers-end n k h)
+
+pub pairs-next : (n k : ℕ) → k < n → inside (numbers k (n - k)) ≡ withEach k (numbers (k + 1) (n - (k + 1))) ++ inside (numbers (k + 1) (n - (k + 1)))
+unfolding inside
+pairs-next n k h = rw (numbers-next n k h)
+
+pub pairs-end : (n k : ℕ) → n ≤ k → inside (numbers k (n - k)) ≡ []
+unfolding inside
+pairs-end n k h = rw (numbers-end n k h)

@@ -10,6 +10,7 @@ use lib.Seq.{take-all, length-take-le}
 use lib.Dec.{eqb, ltb}
 use lib.Ieee.{Float, lt, le}
 use borrow.Author.Tests.{lt-ltb, le-ltb, ltb-false, eqb-true, not-true, not-false}
+use Rattle.answer.proofs.Passed.{pass}
 use Rattle.float.specs.Literals.{half}
 use Rattle.answer.specs.declared.Done.{Done}
 use Rattle.answer.specs.declared.Done.the-variants.{Answered, Refused}
@@ -36,14 +37,6 @@ use Rattle.neighbor.specs.Steps.{strayed}
 use Rattle.neighbor.specs.Rebuild.{allowance, needsOf, claimsMore, referencesOk, rangesOk, questionOf, needsSeen, strayedOf}
 use Rattle.neighbor.specs.Update.{lengthsBad, listedOf, firstOf, misnamed, keptAsked, tableAsked, andThen, listAsked}
 
-impossible : {A : Type 0} → _≡_ {A = ℕ} 0 1 → A
-impossible e = absurd (omega arith)
-
--- a test that was passed
-pub pass : (t : Bool) (r : Refusal) (rest : Done) → cond t (Refused r) rest ≡ Answered → (t ≡ false) × (rest ≡ Answered)
-pass true r rest q = impossible (cc)
-pass false r rest q = (refl, q)
-
 -- ---- a search of the numbers below n, one after the other: what is left decides
 pub record Searching (p : ℕ → Bool) (n i : ℕ) : Type 0 where
   pub within : i ≤ n
@@ -66,56 +59,6 @@ module _ (p : ℕ → Bool) (n : ℕ) where
     pub searching-end : n ≤ i → false ≡ some p (upTo n)
     unfolding some
     searching-end l = rw (numbers-end n i l) at (u .same)
-
--- ---- 1, 2, 6, 3 of `needs_rebuild`
-module _ (s : State) (cell : Cell) (xs refs : List Float) where
-  pub question-lengths : (not (eqb (length xs % 3) 0) || ltb (length refs) (length xs)) ≡ true → Refused Lengths ≡ questionOf s cell xs refs
-  unfolding questionOf
-  question-lengths h = rw h
-
-  module _ (h : (not (eqb (length xs % 3) 0) || ltb (length refs) (length xs)) ≡ false) where
-    pub question-many : 16384 < length xs / 3 → Refused (TooMany (length xs / 3)) ≡ questionOf s cell xs refs
-    unfolding questionOf
-    question-many k = rw (h, lt-ltb 16384 (length xs / 3) k)
-
-    module _ (k : length xs / 3 ≤ 16384) {c : Bool} (is : c ≡ claimsMore 0 0 (s .references) (length refs / 3)) where
-      pub question-claims : c ≡ true → Refused Claims ≡ questionOf s cell xs refs
-      unfolding questionOf
-      question-claims e = rw (h, le-ltb 16384 (length xs / 3) k, ← is, e)
-
-      module _ (e : c ≡ false) {a b : Bool} (ia : a ≡ rangesOk s cell xs) (ib : b ≡ referencesOk s (length xs / 3) refs) where
-        pub question-range : not (a && b) ≡ true → Refused Range ≡ questionOf s cell xs refs
-        unfolding questionOf
-        question-range f = rw (h, le-ltb 16384 (length xs / 3) k, ← is, e, ← ia, ← ib, f)
-
-        pub question-fine : not (a && b) ≡ false → Answered ≡ questionOf s cell xs refs
-        unfolding questionOf
-        question-fine f = rw (h, le-ltb 16384 (length xs / 3) k, ← is, e, ← ia, ← ib, f)
-
--- ---- 1, 2, 6, 3 of a build
-module _ (s : State) (cell : Cell) (xs : List Float) (table pairs refs items : ℕ) {b : Bool} (ib : b ≡ lengthsBad (length xs) table refs items) where
-  pub first-lengths : b ≡ true → Refused Lengths ≡ firstOf s cell xs table pairs refs items
-  unfolding firstOf
-  first-lengths h = rw (← ib, h)
-
-  module _ (h : b ≡ false) where
-    pub first-many : 16384 < length xs / 3 → Refused (TooMany (length xs / 3)) ≡ firstOf s cell xs table pairs refs items
-    unfolding firstOf
-    first-many k = rw (← ib, h, lt-ltb 16384 (length xs / 3) k)
-
-    module _ (k : length xs / 3 ≤ 16384) {c : Bool} (is : c ≡ claimsMore (s .pairs) (pairs / 2) (s .references) (refs / 3)) where
-      pub first-claims : c ≡ true → Refused Claims ≡ firstOf s cell xs table pairs refs items
-      unfolding firstOf
-      first-claims e = rw (← ib, h, le-ltb 16384 (length xs / 3) k, ← is, e)
-
-      module _ (e : c ≡ false) {a : Bool} (ia : a ≡ rangesOk s cell xs) where
-        pub first-range : not a ≡ true → Refused Range ≡ firstOf s cell xs table pairs refs items
-        unfolding firstOf
-        first-range f = rw (← ib, h, le-ltb 16384 (length xs / 3) k, ← is, e, ← ia, f)
-
-        pub first-fine : not a ≡ false → Answered ≡ firstOf s cell xs table pairs refs items
-        unfolding firstOf
-        first-fine f = rw (← ib, h, le-ltb 16384 (length xs / 3) k, ← is, e, ← ia, f)
 
 -- ---- 3 and 4 of a list that may be kept
 module _ (s : State) (n : ℕ) (pairs : List ℕ) (refs : List Float) {a : Bool} (ia : a ≡ referencesOk s n refs) where

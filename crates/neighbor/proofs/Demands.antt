@@ -1,8 +1,8 @@
 -- What an answered build lists, said of the exit memory: demand 3. Assumes nothing.
-use Prim.Native.Nat.{ℕ, zero, suc, _/_, _≤_, _<_}
+use Prim.Native.Nat.{ℕ, _/_, _≤_, _<_}
 use mathlib.Core.Path.{_≡_, refl, sym, ap, _∙_}
 use mathlib.Core.Bool.{Bool, true, false, cond, not, _&&_, false≢true}
-use mathlib.Core.List.{List, [], List·Memᴰ·not-nil}
+use mathlib.Core.List.{List, List·Memᴰ·not-nil}
 use mathlib.Core.Logic.{⊎-elim}
 use native.Mathlib.Omega.{arith}
 use lib.ListN.{length}
@@ -14,9 +14,9 @@ use Rattle.answer.specs.declared.Done.{Done}
 use Rattle.answer.specs.declared.Done.the-variants.{Answered, Refused}
 use Rattle.answer.specs.declared.Refusal.the-variants.{Lengths}
 use Rattle.lists.specs.Exact.{Exactly}
-use Rattle.lists.specs.Lists.{allPairs, numbers, inside, withEach, howMany, rows, Two}
+use Rattle.lists.specs.Lists.{howMany, rows, Two}
 use Rattle.lists.proofs.Cases.{by-test, true-or-false}
-use Rattle.lists.proofs.Exactness.{exactly-as}
+use Rattle.lists.proofs.Exactness.{exactly-as, no-pairs}
 use Rattle.cell.specs.declared.Cell.{Cell}
 use Rattle.bins.specs.Stencil.{touching}
 use Rattle.bins.specs.Traversal.{Near}
@@ -27,16 +27,14 @@ use Rattle.exclusions.specs.Table.{isRow}
 use Rattle.neighbor_grid.specs.Grid.{gridOf, cellAt, plainOf, crowded}
 use Rattle.neighbor_grid.specs.Layout.{startsLaid, itemsLaid}
 use Rattle.neighbor_grid.proofs.Layouts.{good-grid, placed}
-use Rattle.neighbor_listing.specs.declared.Listed.{Listed as Told}
 use Rattle.neighbor_listing.specs.declared.Listed.the-variants.{Found, Full, Crowded, Unfit}
 use Rattle.neighbor_listing.specs.Found.{nearOf, sceneOf, candidates, nearPairs, beside, checksOf}
 use Rattle.neighbor_listing.specs.Listed.{Outcome as Found·outcome, outcome, shownOf, runOf, unlisted, listingOf}
-use Rattle.neighbor.specs.declared.State.{State}
 use Rattle.neighbor.specs.declared.Updated.{Updated}
 use Rattle.neighbor.specs.State.{radiusOf, builtOf}
 use Rattle.neighbor.specs.Rebuild.{needsOf}
-use Rattle.neighbor.specs.Update.{Given, Outcome, refusedWith, stays, keptAll, builtAll, fullAll, listedAll, listedBy, rebuiltAll, unfit, updateOf, askedBy, afterOf, updatedOf, UpdateSays}
-use Rattle.neighbor.specs.Listed.{Close, Listed, UpdateLists}
+use Rattle.neighbor.specs.Update.{Given, Outcome, stays, keptAll, builtAll, fullAll, listedAll, listedBy, rebuiltAll, unfit, updateOf, askedBy, afterOf, updatedOf, UpdateSays}
+use Rattle.neighbor.specs.Listed.{Listed, UpdateLists}
 
 -- ---- the listed pairs, of any frame
 module _ (cell : Cell) (r : Float) (xs : List Float) (table : List ℕ) where
@@ -74,13 +72,6 @@ Says i o = o .rebuilt ≡ true → Listed i (o .state) (o .pairs)
 
 never : {A : Type 0} → false ≡ true → A
 never e = absurd (false≢true e)
-
--- below two atoms there is no pair
-no-pairs : (n : ℕ) → n < 2 → allPairs n ≡ []
-unfolding inside numbers withEach
-no-pairs zero h = refl
-no-pairs (suc zero) h = refl
-no-pairs (suc (suc n)) h = absurd (omega arith)
 
 few-lists : (i : Given) → atomsOf (i .positions) < 2 → Says i (builtAll i 0 0 false (i .pairs) (i .starts) (i .items))
 unfolding builtAll builtOf rows howMany

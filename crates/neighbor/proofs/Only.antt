@@ -7,7 +7,6 @@ use lib.Ieee.{Float}
 use Rattle.answer.specs.declared.Done.{Done}
 use Rattle.answer.specs.declared.Number.{Number}
 use Rattle.answer.specs.declared.YesNo.{YesNo}
-use Rattle.answer.specs.Seen.{seenDone}
 use Rattle.answer.proofs.Only.{told-back, made, seen-only, done-only, number-only, yes-no-only}
 use Rattle.cell.specs.declared.Cell.{Cell}
 use Rattle.neighbor.specs.declared.State.{State}

@@ -1,14 +1,12 @@
 -- The outcome of a build and of the calls by their cases, as the code takes them. Assumes nothing.
 use Prim.Native.Nat.{ℕ, _/_, _≤_, _<_}
-use mathlib.Core.Path.{_≡_, refl, sym, _∙_}
-use mathlib.Core.Bool.{Bool, true, false, not, _&&_, _||_}
+use mathlib.Core.Path.{_≡_, sym, _∙_}
+use mathlib.Core.Bool.{Bool, true, false, not, _&&_}
 use mathlib.Core.List.{List}
-use native.Mathlib.Omega.{arith}
 use lib.ListN.{length}
 use lib.Dec.{ltb}
 use lib.Ieee.{Float}
-use borrow.Author.Tests.{lt-ltb, le-ltb, ltb-false, not-true, not-false}
-use Rattle.lists.specs.Atoms.{atomsOf}
+use borrow.Author.Tests.{lt-ltb, le-ltb, ltb-false}
 use Rattle.float.specs.Arith.{at}
 use Rattle.answer.specs.declared.Done.{Done}
 use Rattle.answer.specs.declared.Done.the-variants.{Answered, Refused}
@@ -23,7 +21,7 @@ use Rattle.neighbor.specs.declared.State.{State}
 use Rattle.neighbor.specs.declared.Updated.{Updated}
 use Rattle.neighbor.specs.State.{radiusOf, keptOf, builtOf, emptiedOf}
 use Rattle.neighbor.specs.Rebuild.{needsOf}
-use Rattle.neighbor.specs.Update.{Given, Outcome, shown, stays, keptAll, builtAll, fullAll, listedAll, rebuiltAll, unfit, updateOf, askedBy, afterOf, updatedOf}
+use Rattle.neighbor.specs.Update.{Given, Outcome, shown, keptAll, builtAll, fullAll, listedAll, rebuiltAll, unfit, updateOf, askedBy, afterOf, updatedOf}
 
 -- the references after a build
 abbrev pub referred : Given → List Float

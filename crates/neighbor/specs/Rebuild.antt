@@ -2,7 +2,7 @@
 -- (0.5 × skin)²; equality does not". And what the call `needs_rebuild` answers. Definitions only.
 use Prim.Native.Nat.{ℕ, _/_, _%_, _*_}
 use mathlib.Core.Path.{_≡_}
-use mathlib.Core.Bool.{Bool, true, cond, not, _&&_, _||_}
+use mathlib.Core.Bool.{Bool, cond, not, _&&_, _||_}
 use mathlib.Core.List.{List}
 use lib.ListN.{length, take}
 use lib.Dec.{eqb, ltb}
@@ -47,13 +47,17 @@ referencesOk s n refs = not (eqb (s .references) n) || every (within entryLimit)
 unfoldable pub rangesOk : State → Cell → List Float → Bool
 rangesOk s cell xs = settingsOk (s .cutoff) (s .skin) && cellInRange cell && every (within entryLimit) xs
 
+-- 01: "Tested in number order, but 6 right after 2": 1, 2, 6, 3, each by whether it is to be given
+abbrev pub inOrder : (lengths many : Bool) → (atoms : ℕ) → (claims range : Bool) → Done
+inOrder lengths many atoms claims range =
+    cond lengths (Refused Lengths) (cond many (Refused (TooMany atoms)) (cond claims (Refused Claims) (cond range (Refused Range) Answered)))
+
 -- 1 (positions no multiple of 3, references shorter than positions), 2, 6, 3
 unfoldable pub questionOf : State → Cell → List Float → List Float → Done
 questionOf s cell xs refs =
-    cond (not (eqb (length xs % 3) 0) || ltb (length refs) (length xs)) (Refused Lengths)
-    (cond (ltb mostAtoms (atomsOf xs)) (Refused (TooMany (atomsOf xs)))
-    (cond (claimsMore 0 0 (s .references) (length refs / 3)) (Refused Claims)
-    (cond (not (rangesOk s cell xs && referencesOk s (atomsOf xs) refs)) (Refused Range) Answered)))
+    inOrder (not (eqb (length xs % 3) 0) || ltb (length refs) (length xs)) (ltb mostAtoms (atomsOf xs)) (atomsOf xs)
+    (claimsMore 0 0 (s .references) (length refs / 3))
+    (not (rangesOk s cell xs && referencesOk s (atomsOf xs) refs))
 
 unfoldable pub needsSeen : State → Cell → List Float → List Float → Done → Seen Bool
 needsSeen s cell xs refs (Refused r) = refusedBy r

@@ -25,7 +25,7 @@ use Rattle.neighbor_listing.specs.Listed as List·specs
 use Rattle.neighbor.specs.declared.State.{State}
 use Rattle.neighbor.specs.declared.Updated.{Updated}
 use Rattle.neighbor.specs.State.{radiusOf, keptOf, builtOf, emptiedOf}
-use Rattle.neighbor.specs.Rebuild.{needsOf, claimsMore, referencesOk, rangesOk}
+use Rattle.neighbor.specs.Rebuild.{needsOf, claimsMore, referencesOk, rangesOk, inOrder}
 
 -- everything that a build is given; the last four are lent to be written
 pub record Given : Type 0 where
@@ -156,10 +156,9 @@ listedOf s pairs = cond (ltb (length pairs / 2) (s .pairs)) [] (take (2 * s .pai
 -- 1, 2, 6, 3 of every build; `table`, `pairs`, `refs` and `items` are lengths
 unfoldable pub firstOf : State → Cell → List Float → ℕ → ℕ → ℕ → ℕ → Done
 firstOf s cell xs table pairs refs items =
-    cond (lengthsBad (length xs) table refs items) (Done·cases.Refused Lengths)
-    (cond (ltb mostAtoms (atomsOf xs)) (Done·cases.Refused (TooMany (atomsOf xs)))
-    (cond (claimsMore (s .pairs) (pairs / 2) (s .references) (refs / 3)) (Done·cases.Refused Claims)
-    (cond (not (rangesOk s cell xs)) (Done·cases.Refused Range) Done·cases.Answered)))
+    inOrder (lengthsBad (length xs) table refs items) (ltb mostAtoms (atomsOf xs)) (atomsOf xs)
+    (claimsMore (s .pairs) (pairs / 2) (s .references) (refs / 3))
+    (not (rangesOk s cell xs))
 
 -- 4: an old listed pair names an atom not there, "only where the state's references equal n"
 unfoldable pub misnamed : State → ℕ → List ℕ → Bool

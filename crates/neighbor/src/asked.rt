@@ -13,7 +13,7 @@ ghost use Rattle.lists.specs.Lists.{every};
 ghost use Rattle.ranges.specs.Ranged.{within};
 ghost use Rattle.cell.specs.Ranged.{entryLimit};
 ghost use Rattle.neighbor.specs.State.{settingsOk};
-ghost use Rattle.neighbor.specs.Rebuild.{claimsMore, referencesOk, rangesOk, questionOf};
+ghost use Rattle.neighbor.specs.Rebuild.{claimsMore, referencesOk, rangesOk, inOrder, questionOf};
 ghost use Rattle.answer.specs.declared.Done.the-variants.{Answered};
 ghost use Rattle.neighbor.specs.Update.{lengthsBad, firstOf, keptAsked, tableAsked, andThen, listAsked};
 
@@ -74,24 +74,39 @@ fn references_ok(s: State, n: usize, refs: &[f64]) -> bool
     first_within(refs, s.references)
 }
 
+// The first refusal of 1, 2, 6, 3.
+fn in_order(lengths: bool, many: bool, atoms: usize, claims: bool, range: bool) -> Done
+    ensures { λ r. ⌜ r ≡ inOrder lengths many atoms claims range ⌝ }
+{
+    if lengths {
+        return Done::Refused(Refusal::Lengths);
+    }
+    if many {
+        return Done::Refused(Refusal::TooMany { atoms: atoms });
+    }
+    if claims {
+        return Done::Refused(Refusal::Claims);
+    }
+    if range {
+        return Done::Refused(Refusal::Range);
+    }
+    Done::Answered
+}
+
 // Refusals 1, 2, 6, 3 of `needs_rebuild`.
 pub(crate) fn question(s: State, cell: Cell, xs: &[f64], refs: &[f64]) -> Done
     ensures { λ r. ⌜ r ≡ questionOf s cell (now (xs .entry)) (now (refs .entry)) ⌝ }
 {
     let n = xs.len() / 3;
-    if (xs.len() % 3 != 0) | (refs.len() < xs.len()) {
-        return Done::Refused(Refusal::Lengths);
-    }
-    if 16384 < n {
-        return Done::Refused(Refusal::TooMany { atoms: n });
-    }
-    if claims_more(0, 0, s.references, refs.len() / 3) {
-        return Done::Refused(Refusal::Claims);
-    }
-    if !(ranges_ok(s, cell, xs) & references_ok(s, n, refs)) {
-        return Done::Refused(Refusal::Range);
-    }
-    Done::Answered
+    let claims = claims_more(0, 0, s.references, refs.len() / 3);
+    let inside = ranges_ok(s, cell, xs) & references_ok(s, n, refs);
+    in_order(
+        (xs.len() % 3 != 0) | (refs.len() < xs.len()),
+        16384 < n,
+        n,
+        claims,
+        !inside,
+    )
 }
 
 // Refusals 1, 2, 6, 3 of a build: what is asked whether or not the list may be kept.
@@ -107,19 +122,10 @@ pub fn asked_first(
     ensures { λ r. ⌜ r ≡ firstOf s cell (now (xs .entry)) table pairs refs items ⌝ }
 {
     let n = xs.len() / 3;
-    if lengths_bad(xs.len(), table, refs, items) {
-        return Done::Refused(Refusal::Lengths);
-    }
-    if 16384 < n {
-        return Done::Refused(Refusal::TooMany { atoms: n });
-    }
-    if claims_more(s.pairs, pairs / 2, s.references, refs / 3) {
-        return Done::Refused(Refusal::Claims);
-    }
-    if !ranges_ok(s, cell, xs) {
-        return Done::Refused(Refusal::Range);
-    }
-    Done::Answered
+    let lengths = lengths_bad(xs.len(), table, refs, items);
+    let claims = claims_more(s.pairs, pairs / 2, s.references, refs / 3);
+    let inside = ranges_ok(s, cell, xs);
+    in_order(lengths, 16384 < n, n, claims, !inside)
 }
 
 // Refusals 3 and 4 of a list that may be kept.

@@ -4,7 +4,7 @@ use crate::Updated;
 use answer::Done;
 use answer::Refusal;
 ghost use mathlib.Core.Path.{_≡_};
-ghost use mathlib.Core.Bool.{true, false};
+ghost use mathlib.Core.Bool.{false};
 ghost use Rattle.answer.specs.declared.Done.the-variants.{Refused};
 ghost use Rattle.answer.specs.declared.Refusal.the-variants.{Room};
 ghost use Rattle.neighbor.specs.State.{freshOf, skinOf, radiusOf, keptOf, builtOf, emptiedOf};

@@ -1,18 +1,17 @@
 -- The grid is good where it is laid, each atom has a cell of it, and what `lay` answers and leaves, by its cases. Assumes nothing.
 use Prim.Native.Nat.{ℕ, _+_, _≤_, _<_}
 use mathlib.Core.Path.{_≡_, refl, sym, ap, _∙_}
-use mathlib.Core.Bool.{Bool, true, false, cond, not, _&&_, _||_, false≢true}
+use mathlib.Core.Bool.{Bool, true, false, cond, not, _&&_, _||_}
 use mathlib.Core.List.{List, _++_}
-use native.Mathlib.Omega.{arith}
 use lib.ListN.{length, drop}
 use lib.Dec.{ltb, leb}
 use lib.Ieee.{Float, le}
-use borrow.Author.Tests.{ltb-false, leb-false, le-ltb}
+use borrow.Author.Tests.{ltb-false, leb-false}
 use Rattle.cell.specs.Vec.{positionAt}
 use Rattle.lists.specs.Atoms.{atomsOf}
 use Rattle.float.specs.Arith.{bits}
 use Rattle.lists.specs.Lists.{rows}
-use Rattle.lists.proofs.Cases.{or-neither, neither-or}
+use Rattle.lists.proofs.Cases.{or-neither, impossible}
 use Rattle.cell.specs.declared.Cell.{Cell}
 use Rattle.cell.specs.declared.Cell.the-variants.{Absent, Present}
 use Rattle.bins.specs.declared.Axis.{Axis}
@@ -24,11 +23,12 @@ use Rattle.bins.specs.Traversal.{Placed, bin}
 use Rattle.bins.specs.Sort.{atomsIn, startsOf, itemsOf}
 use Rattle.bins.proofs.Parts.{cell-part}
 use Rattle.candidates.specs.Checks.{rowsTouching}
+use Rattle.bins.proofs.Plans.{planned-plain, planned-many, planned-laid}
 use Rattle.neighbor_grid.specs.declared.Layout.{Layout}
 use Rattle.neighbor_grid.specs.declared.Layout.the-variants as to
 use Rattle.neighbor_grid.specs.declared.measuring.Measure.{Measure}
-use Rattle.neighbor_grid.specs.declared.planning.Plan.{Plan}
-use Rattle.neighbor_grid.specs.declared.planning.Plan.the-variants.{AllPairs, TooMany, Laid}
+use Rattle.bins.specs.declared.Plan.{Plan}
+use Rattle.bins.specs.declared.Plan.the-variants.{AllPairs, TooMany, Laid}
 use Rattle.neighbor_grid.specs.Grid.{gridBy, gridOf, cellAt, narrow, plainBy, noInverse, plainOf, crowdedBy, crowded, homeAt, relativeOf}
 use Rattle.neighbor_grid.specs.Layout.{unfitOf, touchingRows, layoutOf, laidFor, startsLaid, itemsLaid, startsAfter, itemsAfter}
 use Rattle.neighbor_grid.specs.Steps.{measureOf, planOf, Some, Small, cellBy, placeBy}
@@ -69,9 +69,6 @@ module _ (cell : Cell) (r : Float) (xs : List Float) where
       (drop (atomsOf xs) items) es ei c k
 
 -- ---- a layout by its tests
-impossible : {A : Type 0} → _≡_ {A = ℕ} 0 1 → A
-impossible e = absurd (omega arith)
-
 module _ (g h : Grid) (t : ℕ) where
   shown-unfit : (u a b : Bool) → cond u to.Unfit (cond a to.AllPairs (cond b to.TooMany (to.Laid g t))) ≡ to.Unfit → u ≡ true
   shown-unfit true a b e = refl
@@ -102,22 +99,6 @@ never-both : (u : Bool) → not u && false ≡ false
 never-both true = refl
 never-both false = refl
 
--- a plan by its tests
-plan-plain : (a b : Bool) (g : Grid) → cond a AllPairs (cond b TooMany (Laid g)) ≡ AllPairs → a ≡ true
-plan-plain true b g e = refl
-plan-plain false true g e = impossible (cc)
-plan-plain false false g e = impossible (cc)
-
-plan-many : (a b : Bool) (g : Grid) → cond a AllPairs (cond b TooMany (Laid g)) ≡ TooMany → (a ≡ false) × (b ≡ true)
-plan-many true b g e = impossible (cc)
-plan-many false true g e = (refl, refl)
-plan-many false false g e = impossible (cc)
-
-plan-laid : (a b : Bool) (g h : Grid) → cond a AllPairs (cond b TooMany (Laid g)) ≡ Laid h → (a ≡ false) × (b ≡ false) × (h ≡ g)
-plan-laid true b g h e = impossible (cc)
-plan-laid false true g h e = impossible (cc)
-plan-laid false false g h e = (refl, refl, cc)
-
 module _ (cell : Cell) (r : Float) (xs : List Float) (table starts items : List ℕ) {o : Layout} (is : o ≡ layoutOf cell r xs table (length starts) (length items)) where
   pub is-unfit : o ≡ to.Unfit → unfitOf xs (length items) ≡ true
   unfolding layoutOf
@@ -132,11 +113,6 @@ module _ (cell : Cell) (r : Float) (xs : List Float) (table starts items : List 
   is-crowded e =
       let q = shown-crowded (gridOf cell r xs) (gridOf cell r xs) (touchingRows cell r xs table) (unfitOf xs (length items)) (plainOf cell r xs) (crowded cell r xs (length starts)) (sym is ∙ e) in
       (q .1, q .2)
-
-  -- few enough atoms, and room for them: what the caller has tested
-  pub never-unfit : atomsOf xs ≤ 16384 → atomsOf xs ≤ length items → o ≡ to.Unfit → ⊥
-  unfolding unfitOf
-  never-unfit few room e = false≢true (sym (neither-or _ _ (le-ltb 16384 (atomsOf xs) few) (le-ltb (length items) (atomsOf xs) room)) ∙ is-unfit e)
 
   -- where no grid is laid the tables stay
   stay : laidFor cell r xs (length starts) (length items) ≡ false → (startsAfter cell r xs starts items ≡ starts) × (itemsAfter cell r xs starts items ≡ items)
@@ -175,12 +151,6 @@ module _ (cell : Cell) (r : Float) (xs : List Float) (table starts items : List 
     unfolding itemsAfter
     items-laid = rw laid-for
 
-    pub laid-within : (cells g ≤ 32768) × (cells g < length starts)
-    unfolding crowdedBy
-    laid-within =
-        let q = or-neither (ltb 32768 (cells (gridOf cell r xs))) (leb (length starts) (cells (gridOf cell r xs))) (shown .2) in
-        rw (shown .3) (ltb-false 32768 (cells (gridOf cell r xs)) (q .0), leb-false (length starts) (cells (gridOf cell r xs)) (q .1))
-
     -- what `lay` leaves hands out each cell's atoms
     pub laid-part : {s i : List ℕ} → s ≡ startsAfter cell r xs starts items → i ≡ itemsAfter cell r xs starts items
         → (c : Home) → InGrid g c → atomsIn (flatten g c) s i ≡ bin (atomsOf xs) (cellAt cell r xs) c
@@ -214,18 +184,18 @@ module _ {cell : Cell} {r : Float} {xs : List Float} {starts items : List ℕ} {
   pub lay-plain : (table : List ℕ) → p ≡ AllPairs → Says cell r xs table starts items to.AllPairs starts items
   unfolding layoutOf startsAfter itemsAfter laidFor unfitOf
   lay-plain table e =
-      let q = plan-plain (plainOf cell r xs) (crowded cell r xs (length starts)) (gridOf cell r xs) (sym planned ∙ e) in
+      let q = planned-plain (plainOf cell r xs) (crowded cell r xs (length starts)) (gridOf cell r xs) (sym planned ∙ e) in
       (rw (h .fit, q), (rw (h .fit, q), rw (h .fit, q)))
 
   pub lay-crowded : (table : List ℕ) → p ≡ TooMany → Says cell r xs table starts items to.TooMany starts items
   unfolding layoutOf startsAfter itemsAfter laidFor unfitOf
   lay-crowded table e =
-      let q = plan-many (plainOf cell r xs) (crowded cell r xs (length starts)) (gridOf cell r xs) (sym planned ∙ e) in
+      let q = planned-many (plainOf cell r xs) (crowded cell r xs (length starts)) (gridOf cell r xs) (sym planned ∙ e) in
       (rw (h .fit, q .0, q .1), (rw (h .fit, q .0, q .1), rw (h .fit, q .0, q .1)))
 
   module _ {g : Grid} (e : p ≡ Laid g) where
     laid : (plainOf cell r xs ≡ false) × (crowded cell r xs (length starts) ≡ false) × (g ≡ gridOf cell r xs)
-    laid = plan-laid (plainOf cell r xs) (crowded cell r xs (length starts)) (gridOf cell r xs) g (sym planned ∙ e)
+    laid = planned-laid (plainOf cell r xs) (crowded cell r xs (length starts)) (gridOf cell r xs) g (sym planned ∙ e)
 
     within : (ltb 32768 (cells (gridOf cell r xs)) ≡ false) × (leb (length starts) (cells (gridOf cell r xs)) ≡ false)
     unfolding crowdedBy

@@ -1,4 +1,3 @@
-pub mod Tables
 pub mod Sizes
 pub mod Plans
 pub mod Loops

@@ -11,7 +11,7 @@ use Rattle.cell.specs.declared.Cell.{Cell}
 use Rattle.cell.specs.declared.Cell.the-variants.{Absent, Present}
 use Rattle.cell.specs.Matrix.{timesOf}
 use Rattle.bins.specs.declared.Grid.{Grid}
-use Rattle.neighbor_grid.specs.declared.planning.Plan.the-variants.{AllPairs, TooMany, Laid}
+use Rattle.bins.specs.declared.Plan.the-variants.{AllPairs, TooMany, Laid}
 use Rattle.neighbor_grid.specs.Grid.{gridOf, cellIn, cellAt, noInverse, plainBy, plainOf, crowded, relativeOf}
 use Rattle.neighbor_grid.specs.Steps.{rulerOf, fractionBy, measureOf, gridIn, planSizes, planOf, cellBy}
 

@@ -13,8 +13,8 @@ use Rattle.lists.proofs.Cases.{or-cases, or-neither}
 use Rattle.bins.specs.declared.Grid.{Grid}
 use Rattle.bins.specs.Stencil.{cells}
 use Rattle.neighbor_grid.specs.declared.measuring.Measure.{Measure}
-use Rattle.neighbor_grid.specs.declared.planning.Plan.{Plan}
-use Rattle.neighbor_grid.specs.declared.planning.Plan.the-variants.{AllPairs, TooMany, Laid}
+use Rattle.bins.specs.declared.Plan.{Plan}
+use Rattle.bins.specs.declared.Plan.the-variants.{AllPairs, TooMany, Laid}
 use Rattle.neighbor_grid.specs.Grid.{binsIn, sizeOf, gridBy, narrow, plainBy, crowdedBy}
 use Rattle.neighbor_grid.specs.Steps.{sized, planSizes, planOf}
 

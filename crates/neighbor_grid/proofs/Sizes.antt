@@ -1,5 +1,5 @@
 -- The number of bins on an axis, from a signed number, and the bin of a fraction. Assumes nothing.
-use Prim.Native.Nat.{ℕ, _-_, _≤_, _<_}
+use Prim.Native.Nat.{ℕ, _≤_, _<_}
 use mathlib.Core.Path.{_≡_, refl, ap, _∙_}
 use mathlib.Core.Bool.{true, false}
 use mathlib.Core.List.{List}
@@ -13,6 +13,7 @@ use borrow.Author.Tests.{ltb-true, ltb-false}
 use mir.Syntax.{w64}
 use mir.Val.{SFits, toZ, ofZ}
 use mir.Facts.{toZ-ofZ}
+use Rattle.lists.proofs.Cases.{impossible}
 use Rattle.cell.specs.Vec.{positionAt}
 use Rattle.lists.specs.Atoms.{atomsOf}
 use Rattle.lists.specs.Loops.{mapAt}
@@ -24,7 +25,7 @@ use Rattle.bins.proofs.FlatLaws.{flatten-less}
 use Rattle.neighbor_grid.specs.declared.measuring.Ruler.{Ruler}
 use Rattle.neighbor_grid.specs.Grid.{binsIn, sizeOf, binOf, cellIn}
 use Rattle.neighbor_grid.specs.Steps.{Some, Small, fractionBy, cellBy, placeBy}
-use Rattle.neighbor_grid.proofs.Tables.{Filled}
+use Rattle.bins.proofs.Tables.{Filled}
 
 pub size-some : (d : ℤ) → 1 ≤ sizeOf d
 unfolding sizeOf
@@ -40,7 +41,7 @@ below-one (negsuc n) h = refl
 from-one : (d : ℤ) → ltZ d (pos 1) ≡ false → d ≡ pos (sizeOf d)
 unfolding sizeOf
 from-one (pos n) h = let z : 1 ≤ n = ltb-false n 1 h in ap pos (omega arith)
-from-one (negsuc n) h = absurd (let z : _≡_ {A = ℕ} 0 1 = cc in omega arith)
+from-one (negsuc n) h = impossible (cc)
 
 module _ (d : ℤ) (fits : SFits w64 d) where
   pub size-one : ltZ (toZ w64 (ofZ w64 d)) (pos 1) ≡ true → 1 ≡ sizeOf d

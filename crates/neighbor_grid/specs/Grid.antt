@@ -1,13 +1,12 @@
 -- The grid of a float frame and each atom's cell in it: neighbor.rs, `Grid::build` (276-337) and `index`, in the source's order, on every float. Definitions only.
-use Prim.Native.Nat.{ℕ, _+_, _-_, _*_, _/_, min, max}
+use Prim.Native.Nat.{ℕ, _-_, min, max}
 use mathlib.Core.List.{List}
 use mathlib.Core.Bool.{Bool, true, false, _&&_, _||_}
-use lib.ListN.{length}
 use lib.Dec.{ltb, leb}
 use lib.IntN.{ℤ, pos, negsuc}
 use lib.Ieee.{Float, inf, binary64, le, ofInt, toSigned, toUnsigned}
 use Rattle.lists.specs.Atoms.{atomsOf}
-use Rattle.float.specs.Arith.{_⊖_, _⊗_, _⊘_, bits, at}
+use Rattle.float.specs.Arith.{_⊖_, _⊗_, _⊘_, bits}
 use Rattle.float.specs.Def.{minOf, maxOf, clampOf, remEuclidOf, floorOf}
 use Rattle.lists.specs.Loops.{foldUpTo}
 use Rattle.cell.specs.declared.Vec3.{Vec3}

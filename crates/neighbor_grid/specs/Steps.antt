@@ -19,8 +19,8 @@ use Rattle.neighbor_grid.specs.declared.measuring.Bounds.{Bounds}
 use Rattle.neighbor_grid.specs.declared.measuring.Ruler.{Ruler}
 use Rattle.neighbor_grid.specs.declared.measuring.Ruler.the-variants.{Folded, Boxed}
 use Rattle.neighbor_grid.specs.declared.measuring.Measure.{Measure}
-use Rattle.neighbor_grid.specs.declared.planning.Plan.{Plan}
-use Rattle.neighbor_grid.specs.declared.planning.Plan.the-variants.{AllPairs, TooMany, Laid}
+use Rattle.bins.specs.declared.Plan.{Plan}
+use Rattle.bins.specs.declared.Plan.the-variants.{AllPairs, TooMany, Laid}
 use Rattle.neighbor_grid.specs.Grid.{lowOf, highOf, extentOf, slight, gridBy, foldedOf, boxedOf, cellIn, plainBy, crowdedBy}
 
 abbrev pub boundsOf : List Float → Bounds

@@ -5,10 +5,10 @@ mod measuring;
 mod planning;
 
 use bins::Grid;
+use bins::Plan;
 use cell::Cell;
 use laying::place;
 use measuring::measure_of;
-use planning::Plan;
 use planning::plan_of;
 ghost use mathlib.Core.Path.{_≡_};
 ghost use lib.ListN.{length};

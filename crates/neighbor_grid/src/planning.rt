@@ -2,19 +2,13 @@
 use crate::measuring::Measure;
 use bins::Axis;
 use bins::Grid;
+use bins::Plan;
 ghost use mathlib.Core.Path.{_≡_};
-ghost use Prim.Native.Nat.{_*_, _≤_, _<_};
+ghost use Prim.Native.Nat.{_≤_};
 ghost use lib.Dec.{ltb};
 ghost use mathlib.Core.Bool.{_||_};
 ghost use Rattle.neighbor_grid.specs.Grid.{binsIn, sizeOf, narrow};
 ghost use Rattle.neighbor_grid.specs.Steps.{sized, planSizes, planOf};
-
-// How the pairs are to be found.
-pub enum Plan {
-    AllPairs,
-    TooMany,
-    Laid(Grid),
-}
 
 fn bins_in(width: f64, r: f64) -> i64
     ensures { λ d. ⌜ d ≡ binsIn width r ⌝ }

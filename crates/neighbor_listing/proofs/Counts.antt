@@ -1,20 +1,18 @@
 -- A run that has ended gives the numbers and the memory that the outcome names. Assumes nothing.
 use Prim.Native.Nat.{ℕ, _+_, _-_, _/_, _≤_, _<_}
-use mathlib.Core.Path.{_≡_, refl, sym, ap, _∙_}
-use mathlib.Core.Bool.{Bool, true, false, not, _&&_}
+use mathlib.Core.Path.{_≡_, sym, ap, _∙_}
+use mathlib.Core.Bool.{Bool, true, false}
 use mathlib.Core.List.{List}
 use native.Mathlib.Omega.{arith}
 use lib.ListN.{length}
 use lib.Ieee.{Float, le}
 use Rattle.lists.specs.Atoms.{atomsOf}
 use Rattle.float.specs.Arith.{_⊗_}
-use Rattle.lists.specs.Lists.{howMany, allPairs, rows}
+use Rattle.lists.specs.Lists.{allPairs, rows}
 use Rattle.lists.proofs.Exactness.{length-keep}
 use Rattle.cell.specs.declared.Cell.{Cell}
-use Rattle.cell.specs.declared.Vec3.{Vec3}
 use Rattle.cell.specs.declared.Image.{Image}
 use Rattle.cell.specs.Vec.{subOf, norm2Of, positionAt}
-use Rattle.cell_prepared.specs.Facts.{prepareOf, imageIn}
 use Rattle.cell_prepared.proofs.Law.{prepared-image}
 use Rattle.bins.specs.declared.Tally.{Tally}
 use Rattle.bins.specs.Stencil.{GoodGrid}
@@ -27,7 +25,7 @@ use Rattle.bins.proofs.TraversalLaws.{bin-less}
 use Rattle.candidates.proofs.Runs.{Ended, ended}
 use Rattle.candidates.specs.Checks.{rowsBelow, rowsTouching}
 use Rattle.candidates.proofs.Counted.{plain-less, binned-less}
-use Rattle.exclusions.specs.Table.{isTable, isRow}
+use Rattle.exclusions.specs.Table.{isTable}
 use Rattle.neighbor_grid.specs.Grid.{gridOf, cellAt, plainOf}
 use Rattle.neighbor_listing.specs.declared.sight.Sight.{Sight}
 use Rattle.neighbor_listing.specs.Found.{nearOf, sceneOf, candidates, nearPairs, beside, checksOf}

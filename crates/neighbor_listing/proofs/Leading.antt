@@ -1,6 +1,6 @@
 -- Where each low atom's exclusion rows begin: the loop that finds it, and the lookup from there. Assumes nothing.
-use Prim.Native.Nat.{ℕ, suc, _+_, _*_, _/_, _≤_, _<_}
-use mathlib.Core.Path.{_≡_, refl, sym, ap, _∙_}
+use Prim.Native.Nat.{ℕ, _+_, _*_, _/_, _≤_, _<_}
+use mathlib.Core.Path.{_≡_, refl, sym, _∙_}
 use mathlib.Core.Logic.{⊎-elim}
 use mathlib.Core.Bool.{true}
 use mathlib.Core.List.{List, _++_}
@@ -10,6 +10,7 @@ use lib.ListN.{length, getD, set, take, drop, length-set, length-append, List·g
 use lib.Seq.{getD-set-same, getD-set-other, take-at, length-take-le}
 use borrow.Author.Tests.{lt-ltb}
 use Rattle.lists.specs.Lists.{rows}
+use Rattle.lists.proofs.Loops.{room-front}
 use Rattle.lists.proofs.Cases.{below-or, below-or-is, or-left}
 use Rattle.exclusions.specs.Table.{before, isTable, isRow, rowAt}
 use Rattle.exclusions.proofs.Search.{looked-from}
@@ -69,7 +70,7 @@ looked-in t f h w low high =
 -- ---- the first n of the room, filled
 module _ (room : List ℕ) (n : ℕ) (big : length room ≡ 16384) (few : n ≤ 16384) {t done : List ℕ} (w : Firsts t done) (same : length done ≡ length (take n room)) where
   done-long : length done ≡ n
-  done-long = same ∙ length-take-le n room (omega arith)
+  done-long = same ∙ room-front room n big few
 
   pub firsts-part : Firsts t (take n (done ++ drop n room))
   firsts-part = rw (take-at done (drop n room) n done-long) w

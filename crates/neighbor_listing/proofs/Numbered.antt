@@ -3,13 +3,12 @@ use Prim.Native.Nat.{ℕ, suc, _+_, _<_, _≤_}
 use mathlib.Core.Path.{_≡_, refl, sym, ap, _∙_}
 use mathlib.Core.List.{List, [], _∷_, _++_}
 use native.Mathlib.Omega.{arith}
-use native.Mathlib.Nat.{zero-add}
 use native.Mathlib.Numerals.{add-one}
 use lib.ListN.{length, set, take, drop, length-set, length-append}
-use lib.Seq.{take-at, length-take-le}
-use Rattle.lists.specs.Lists.{numbers, upTo, inside, allPairs}
+use lib.Seq.{take-at}
+use Rattle.lists.specs.Lists.{numbers, upTo}
 use Rattle.lists.specs.Loops.{mapFrom, partAt}
-use Rattle.lists.proofs.Loops.{part-none, part-turn, part-done}
+use Rattle.lists.proofs.Loops.{part-none, part-turn, part-done, room-front}
 use Rattle.lists.proofs.Exactness.{numbers-at, length-upTo}
 use Rattle.bins.specs.Listing.{Below}
 
@@ -36,12 +35,9 @@ module _ (start now : List ℕ) (k : ℕ) (u : Numbering start now k) where
 
 -- the first n of the room, numbered
 module _ (room : List ℕ) (n : ℕ) (big : length room ≡ 16384) (few : n ≤ 16384) where
-  pub front-long : length (take n room) ≡ n
-  front-long = length-take-le n room (omega arith)
-
   module _ {done : List ℕ} (are : done ≡ upTo (length (take n room))) where
     done-is : done ≡ upTo n
-    done-is = are ∙ ap upTo front-long
+    done-is = are ∙ ap upTo (room-front room n big few)
 
     done-long : length done ≡ n
     done-long = ap length done-is ∙ length-upTo n

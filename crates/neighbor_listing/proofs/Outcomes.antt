@@ -1,23 +1,22 @@
 -- The outcome of `list` by its cases, as the code takes them. Assumes nothing.
 use Prim.Native.Nat.{ℕ, _/_, _≤_}
 use mathlib.Core.Path.{_≡_, refl, sym, _∙_}
-use mathlib.Core.Bool.{Bool, true, false, cond, not, _||_}
+use mathlib.Core.Bool.{Bool, true, false, cond, not}
 use mathlib.Core.List.{List}
-use native.Mathlib.Omega.{arith}
 use lib.ListN.{length}
 use lib.Dec.{ltb}
 use lib.Ieee.{Float}
 use borrow.Author.Tests.{ltb-false, not-true, not-false}
 use Rattle.lists.specs.Atoms.{atomsOf}
 use Rattle.lists.specs.Lists.{rows}
-use Rattle.lists.proofs.Cases.{or-neither, or-right}
+use Rattle.lists.proofs.Cases.{or-neither, or-right, impossible}
 use Rattle.cell.specs.declared.Cell.{Cell}
 use Rattle.bins.specs.declared.Grid.{Grid}
 use Rattle.bins.specs.Listing.{laidOf}
 use Rattle.exclusions.specs.Table.{isTable}
 use Rattle.neighbor_grid.specs.declared.Layout.{Layout}
 use Rattle.neighbor_grid.specs.declared.Layout.the-variants as to
-use Rattle.neighbor_grid.specs.Grid.{plainOf, crowded}
+use Rattle.neighbor_grid.specs.Grid.{plainOf}
 use Rattle.neighbor_grid.specs.Layout.{unfitOf, layoutOf, startsAfter, itemsAfter}
 use Rattle.neighbor_grid.proofs.Layouts.{is-unfit, is-plain, is-crowded, is-laid, unfit-stays, plain-stays, crowded-stays, starts-laid, items-laid, laid-part}
 use Rattle.neighbor_listing.specs.declared.Listed.{Listed}
@@ -25,9 +24,6 @@ use Rattle.neighbor_listing.specs.declared.Listed.the-variants.{Crowded,
 use Rattle.neighbor_listing.specs.Found.{nearPairs, checksOf}
 use Rattle.neighbor_listing.specs.Listed.{outcome, shownOf, runOf, unlisted, listingOf}
 use Rattle.neighbor_listing.specs.Steps.{Gridded}
-
-impossible : {A : Type 0} → _≡_ {A = ℕ} 0 1 → A
-impossible e = absurd (omega arith)
 
 -- a layout that is not `Unfit`
 fitting : (t : Bool) (rest o : Layout) → o ≡ cond t to.Unfit rest → (o ≡ to.Unfit → ⊥) → t ≡ false

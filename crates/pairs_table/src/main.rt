@@ -31,7 +31,7 @@ fn print_all(s: &[u8], out: &mut [u8]) {
 }
 
 fn main() {
-    let mut input = [0u8; 262144];
+    let mut input = [0u8; 524288];
     let mut out = [0u8; 90133];
     let got = io::read_full(STDIN_FILENO, &mut input);
     print_all(&input[..got], &mut out);

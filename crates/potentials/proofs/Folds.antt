@@ -1,6 +1,6 @@
 -- A loop over pairs under way: what is left gives what all gave from the start. Over the rows of a table, over the numbers below m, over numbers that stand for pairs, over an atom's later partners, over all pairs. Assumes nothing.
 use mathlib.Core.Path.{_≡_, refl, sym, ap, ap₂, _∙_}
-use mathlib.Core.List.{List, [], _∷_, _++_, foldl, foldl-append}
+use mathlib.Core.List.{List, _∷_, foldl, foldl-append}
 use Prim.Native.Nat.{ℕ, _+_, _-_, _*_, _/_, _<_, _≤_}
 use native.Mathlib.Nat.{zero-add, sub-zero}
 use native.Mathlib.Omega.{arith}
@@ -8,7 +8,7 @@ use lib.ListN.{length, getD, drop}
 use Rattle.lists.specs.Lists.{numbers, upTo, withEach, inside, allPairs, rows}
 use Rattle.lists.proofs.Exactness.{numbers-at, length-upTo, ordered-rising}
 use Rattle.lists.proofs.Rows.{rows-at, length-rows}
-use Rattle.lists.proofs.Walks.{fold-next, fold-past, numbers-next, numbers-end}
+use Rattle.lists.proofs.Walks.{fold-next, fold-past, numbers-next, numbers-end, later-next, later-end, pairs-next, pairs-end}
 
 -- at place k of the list l, with t so far, all gives r
 pub record Left {A B : Type 0} (f : B → A → B) (l : List A) (k : ℕ) (t r : B) : Type 0 where
@@ -57,19 +57,7 @@ module _ {B : Type 0} {f : B → ℕ → B} {k m : ℕ} {t r : B} where
 -- ---- what is left of the pairs
 with-next : (n i j : ℕ) → i < j → j < n → withEach i (numbers j (n - j)) ≡ (i, j) ∷ withEach i (numbers (j + 1) (n - (j + 1)))
 unfolding withEach
-with-next n i j a b = rw (numbers-next n j b, ordered-rising i j (omega arith))
-
-with-end : (n i j : ℕ) → n ≤ j → withEach i (numbers j (n - j)) ≡ []
-unfolding withEach
-with-end n i j h = rw (numbers-end n j h)
-
-inside-next : (n i : ℕ) → i < n → inside (numbers i (n - i)) ≡ withEach i (numbers (i + 1) (n - (i + 1))) ++ inside (numbers (i + 1) (n - (i + 1)))
-unfolding inside
-inside-next n i h = rw (numbers-next n i h)
-
-inside-end : (n i : ℕ) → n ≤ i → inside (numbers i (n - i)) ≡ []
-unfolding inside
-inside-end n i h = rw (numbers-end n i h)
+with-next n i j a b = rw (later-next i n j b, ordered-rising i j (omega arith))
 
 -- ---- atom i with each later one of n, from j on
 pub record Above {B : Type 0} (f : B → ℕ × ℕ → B) (i n j : ℕ) (t r : B) : Type 0 where
@@ -89,7 +77,7 @@ module _ {B : Type 0} {f : B → ℕ × ℕ → B} (n : ℕ) where
       record { same = ap (λ (x : B). foldl f x (withEach i (numbers (j + 1) (n - (j + 1))))) e ∙ s }
 
   pub above-end : {i j : ℕ} {t r : B} → n ≤ j → Above f i n j t r → t ≡ r
-  above-end {i} {j} {t} {r} h l = rw (with-end n i j h) at (l .same)
+  above-end {i} {j} {t} {r} h l = rw (later-end i n j h) at (l .same)
 
   pub all-begin : (t : B) → All f n 0 t (foldl f t (allPairs n))
   all-begin t = record { same = rw (sub-zero n) }
@@ -98,7 +86,7 @@ module _ {B : Type 0} {f : B → ℕ × ℕ → B} (n : ℕ) where
   all-turn {i} {t} {t′} {r} h l e =
       let part : List (ℕ × ℕ) = withEach i (numbers (i + 1) (n - (i + 1))) in
       let rest : List (ℕ × ℕ) = inside (numbers (i + 1) (n - (i + 1))) in
-      record { same = ap (λ (x : B). foldl f x rest) e ∙ sym (foldl-append f t part rest) ∙ sym (ap (λ (x : List (ℕ × ℕ)). foldl f t x) (inside-next n i h)) ∙ l .same }
+      record { same = ap (λ (x : B). foldl f x rest) e ∙ sym (foldl-append f t part rest) ∙ sym (ap (λ (x : List (ℕ × ℕ)). foldl f t x) (pairs-next n i h)) ∙ l .same }
 
   pub all-end : {i : ℕ} {t r : B} → n ≤ i → All f n i t r → t ≡ r
-  all-end {i} {t} {r} h l = rw (inside-end n i h) at (l .same)
+  all-end {i} {t} {r} h l = rw (pairs-end n i h) at (l .same)

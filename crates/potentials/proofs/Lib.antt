@@ -1,6 +1,5 @@
 pub mod Folds
 pub mod Kernels
-pub mod Lengths
 pub mod Only
 pub mod Outcomes
 pub mod Table

@@ -2,14 +2,11 @@
 use mathlib.Core.Bool.{Bool, _&&_}
 use lib.Ieee.{Float}
 use Rattle.cell.specs.Ranged.{entryLimit}
+pub use Rattle.cell.specs.Ranged.{coordinate}
 use Rattle.float.specs.Arith.{bits}
 use Rattle.ranges.specs.Ranged.{within, between}
 use Rattle.potentials_pair.specs.declared.Lj.{Lj}
 use Rattle.potentials.specs.declared.Bond.{Bond}
-
--- "Coordinates, cell entries, velocities, bond numbers: magnitude to 2^20"
-abbrev pub coordinate : Float → Bool
-coordinate x = within entryLimit x
 
 -- "Epsilon and sigma 0 to 2^10"
 abbrev pub depth : Float → Bool

@@ -1,12 +1,11 @@
 -- The terms over pairs in their order: what each pair adds, and the fold of that over a list (potentials.rs). Definitions only.
 use mathlib.Core.Bool.{cond}
 use mathlib.Core.List.{List, foldl}
-use Prim.Native.Nat.{ℕ, _+_, _*_}
+use Prim.Native.Nat.{ℕ}
 use lib.Ieee.{Float}
 use lib.ListN.{length, getD}
 use Rattle.lists.specs.Atoms.{atomsOf}
 use Rattle.float.specs.Literals.{f0}
-use Rattle.float.specs.Arith.{at}
 use Rattle.lists.specs.Lists.{upTo, rows}
 use Rattle.cell.specs.declared.Vec3.{Vec3}
 use Rattle.cell.specs.declared.Cell.{Cell}

@@ -31,7 +31,7 @@ pub(crate) fn is_absent(n: usize, i: usize, j: usize) -> bool
     !((i < n) & (j < n))
 }
 
-fn place(xs: &[f64], i: usize) -> Vec3
+fn spot_at(xs: &[f64], i: usize) -> Vec3
     requires { ⌜ i < atomsOf (now xs) ⌝ }
     ensures { λ r. ⌜ r ≡ positionAt (now (xs .entry)) i ⌝ }
 {
@@ -48,6 +48,6 @@ pub(crate) fn displacement(p: Prepared, xs: &[f64], i: usize, j: usize) -> Vec3
     requires { ⌜ (i < atomsOf (now xs)) × (j < atomsOf (now xs)) ⌝ }
     ensures { λ r. ⌜ r ≡ displaced (λ d. imageIn p d) (now (xs .entry)) (i, j) ⌝ }
 {
-    let d = cell::vectors::sub(place(xs, i), place(xs, j));
+    let d = cell::vectors::sub(spot_at(xs, i), spot_at(xs, j));
     cell_prepared::image_in(p, d).diff
 }

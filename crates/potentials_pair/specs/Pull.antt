@@ -4,7 +4,7 @@ use mathlib.Core.List.{List}
 use Prim.Native.Nat.{ℕ}
 use lib.Ieee.{Float, lt}
 use Rattle.float.specs.Literals.{tiny}
-use Rattle.float.specs.Arith.{_⊗_, bits}
+use Rattle.float.specs.Arith.{_⊗_}
 use Rattle.virial.specs.declared.Sum.{Sum}
 use Rattle.virial.specs.Virial.{sumWithEnergy, sumWithPair, forcesWithPair}
 use Rattle.potentials_pair.specs.declared.Pull.{Pull}

@@ -1,7 +1,7 @@
 -- What a range test says of a number: it is finite where the ends are. (A cast or `to_bits` of a tested number cites it.) Assumes nothing.
-use mathlib.Core.Path.{_≡_, refl, sym}
-use mathlib.Core.Bool.{Bool, true, false, _&&_, false≢true}
-use lib.Ieee.{Float, nan, inf, fin, le, lt, eq, isNan}
+use mathlib.Core.Path.{_≡_}
+use mathlib.Core.Bool.{true, false, false≢true}
+use lib.Ieee.{Float, nan, inf, fin, le, lt, eq}
 use Rattle.float.specs.Def.{absOf}
 use Rattle.ranges.specs.Ranged.{within, between}
 

@@ -1,47 +1,45 @@
-// Which call a case asks for.
+// Which call a case asks for, by its number. A new call is a function NAME_case(ws, out) in the module of its group and a line in that module's `answer`; a
+// new group is a module and a line here. A case takes its arguments one after the other, each from the place that the one before left; where it does not
+// end at the number of words it is no case, and answers no words (0). Then it calls, and puts its answer together in `out`.
+use crate::cells;
+use crate::evaluations;
+use crate::excluded;
 use crate::floats;
-ghost use Prim.Native.Nat.{_≤_};
-ghost use lib.ListN.{length};
-ghost use Rattle.replay_words.specs.Put.{Put};
-ghost use Rattle.replay.specs.Calls.{answerOf};
+use crate::forces;
+use crate::frames;
+use crate::neighbors;
+use crate::steps;
+use crate::velocities;
+use crate::virials;
 
-// The answer's words, and how many there are: 0 where the call is unknown or the words are not its arguments.
-pub fn answer(call: u64, ws: &[u64], out: &mut [u64]) -> usize
-    ensures { λ r. ⌜ Put (now (out .entry)) 0 (answerOf call (now (ws .entry))) (now (out .exit)) r ⌝ }
-{
-    if call < 12 {
+// How many words of `out` are the answer: 0 where the call is unknown or the words are not its arguments.
+pub(crate) fn answer(call: u64, ws: &[u64], out: &mut [u64; 8208]) -> usize {
+    if call < 16 {
         return floats::answer(call, ws, out);
     }
-    0
-}
-
-// The same of the calls whose answers are compared by running.
-pub fn compared_answer(call: u64, ws: &[u64], out: &mut [u64]) -> usize
-    ensures { λ r. ⌜ r ≤ length (now (out .exit)) ⌝ }
-{
     if call < 32 {
-        return replay_cell::answer(call, ws, out);
+        return cells::answer(call, ws, out);
     }
     if call < 48 {
-        return replay_virial::answer(call, ws, out);
+        return virials::answer(call, ws, out);
     }
     if call == 50 || call == 51 {
-        return replay_bins::answer(call, ws, out);
+        return excluded::answer(call, ws, out);
     }
     if call < 64 {
-        return replay_neighbor::answer(call, ws, out);
+        return neighbors::answer(call, ws, out);
     }
     if call < 80 {
-        return replay_frame::answer(call, ws, out);
+        return frames::answer(call, ws, out);
     }
     if call < 85 {
-        return replay_potentials::answer(call, ws, out);
+        return forces::answer(call, ws, out);
     }
     if call < 96 {
-        return replay_evaluate::answer(call, ws, out);
+        return evaluations::answer(call, ws, out);
     }
     if call < 99 {
-        return replay_verlet::answer(call, ws, out);
+        return velocities::answer(call, ws, out);
     }
-    replay_step::answer(call, ws, out)
+    steps::answer(call, ws, out)
 }

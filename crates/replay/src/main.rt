@@ -1,12 +1,22 @@
 // Reads cases from standard input, a line each, and writes their answers to standard output.
 use libc::STDIN_FILENO;
 use libc::STDOUT_FILENO;
-ghost use Prim.Native.Nat.{_≤_};
-ghost use lib.ListN.{length};
 
+mod answers;
 mod calls;
+mod cells;
+mod evaluations;
+mod excluded;
 mod floats;
+mod forces;
+mod frames;
 mod lines;
+mod neighbors;
+mod records;
+mod steps;
+mod tables;
+mod velocities;
+mod virials;
 
 // The bytes of the line so far, and the bytes of answers that are not written yet.
 struct Pending {
@@ -14,16 +24,20 @@ struct Pending {
     filled: usize,
 }
 
-// A place with room for one more answer: what is pending is written where there is none.
-fn with_room(out: &[u8], filled: usize) -> usize
-    requires { ⌜ filled ≤ length (now out) ⌝ }
-    ensures { λ r. ⌜ r ≤ length (now (out .entry)) ⌝ }
-{
-    if out.len() - filled < 139539 {
-        io::write_all(STDOUT_FILENO, &out[..filled]);
-        return 0;
+fn front(bytes: &[u8], n: usize) -> &[u8] {
+    if n <= bytes.len() {
+        return &bytes[0..n];
     }
-    filled
+    bytes
+}
+
+// A place with room for one more answer: what is pending is written where there is none.
+fn with_room(out: &[u8], filled: usize) -> usize {
+    if filled < 139539 {
+        return filled;
+    }
+    io::write_all(STDOUT_FILENO, front(out, filled));
+    0
 }
 
 // One byte more: at a newline the line is answered, and the next begins.
@@ -31,37 +45,34 @@ fn hear(
     b: u8,
     line: &mut [u8],
     words: &mut [u64],
-    answer: &mut [u64],
+    answer: &mut [u64; 8208],
     out: &mut [u8],
     p: Pending,
-) -> Pending
-    requires { ⌜ (p .heard ≤ length (now line)) × (p .filled ≤ length (now out)) ⌝ }
-    ensures { λ r. ⌜ (r .heard ≤ length (now (line .exit))) × (r .filled ≤ length (now (out .exit))) ⌝ }
-{
+) -> Pending {
     let heard = p.heard;
     if b == 10 {
         let at = with_room(out, p.filled);
-        let filled = lines::answer_line(&line[..heard], words, answer, out, at);
+        let filled = lines::answer_line(front(line, heard), words, answer, out, at);
         return Pending { heard: 0, filled };
     }
-    let more = replay_words::put_byte(line, heard, b);
-    Pending {
-        heard: more,
-        filled: p.filled,
+    if heard < line.len() {
+        hex::put_byte(line, heard, b);
+        return Pending {
+            heard: heard + 1,
+            filled: p.filled,
+        };
     }
+    p
 }
 
 fn hear_all(
     bytes: &[u8],
     line: &mut [u8],
     words: &mut [u64],
-    answer: &mut [u64],
+    answer: &mut [u64; 8208],
     out: &mut [u8],
     start: Pending,
-) -> Pending
-    requires { ⌜ (start .heard ≤ length (now line)) × (start .filled ≤ length (now out)) ⌝ }
-    ensures { λ r. ⌜ (r .heard ≤ length (now (line .exit))) × (r .filled ≤ length (now (out .exit))) ⌝ }
-{
+) -> Pending {
     let mut p = start;
     let mut i = 0;
     while i < bytes.len() {
@@ -72,28 +83,30 @@ fn hear_all(
 }
 
 // As many bytes as are there; 0 at the end of the input.
-fn read_some(chunk: &mut [u8]) -> usize
-    ensures { λ r. ⌜ r ≤ length (now (chunk .exit)) ⌝ }
-{
+fn read_some(chunk: &mut [u8]) -> usize {
     let got = libc::read(STDIN_FILENO, chunk);
     io::count(got, chunk)
 }
 
 // What is pending at the end of the input. A line without its newline is no case.
-fn finish(out: &mut [u8], p: Pending)
-    requires { ⌜ p .filled ≤ length (now out) ⌝ }
-{
+fn finish(out: &mut [u8], p: Pending) {
     let at = with_room(out, p.filled);
     if p.heard == 0 {
-        io::write_all(STDOUT_FILENO, &out[..at]);
+        io::write_all(STDOUT_FILENO, front(out, at));
         return;
     }
     let end = replay_words::print_no_case(out, at);
-    io::write_all(STDOUT_FILENO, &out[..end]);
+    io::write_all(STDOUT_FILENO, front(out, end));
 }
 
 // A proved loop has to end, and nothing says that the input does: the turns count down, from a number that no run uses up.
-fn serve(chunk: &mut [u8], line: &mut [u8], words: &mut [u64], answer: &mut [u64], out: &mut [u8]) {
+fn serve(
+    chunk: &mut [u8],
+    line: &mut [u8],
+    words: &mut [u64],
+    answer: &mut [u64; 8208],
+    out: &mut [u8],
+) {
     let mut p = Pending {
         heard: 0,
         filled: 0,
@@ -101,15 +114,15 @@ fn serve(chunk: &mut [u8], line: &mut [u8], words: &mut [u64], answer: &mut [u64
     let mut turns = u64::MAX;
     let mut n = read_some(chunk);
     while turns > 0 && n > 0 {
-        p = hear_all(&chunk[..n], line, words, answer, out, p);
+        p = hear_all(front(chunk, n), line, words, answer, out, p);
         n = read_some(chunk);
         turns -= 1;
     }
     finish(out, p);
 }
 
-// The largest case has 8,192 words, 139,266 bytes; its line is kept with one byte more, so that a longer one is no case by its
-// length. The largest answer has 16 words more and a newline, 139,539 bytes: two fit into what is written at once.
+// The largest case has 8,192 words, 139,266 bytes; its line is kept with one byte more, so that a longer one is no case by its length. The largest answer
+// has 16 words more and a newline, 139,539 bytes: two fit into what is written at once.
 fn main() {
     let mut chunk = [0u8; 65536];
     let mut line = [0u8; 139267];

@@ -1,15 +1,18 @@
-// The words of a case: lines of text into numbers and back, arguments taken out of a case's words, and answers put together as words.
+// The protocol of the replay program: a line of text into a call and words, words into a line, arguments taken out of words, an answer put together as
+// words. A place past the end reads as nothing, and nothing is written there; the contracts say no more than that places stay within what is lent.
 mod put;
 mod read;
 mod take;
 mod write;
 
-pub use put::put_bool;
+pub use put::flag_word;
 pub use put::put_float;
 pub use put::put_floats;
 pub use put::put_i64;
+pub use put::put_reals;
 pub use put::put_u32s;
 pub use put::put_word;
+pub use put::put_words;
 pub use read::parse;
 pub use take::take_bool;
 pub use take::take_float;
@@ -19,12 +22,11 @@ pub use take::take_u32s;
 pub use take::take_word;
 pub use write::print;
 pub use write::print_no_case;
-pub use write::put_byte;
 
-// What a line is: a call and how many words it has, or no case by its form.
-pub enum Parsed {
-    Case { call: u64, count: usize },
-    NoCase,
+// A line's call, below 256, and how many words it has; the call 256 where it has not the form of a case.
+pub struct Line {
+    pub call: u64,
+    pub count: usize,
 }
 
 // An argument, and the place after it.
@@ -48,8 +50,8 @@ pub struct Small {
     pub next: usize,
 }
 
-// How many elements a table has, and the place after it.
+// A table: the place of its first element, and the place after its last.
 pub struct Table {
-    pub count: usize,
+    pub from: usize,
     pub next: usize,
 }

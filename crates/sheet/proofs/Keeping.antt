@@ -1,21 +1,21 @@
 -- Laws of one line on the desk: what `exclude` answers is the set with one pair more, and where a line's number lies. Assumes nothing.
-use Prim.Native.Nat.{ℕ, zero, suc, _+_, _*_, _/_, _≤_, _<_}
+use Prim.Native.Nat.{ℕ, zero, suc, _+_, _≤_, _<_}
 use mathlib.Core.Path.{_≡_, refl, sym, ap, _∙_}
-use mathlib.Core.Bool.{Bool, true, false, cond}
-use mathlib.Core.Option.{Option, none, some}
+use mathlib.Core.Bool.{Bool, true, cond}
+use mathlib.Core.Option.{none, some}
 use mathlib.Core.List.{List, [], _∷_}
 use native.Mathlib.Nat.{le-of-suc-le-suc, not-suc-le-zero}
 use native.Mathlib.Omega.{arith}
 use lib.ListN.{length, getD, take}
 use lib.Dec.{leb}
 use borrow.Author.Tests.{le-ltb, leb-true}
-use Rattle.answer.specs.Seen.{Seen, answered, refused, refusedBy}
+use Rattle.answer.specs.Seen.{answered, refused, refusedBy}
 use Rattle.answer.specs.declared.Whole.{Whole}
 use Rattle.answer.specs.declared.Whole.the-variants.{Answered, Refused}
 use Rattle.answer.specs.declared.Refusal.{Refusal}
 use Rattle.lists.specs.Lists.{rows}
-use Rattle.lists.proofs.Cases.{by-test}
-use Rattle.exclusions.specs.Table.{isTable, added, holding, room}
+use Rattle.lists.proofs.Cases.{by-test, impossible}
+use Rattle.exclusions.specs.Table.{added, holding, room}
 use Rattle.exclusions.specs.Calls.{Outcome, grown, excludeOf, ExcludeSays}
 use Rattle.exclusions.proofs.Insertion.{added-table}
 use Rattle.exclusions.proofs.Storing.{held-rows, hold-length}
@@ -70,7 +70,7 @@ module _ (count a b : ℕ) (t u : List ℕ) (fit : Fit count t) where
       (λ x. leb (length more) (room t) ≡ x → _≡_ {A = Outcome} (record { shown = answered n; table = u }) (cond x (record { shown = answered (length more); table = holding t more }) (record { shown = refused 8 (room t + 1); table = t })) → Told n)
       (leb (length more) (room t))
       (λ _ q p. let h : answered n ≡ answered (length more) = ap (λ (o : Outcome). o .shown) p in told n q (cc) (ap (λ (o : Outcome). o .table) p))
-      (λ _ q p. let h : answered n ≡ refused 8 (room t + 1) = ap (λ (o : Outcome). o .shown) p in let z : _≡_ {A = ℕ} 0 1 = cc in absurd (omega arith))
+      (λ _ q p. let h : answered n ≡ refused 8 (room t + 1) = ap (λ (o : Outcome). o .shown) p in impossible (cc))
       refl
       s
 
@@ -81,7 +81,7 @@ module _ (count a b : ℕ) (t u : List ℕ) (fit : Fit count t) where
       by-test
       (λ x. leb (length more) (room t) ≡ x → _≡_ {A = Outcome} (record { shown = refusedBy r; table = u }) (cond x (record { shown = answered (length more); table = holding t more }) (record { shown = refused 8 (room t + 1); table = t })) → none ≡ excluding a b (take count (rows t)))
       (leb (length more) (room t))
-      (λ _ q p. let h : refusedBy r ≡ answered (length more) = ap (λ (o : Outcome). o .shown) p in let z : _≡_ {A = ℕ} 0 1 = cc in absurd (omega arith))
+      (λ _ q p. let h : refusedBy r ≡ answered (length more) = ap (λ (o : Outcome). o .shown) p in impossible (cc))
       (λ _ q p. ap (λ (x : Bool). cond x (some more) none) (sym (sym (ap (λ (k : ℕ). leb (length more) k) half) ∙ q)))
       refl
       s

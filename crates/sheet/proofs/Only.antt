@@ -2,10 +2,8 @@
 use mathlib.Core.Path.{_≡_, refl, sym, ap, _∙_}
 use mathlib.Core.List.{List}
 use Prim.Native.Nat.{ℕ}
-use Rattle.answer.specs.Seen.{Seen}
 use Rattle.answer.proofs.Only.{made, seen-only, told-back}
 use Rattle.sheet.specs.Read.{Outcome, seenSheet, readOf, ReadSays}
-use Rattle.sheet.specs.declared.Job.{Job}
 use Rattle.sheet.specs.declared.Sheet as sheet
 use Rattle.sheet.specs.declared.Sheet.the-variants as sheets
 

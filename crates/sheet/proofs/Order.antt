@@ -5,7 +5,8 @@ use mathlib.Core.Option.{Option, none, some}
 use mathlib.Core.List.{List, [], _∷_, _++_, List·Permᴰ, List·Permᴰ·nil, List·Permᴰ·cons, List·Permᴰ·swap, List·Permᴰ·trans}
 use native.Mathlib.Omega.{arith}
 use lib.ListN.{length, length-append}
-use Rattle.answer.specs.Seen.{Seen, answered, refused}
+use Rattle.lists.proofs.Cases.{impossible}
+use Rattle.answer.specs.Seen.{answered, refused}
 use Rattle.sheet_lines.specs.Reading.{linesOf}
 use Rattle.sheet_lines.specs.Grammar.{WellFormed, AllWellFormed, AllWhole, joinAll}
 use Rattle.sheet_lines.proofs.Unread.{Begins, begins}
@@ -47,7 +48,7 @@ order (List·Permᴰ·trans p q) m = order p m ∙ order q m
 -- ---- a run that answers is its acts
 
 step-acts : (o : Option Meaning) (l : Line) (ls : List Line) (n : ℕ) (r : Meaning) → ((m : Meaning) → run ls n m ≡ answered r → acts ls m ≡ some r) → onward o (refusalFor l n) (λ m′. run ls n m′) ≡ answered r → andThen o (λ m′. acts ls m′) ≡ some r
-step-acts none l ls n r h e = let z : _≡_ {A = ℕ} 0 1 = cc in absurd (omega arith)
+step-acts none l ls n r h e = impossible (cc)
 step-acts (some m) l ls n r h e = h m e
 
 run-acts : (ls : List Line) (n : ℕ) (m r : Meaning) → run ls n m ≡ answered r → acts ls m ≡ some r
@@ -55,7 +56,7 @@ run-acts [] n m r e = let h : m ≡ r = cc in ap some h
 run-acts (l ∷ ls) n m r e = step-acts (acted (actOf l) m) l ls (n + 1) r (λ k p. run-acts ls (n + 1) k r p) e
 
 step-run : (o : Option Meaning) (l : Line) (ls : List Line) (n : ℕ) (r : Meaning) → ((m : Meaning) → acts ls m ≡ some r → run ls n m ≡ answered r) → andThen o (λ m′. acts ls m′) ≡ some r → onward o (refusalFor l n) (λ m′. run ls n m′) ≡ answered r
-step-run none l ls n r h e = let z : _≡_ {A = ℕ} 0 1 = cc in absurd (omega arith)
+step-run none l ls n r h e = impossible (cc)
 step-run (some m) l ls n r h e = h m e
 
 acts-run : (ls : List Line) (n : ℕ) (m r : Meaning) → acts ls m ≡ some r → run ls n m ≡ answered r
@@ -72,11 +73,11 @@ well-line : (l : Line) (m : Meaning) (ls : List Line) (r : Meaning) → acts (l 
 well-line (Header h) m ls r e = tt
 well-line (Atom n x y z) m ls r e = tt
 well-line (Exclusion a b) m ls r e = tt
-well-line Malformed m ls r e = let z : _≡_ {A = ℕ} 0 1 = cc in absurd (omega arith)
-well-line End m ls r e = let z : _≡_ {A = ℕ} 0 1 = cc in absurd (omega arith)
+well-line Malformed m ls r e = impossible (cc)
+well-line End m ls r e = impossible (cc)
 
 well-rest : (o : Option Meaning) (ls : List Line) (r : Meaning) → ((m : Meaning) → acts ls m ≡ some r → AllWellFormed ls) → andThen o (λ m′. acts ls m′) ≡ some r → AllWellFormed ls
-well-rest none ls r h e = let z : _≡_ {A = ℕ} 0 1 = cc in absurd (omega arith)
+well-rest none ls r h e = impossible (cc)
 well-rest (some m) ls r h e = h m e
 
 well-formed : (ls : List Line) (m r : Meaning) → acts ls m ≡ some r → AllWellFormed ls
@@ -102,8 +103,8 @@ good-act : (l : Line) (m m′ : Meaning) → acted (actOf l) m ≡ some m′ →
 good-act (Header h) m m′ e = tt
 good-act (Atom n x y z) m m′ e = tt
 good-act (Exclusion a b) m m′ e = tt
-good-act Malformed m m′ e = let z : _≡_ {A = ℕ} 0 1 = cc in absurd (omega arith)
-good-act End m m′ e = let z : _≡_ {A = ℕ} 0 1 = cc in absurd (omega arith)
+good-act Malformed m m′ e = impossible (cc)
+good-act End m m′ e = impossible (cc)
 
 step-stop : (o : Option Meaning) (l : Line) (ls ks : List Line) (n a b : ℕ) → ((m : Meaning) → o ≡ some m → run ls n m ≡ refused a b → run ks n m ≡ refused a b) → onward o (refusalFor l n) (λ m′. run ls n m′) ≡ refused a b → onward o (refusalFor l n) (λ m′. run ks n m′) ≡ refused a b
 step-stop none l ls ks n a b h e = e
@@ -111,7 +112,7 @@ step-stop (some m) l ls ks n a b h e = h m refl e
 
 -- lines that begin with refused ones are refused in the same way
 pub stops : (ls ks : List Line) (n : ℕ) (m : Meaning) (a b : ℕ) → Begins ls ks → run ls n m ≡ refused a b → run ks n m ≡ refused a b
-stops [] ks n m a b h e = let z : _≡_ {A = ℕ} 0 1 = cc in absurd (omega arith)
+stops [] ks n m a b h e = impossible (cc)
 stops (l ∷ ls) [] n m a b h e = absurd h
 stops (l ∷ ls) (k ∷ ks) n m a b h e =
     rw (← h .0) (step-stop (acted (actOf l) m) l ls ks (n + 1) a b (λ m′ p q. stops ls ks (n + 1) m′ a b (h .1 (good-act l m m′ p)) q) e)

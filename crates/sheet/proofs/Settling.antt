@@ -1,7 +1,7 @@
 -- Laws of the tests after the lines, and of what `read` then writes. Assumes nothing.
-use Prim.Native.Nat.{ℕ, _+_, _*_, _/_, _≤_, _<_}
-use mathlib.Core.Path.{_≡_, refl, sym, ap, _∙_}
-use mathlib.Core.Bool.{Bool, true, false, cond}
+use Prim.Native.Nat.{ℕ, _*_, _/_, _≤_, _<_}
+use mathlib.Core.Path.{_≡_, refl, ap}
+use mathlib.Core.Bool.{cond}
 use mathlib.Core.Option.{Option, none, some}
 use mathlib.Core.List.{List}
 use native.Mathlib.Omega.{arith}
@@ -9,11 +9,10 @@ use lib.ListN.{length, take}
 use lib.Seq.{sets}
 use lib.Dec.{ltb}
 use borrow.Author.Tests.{lt-ltb, le-ltb, ltb-false}
-use Rattle.answer.specs.Seen.{Seen, answered, refused, refusedBy}
+use Rattle.answer.specs.Seen.{answered, refused, refusedBy}
 use Rattle.answer.specs.declared.Refusal.{Refusal}
 use Rattle.answer.specs.declared.Refusal.the-variants.{Lengths}
-use Rattle.lists.specs.Lists.{rows, flat}
-use Rattle.lists.proofs.Cases.{by-test}
+use Rattle.lists.proofs.Cases.{by-test, impossible}
 use Rattle.exclusions.proofs.Search.{rows-taken}
 use Rattle.exclusions.proofs.Storing.{front-flat}
 use Rattle.sheet_lines.specs.Reading.{linesOf}
@@ -32,14 +31,14 @@ counted-few h k marks e =
     by-test
     (λ x. ltb 1024 (h .atoms) ≡ x → answered k ≡ cond x (refused 2 (h .atoms)) (cond (ltb (strayOf (h .atoms) marks) 1024) (refused 4 (strayOf (h .atoms) marks)) (cond (ltb (absentOf marks) (h .atoms)) (refused 11 (absentOf marks)) (answered h))) → k .atoms ≤ 1024)
     (ltb 1024 (h .atoms))
-    (λ _ q p. let z : _≡_ {A = ℕ} 0 1 = cc in absurd (omega arith))
+    (λ _ q p. impossible (cc))
     (λ _ q p.
     by-test (λ x. answered k ≡ cond x (refused 4 (strayOf (h .atoms) marks)) (cond (ltb (absentOf marks) (h .atoms)) (refused 11 (absentOf marks)) (answered h)) → k .atoms ≤ 1024)
     (ltb (strayOf (h .atoms) marks) 1024)
-    (λ _ u. let z : _≡_ {A = ℕ} 0 1 = cc in absurd (omega arith))
+    (λ _ u. impossible (cc))
     (λ _ u.
     by-test (λ x. answered k ≡ cond x (refused 11 (absentOf marks)) (answered h) → k .atoms ≤ 1024) (ltb (absentOf marks) (h .atoms))
-    (λ _ w. let z : _≡_ {A = ℕ} 0 1 = cc in absurd (omega arith))
+    (λ _ w. impossible (cc))
     (λ _ w. let same : k ≡ h = cc in omega (arith, ap (λ (g : Head). g .atoms) same, ltb-false 1024 (h .atoms) q))
     u)
     p)
@@ -47,7 +46,7 @@ counted-few h k marks e =
     e
 
 pub sound-few : (h : Option Head) (marks : List ℕ) (k : Head) → answered k ≡ tested h marks → k .atoms ≤ 1024
-sound-few none marks k e = let z : _≡_ {A = ℕ} 0 1 = cc in absurd (omega arith)
+sound-few none marks k e = impossible (cc)
 sound-few (some h) marks k e = counted-few h k marks e
 
 -- ---- what is handed out

@@ -1,11 +1,11 @@
 -- A sheet that is read keeps its sizes: three coordinates an atom of at most 1,024, and at most 1,024 exclusions. Assumes nothing.
 use Prim.Native.Nat.{ℕ, _+_, _*_, _≤_}
-use mathlib.Core.Path.{_≡_, refl, sym, ap, _∙_}
-use mathlib.Core.Bool.{Bool, true, false, cond}
+use mathlib.Core.Path.{_≡_, refl, sym, _∙_}
+use mathlib.Core.Bool.{cond}
 use mathlib.Core.Option.{Option, none, some}
 use mathlib.Core.List.{List, [], _∷_}
 use native.Mathlib.Omega.{arith}
-use lib.ListN.{length, take, set, length-set, length-replicate}
+use lib.ListN.{length, set, length-set, length-replicate}
 use lib.Seq.{length-take-le}
 use lib.Dec.{leb}
 use borrow.Author.Tests.{leb-true}
@@ -16,7 +16,7 @@ use Rattle.sheet_lines.specs.Reading.{linesOf}
 use Rattle.sheet_lines.specs.declared.Head.{Head}
 use Rattle.sheet_lines.specs.declared.Line.{Line}
 use Rattle.sheet_lines.specs.declared.Line.the-variants.{Header, Atom, Exclusion, Malformed, End}
-use Rattle.sheet.specs.Meaning.{Meaning, Atoms, andThen, acted, actOf, headed, seated, excluding, fresh, placed}
+use Rattle.sheet.specs.Meaning.{Meaning, andThen, acted, actOf, headed, seated, excluding, fresh, placed}
 use Rattle.sheet.specs.Reading.{refusalFor, onward, run, blank, tested, Sound, soundWith, thenTested, sheetOf}
 use Rattle.sheet.proofs.Settling.{sound-few}
 

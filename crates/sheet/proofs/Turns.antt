@@ -1,14 +1,14 @@
 -- Laws of the lines in turn: one turn of the reader's loop, its ends, and how far a line goes. Assumes nothing.
 use Prim.Native.Nat.{ℕ, zero, suc, _+_, _-_, _≤_, _<_}
 use mathlib.Core.Path.{_≡_, refl, sym, ap, _∙_}
-use mathlib.Core.Bool.{false, cond}
+use mathlib.Core.Bool.{false}
 use mathlib.Core.Option.{Option, none, some}
 use mathlib.Core.List.{List, [], _∷_}
 use native.Mathlib.Nat.{sub-zero}
 use native.Mathlib.Omega.{arith}
-use lib.ListN.{length, take}
-use lib.Dec.{ltb}
+use lib.ListN.{length}
 use borrow.Author.Tests.{lt-ltb, le-ltb}
+use Rattle.lists.proofs.Cases.{impossible}
 use Rattle.answer.specs.Seen.{Seen, answered, refused, refusedBy, numberOf, placeOf}
 use Rattle.answer.specs.declared.Refusal.{Refusal}
 use Rattle.lists.specs.Lists.{rows}
@@ -16,7 +16,7 @@ use Rattle.exclusions.specs.Table.{isTable}
 use Rattle.sheet_lines.specs.Reading.{lineAt, widthOf, linesFrom, linesOf}
 use Rattle.sheet_lines.specs.declared.Line.{Line}
 use Rattle.sheet_lines.specs.declared.Line.the-variants.{Header, Atom, Exclusion, Malformed, End}
-use Rattle.sheet.specs.Meaning.{Meaning, Atoms, acted, actOf}
+use Rattle.sheet.specs.Meaning.{Meaning, acted, actOf}
 use Rattle.sheet.specs.Reading.{refusalFor, onward, run}
 use Rattle.sheet.specs.Desk.{meaningFor, shownKept, Fit, FitKept}
 use Rattle.sheet.specs.declared.desk.Desk.{Desk}
@@ -26,20 +26,20 @@ use Rattle.sheet.specs.declared.desk.Kept.the-variants as keeps
 -- ---- what one line came to, and the rest
 module _ (r : Refusal) (f : Meaning → Seen Meaning) where
   pub next-on : (o : Option Meaning) (m : Meaning) → answered m ≡ onward o r answered → onward o r f ≡ f m
-  next-on none m e = let z : _≡_ {A = ℕ} 0 1 = cc in absurd (omega arith)
+  next-on none m e = impossible (cc)
   next-on (some k) m e = let h : k ≡ m = cc in ap f h
 
   pub stop-here : (o : Option Meaning) (n p : ℕ) → refused n p ≡ onward o r answered → onward o r f ≡ refused n p
   stop-here none n p e = sym e
-  stop-here (some k) n p e = let z : _≡_ {A = ℕ} 0 1 = cc in absurd (omega arith)
+  stop-here (some k) n p e = impossible (cc)
 
 -- a line that is kept takes bytes
 pub next-wide : (l : Line) (m m′ : Meaning) (n : ℕ) → answered m′ ≡ onward (acted (actOf l) m) (refusalFor l n) answered → 11 ≤ widthOf l
 next-wide (Header h) m m′ n e = omega arith
 next-wide (Atom k x y z) m m′ n e = omega arith
 next-wide (Exclusion a b) m m′ n e = omega arith
-next-wide Malformed m m′ n e = let z : _≡_ {A = ℕ} 0 1 = cc in absurd (omega arith)
-next-wide End m m′ n e = let z : _≡_ {A = ℕ} 0 1 = cc in absurd (omega arith)
+next-wide Malformed m m′ n e = impossible (cc)
+next-wide End m m′ n e = impossible (cc)
 
 pub wide-most : (l : Line) → widthOf l ≤ 41
 wide-most (Header h) = omega arith

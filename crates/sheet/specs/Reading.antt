@@ -1,9 +1,9 @@
 -- A sheet as a whole (01, "Job sheet"): its lines in turn, each tested for 9, 10 and 8, then 11, 2, 4, 11. Definitions only.
 use Prim.Native.Nat.{ℕ, suc, _+_, _*_}
-use mathlib.Core.Bool.{Bool, cond}
+use mathlib.Core.Bool.{cond}
 use mathlib.Core.Option.{Option, none, some}
 use mathlib.Core.List.{List, [], _∷_}
-use lib.ListN.{length, take, drop, replicate}
+use lib.ListN.{take, drop, replicate}
 use lib.Dec.{ltb, eqb}
 use Rattle.answer.specs.Seen.{Seen, answered, refused, refusedBy, noHeader}
 use Rattle.answer.specs.declared.Refusal.{Refusal}
@@ -12,7 +12,7 @@ use Rattle.sheet_lines.specs.Reading.{linesOf}
 use Rattle.sheet_lines.specs.declared.Head.{Head}
 use Rattle.sheet_lines.specs.declared.Line.{Line}
 use Rattle.sheet_lines.specs.declared.Line.the-variants.{Header, Atom, Exclusion, Malformed, End}
-use Rattle.sheet.specs.Meaning.{Meaning, Atoms, acted, actOf}
+use Rattle.sheet.specs.Meaning.{Meaning, acted, actOf}
 
 -- the refusal of a line, the n-th, that does not act: 9, 10, or 8 at place capacity + 1
 abbrev pub refusalFor : Line → ℕ → Refusal

@@ -18,7 +18,7 @@ ghost use lib.Seq.{sets};
 ghost use Rattle.answer.specs.Seen.{answered};
 ghost use Rattle.sheet.specs.Reading.{thenTested};
 ghost use Rattle.sheet.specs.Desk.{Fit, meaningFor};
-ghost use Rattle.sheet.specs.Read.{jobFor, handed, seenSheet, ReadSays, Outcome};
+ghost use Rattle.sheet.specs.Read.{jobFor, handed, seenSheet, ReadSays};
 
 // What a sheet says beside its coordinates and exclusions: the atoms, the box (edges, and which axes are periodic), the
 // radius, and how many exclusions there are.

@@ -1,12 +1,13 @@
 -- An accepted sheet with its whole lines in another order prints the same: the statement in bytes alone. Assumes nothing.
 use Prim.Native.Nat.{ℕ, _≤_}
-use mathlib.Core.Path.{_≡_, refl, sym, ap, _∙_}
+use mathlib.Core.Path.{_≡_, refl, ap}
 use mathlib.Core.Logic.{∥∥₁-elim}
 use mathlib.Core.List.{List, Perm, List·isSet, List·Permᴰ}
 use native.Mathlib.Nat.{ℕ-set}
 use native.Mathlib.Omega.{arith}
 use lib.ListN.{length}
 use borrow.Author.Tests.{le-ltb}
+use Rattle.lists.proofs.Cases.{impossible}
 use Rattle.answer.specs.Seen.{Seen, answered, refused}
 use Rattle.sheet_lines.specs.Reading.{linesOf}
 use Rattle.sheet_lines.specs.Grammar.{AllWhole, joinAll}
@@ -36,7 +37,7 @@ pub record Accepted (s : List ℕ) : Type 0 where
 
 read-whole : (s : List ℕ) (x : Seen Meaning) (a : Sound) → run (linesOf s) 0 blank ≡ x → thenTested x ≡ answered a → ReadWhole s
 read-whole s (answered m) a e p = record { meaning = m; read = e }
-read-whole s (refused n k) a e p = let z : _≡_ {A = ℕ} 0 1 = cc in absurd (omega arith)
+read-whole s (refused n k) a e p = impossible (cc)
 
 accepted-read : (s : List ℕ) (a : Sound) → sheetOf s ≡ answered a → ReadWhole s
 unfolding sheetOf

@@ -12,7 +12,7 @@ use Rattle.answer.specs.Seen.{Seen, answered, refused, refusedBy, seenWhole}
 use Rattle.answer.specs.declared.Whole.{Whole}
 use Rattle.answer.specs.declared.Refusal.the-variants.{Lengths}
 use Rattle.lists.specs.Lists.{rows, flat}
-use Rattle.lists.proofs.Cases.{by-test}
+use Rattle.lists.proofs.Cases.{by-test, impossible}
 use Rattle.lists.proofs.Rows.{length-rows}
 use Rattle.frame.specs.Build.{Counts, buildOf}
 use Rattle.frame.proofs.Outcomes.{pairs-kept}
@@ -67,7 +67,7 @@ solve-fits s out r out′ says n a =
     by-test
     (λ t. _≡_ {A = Outcome} (record { shown = seenWhole r; out = out′ }) (cond t (record { shown = refusedBy Lengths; out = out }) (record { shown = answered (length (printed s)); out = sets out 0 (printed s) })) → Fits s n out′)
     (ltb (length out) 90133)
-    (λ _ q. let h : answered n ≡ refused 1 0 = sym a ∙ ap (λ (o : Outcome). o .shown) q in let z : _≡_ {A = ℕ} 0 1 = cc in absurd (omega arith))
+    (λ _ q. let h : answered n ≡ refused 1 0 = sym a ∙ ap (λ (o : Outcome). o .shown) q in impossible (cc))
     (λ e q. let h : answered n ≡ answered (length (printed s)) = sym a ∙ ap (λ (o : Outcome). o .shown) q in
     let k : n ≡ length (printed s) = cc in
     fits-by s out out′ n (ltb-false (length out) 90133 e) k (ap (λ (o : Outcome). o .out) q))

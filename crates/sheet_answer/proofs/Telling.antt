@@ -1,29 +1,29 @@
 -- What `read` and `build` told is what is printed. Assumes nothing.
 use Prim.Native.Nat.{ℕ, _+_, _*_, _≤_, _<_}
 use mathlib.Core.Path.{_≡_, refl, sym, ap, _∙_}
-use mathlib.Core.Bool.{Bool, true, false, cond}
-use mathlib.Core.List.{List, [], _∷_, _++_}
+use mathlib.Core.Bool.{cond}
+use mathlib.Core.List.{List, _++_}
 use native.Mathlib.Omega.{arith}
 use lib.ListN.{length, take, drop, replicate}
 use lib.Seq.{sets, sets-eq, take-at}
 use lib.Dec.{ltb}
-use borrow.Author.Tests.{le-ltb, lt-ltb, ltb-false}
+use borrow.Author.Tests.{le-ltb, lt-ltb}
 use Rattle.answer.specs.Seen.{Seen, answered, refused, refusedBy, numberOf, placeOf}
 use Rattle.answer.specs.declared.Refusal.{Refusal}
 use Rattle.answer.specs.declared.Refusal.the-variants.{Lengths}
-use Rattle.lists.specs.Lists.{rows, flat}
-use Rattle.lists.proofs.Cases.{by-test}
+use Rattle.lists.specs.Lists.{flat}
+use Rattle.lists.proofs.Cases.{by-test, impossible}
 use Rattle.lists.proofs.Rows.{length-flat}
 use Rattle.frame.specs.declared.Frame.{Frame}
 use Rattle.frame.specs.declared.Built.{Built}
-use Rattle.frame.specs.Build.{Given, Counts, Outcome, seenBuilt, buildOf, BuildSays}
+use Rattle.frame.specs.Build.{Outcome, seenBuilt, buildOf, BuildSays}
 use Rattle.sheet_printed.specs.Printed.{refusalLine}
 use Rattle.sheet.specs.declared.Job.{Job}
 use Rattle.sheet.specs.Reading.{Sound, sheetOf}
 use Rattle.sheet.specs.Read as reading
 use Rattle.sheet.specs.declared.Sheet as sheet
 use Rattle.sheet.specs.declared.Sheet.the-variants as sheets
-use Rattle.sheet.proofs.Sizes.{Full, full}
+use Rattle.sheet.proofs.Sizes.{full}
 use Rattle.sheet_answer.specs.Solve.{frameFor, givenFor, shownText, jobText, printed, solveOf, answerText}
 
 -- a text is written under another name
@@ -73,7 +73,7 @@ module _ (s co ex : List ℕ) (a : 3072 ≤ length co) (b : 2048 ≤ length ex) 
         record { atoms = omega (arith, f .atoms); count = omega (arith, f .few); text = rw (ci, xi, e) (ap (λ (k : Job). jobText k (w .coords) (flat (w .rows))) ji) }
     handed-by j (refused n p) e q =
         let h : answered j ≡ refused n p = ap (λ (o : reading.Outcome). o .shown) q in
-        let z : _≡_ {A = ℕ} 0 1 = cc in absurd (omega arith)
+        impossible (cc)
 
   -- `read` by the one test that is left
   read-is : reading.readOf s co ex ≡ cond (ltb 65536 (length s)) (reading.handed (refusedBy Lengths) co ex) (reading.handed (sheetOf s) co ex)
@@ -86,14 +86,14 @@ module _ (s co ex : List ℕ) (a : 3072 ≤ length co) (b : 2048 ≤ length ex) 
       by-test
       (λ t. told (answered j) co′ ex′ ≡ cond t (reading.handed (refusedBy Lengths) co ex) (reading.handed (sheetOf s) co ex) → Handed co′ ex′ j × (answerText (sheetOf s) ≡ cond t (refusalLine 1 0) (answerText (sheetOf s))))
       (ltb 65536 (length s))
-      (λ _ q. let h : answered j ≡ refused 1 0 = ap (λ (o : reading.Outcome). o .shown) q in let z : _≡_ {A = ℕ} 0 1 = cc in absurd (omega arith))
+      (λ _ q. let h : answered j ≡ refused 1 0 = ap (λ (o : reading.Outcome). o .shown) q in impossible (cc))
       (λ _ q. (handed-by co′ ex′ j (sheetOf s) refl q, refl))
       ((rw e at says) ∙ read-is)
 
   refused-by : (n p : ℕ) (co′ ex′ : List ℕ) (x : Seen Sound) → told (refused n p) co′ ex′ ≡ reading.handed x co ex → refusalLine n p ≡ answerText x
   refused-by n p co′ ex′ (answered w) q =
       let h : refused n p ≡ answered (reading.jobFor (w .head) (length (w .rows))) = ap (λ (o : reading.Outcome). o .shown) q in
-      let z : _≡_ {A = ℕ} 0 1 = cc in absurd (omega arith)
+      impossible (cc)
   refused-by n p co′ ex′ (refused k l) q =
       let h : _≡_ {A = Seen Job} (refused n p) (refused k l) = ap (λ (o : reading.Outcome). o .shown) q in
       let a : n ≡ k = cc in

@@ -1,5 +1,5 @@
 -- The reader accepts exactly the grammar: a line's bytes read as that line, and a line that was read stands there in bytes. Assumes nothing.
-use Prim.Native.Nat.{ℕ, _+_, _^_, _≤_, _<_}
+use Prim.Native.Nat.{ℕ, _+_, _^_, _<_}
 use mathlib.Core.Path.{_≡_, refl}
 use mathlib.Core.Bool.{Bool, true, false, cond}
 use mathlib.Core.List.{List, [], _∷_, _++_}
@@ -14,7 +14,6 @@ use Rattle.hex.proofs.Writing.{length2, length4, length8}
 use Rattle.hex.proofs.Reading.{stands-split, stands-join, hex2-text, text-hex2, hex4-text, text-hex4, hex8-text, text-hex8, in-range}
 use Rattle.sheet_lines.specs.Reading.{threeOf, threeAt, headerOf, atomOf, exclusionOf, lineAt, widthOf}
 use Rattle.sheet_lines.specs.Grammar.{text888, lineText, Valid}
-use Rattle.sheet_lines.specs.declared.Head.{Head}
 use Rattle.sheet_lines.specs.declared.Three.{Three}
 use Rattle.sheet_lines.specs.declared.Three.the-variants.{Of, Nothing}
 use Rattle.sheet_lines.specs.declared.Line.{Line}

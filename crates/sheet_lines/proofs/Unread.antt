@@ -13,13 +13,13 @@ use borrow.Author.Tests.{lt-ltb, le-ltb}
 use Rattle.hex.specs.Digits.{byteAt, hex2, hex4, hex8}
 use Rattle.hex.specs.Glyphs.{Stands}
 use Rattle.hex.proofs.Reading.{stands-split}
-use Rattle.sheet_lines.specs.Reading.{threeAt, headerOf, atomOf, exclusionOf, lineAt, widthOf, linesFrom, linesOf}
+use Rattle.sheet_lines.specs.Reading.{threeAt, headerOf, atomOf, exclusionOf, lineAt, widthOf, linesFrom}
 use Rattle.sheet_lines.specs.Grammar.{lineText, Valid, WellFormed, WholeLine, AllWhole, joinAll}
 use Rattle.sheet_lines.specs.declared.Three.{Three}
 use Rattle.sheet_lines.specs.declared.Three.the-variants.{Of, Nothing}
 use Rattle.sheet_lines.specs.declared.Line.{Line}
 use Rattle.sheet_lines.specs.declared.Line.the-variants.{Header, Atom, Exclusion, Malformed, End}
-use Rattle.sheet_lines.proofs.GrammarLaws.{line-text, text-line, length-text, Sound}
+use Rattle.sheet_lines.proofs.GrammarLaws.{line-text, text-line, length-text}
 use Rattle.sheet_lines.proofs.Texts.{stands-self, sound-good, line-ends}
 use Rattle.sheet_lines.proofs.WholeLines.{unsplit, whole-text}
 

@@ -1,10 +1,11 @@
 -- Bytes fall into whole lines in one way, so another order of a sheet's whole lines is another order of its lines. Assumes nothing.
-use Prim.Native.Nat.{ℕ, zero, suc, _+_, _≤_, _<_, _/_, _%_}
+use Prim.Native.Nat.{ℕ, _/_, _%_}
 use mathlib.Core.Path.{_≡_, refl, sym, ap, _∙_}
 use mathlib.Core.List.{List, [], _∷_, _++_, append-assoc, List·Permᴰ, List·Permᴰ·nil, List·Permᴰ·cons, List·Permᴰ·swap, List·Permᴰ·trans}
 use native.Mathlib.Omega.{arith}
 use lib.ListN.{length, length-append}
 use lib.Dec.{ltb}
+use Rattle.lists.proofs.Cases.{impossible}
 use Rattle.hex.specs.Glyphs.{glyphOf, text2, text4, text8}
 use Rattle.hex.proofs.Choice.{cases}
 use Rattle.sheet_lines.specs.Reading.{linesOf}
@@ -112,16 +113,16 @@ Follows ls ds = (ms : List Line) × (ds ≡ texts ms) × List·Permᴰ ls ms
 
 follow-nil : (ls : List Line) → _≡_ {A = List (List ℕ)} [] (texts ls) → Follows ls []
 follow-nil [] e = ([], refl, List·Permᴰ·nil)
-follow-nil (l ∷ ls) e = let z : _≡_ {A = ℕ} 0 1 = cc in absurd (omega arith)
+follow-nil (l ∷ ls) e = impossible (cc)
 
 follow : {cs ds : List (List ℕ)} → List·Permᴰ cs ds → (ls : List Line) → cs ≡ texts ls → Follows ls ds
 follow List·Permᴰ·nil ls e = follow-nil ls e
-follow (List·Permᴰ·cons {a = a} {b = b} {l₁ = l₁} {l₂ = l₂} h p) [] e = let z : _≡_ {A = ℕ} 0 1 = cc in absurd (omega arith)
+follow (List·Permᴰ·cons {a = a} {b = b} {l₁ = l₁} {l₂ = l₂} h p) [] e = impossible (cc)
 follow (List·Permᴰ·cons {a = a} {b = b} {l₁ = l₁} {l₂ = l₂} h p) (l ∷ ls) e =
     let r = follow p ls (cc) in
     (l ∷ r .0, cc (r .1), List·Permᴰ·cons refl (r .2))
-follow (List·Permᴰ·swap {a = a} {b = b} {a′ = a′} {b′ = b′} {l = l} g h) [] e = let z : _≡_ {A = ℕ} 0 1 = cc in absurd (omega arith)
-follow (List·Permᴰ·swap {a = a} {b = b} {a′ = a′} {b′ = b′} {l = l} g h) (k ∷ []) e = let z : _≡_ {A = ℕ} 0 1 = cc in absurd (omega arith)
+follow (List·Permᴰ·swap {a = a} {b = b} {a′ = a′} {b′ = b′} {l = l} g h) [] e = impossible (cc)
+follow (List·Permᴰ·swap {a = a} {b = b} {a′ = a′} {b′ = b′} {l = l} g h) (k ∷ []) e = impossible (cc)
 follow (List·Permᴰ·swap {a = a} {b = b} {a′ = a′} {b′ = b′} {l = l} g h) (k ∷ (m ∷ ls)) e = (m ∷ (k ∷ ls), cc, List·Permᴰ·swap refl refl)
 follow (List·Permᴰ·trans p q) ls e =
     let r = follow p ls e in

@@ -1,9 +1,8 @@
 -- The grammar of a sheet (01, "Job sheet"): the bytes of each line, and a sheet as whole lines one after the other. Definitions only.
-use Prim.Native.Nat.{ℕ, _+_, _^_, _<_}
+use Prim.Native.Nat.{ℕ, _^_, _<_}
 use mathlib.Core.Path.{_≡_}
 use mathlib.Core.List.{List, [], _∷_, _++_}
 use Rattle.hex.specs.Glyphs.{text2, text4, text8}
-use Rattle.sheet_lines.specs.declared.Head.{Head}
 use Rattle.sheet_lines.specs.declared.Line.{Line}
 use Rattle.sheet_lines.specs.declared.Line.the-variants.{Header, Atom, Exclusion, Malformed, End}
 

@@ -1,11 +1,10 @@
 -- The line that stands at a place of a sheet (01, "Job sheet"): which bytes are read as which line. Definitions only.
 use Prim.Native.Nat.{ℕ, zero, suc, _+_, _^_}
-use mathlib.Core.Bool.{Bool, cond}
+use mathlib.Core.Bool.{cond}
 use mathlib.Core.List.{List, [], _∷_}
 use lib.ListN.{length}
 use lib.Dec.{ltb, eqb}
 use Rattle.hex.specs.Digits.{byteAt, hex2, hex4, hex8}
-use Rattle.sheet_lines.specs.declared.Head.{Head}
 use Rattle.sheet_lines.specs.declared.Three.{Three}
 use Rattle.sheet_lines.specs.declared.Three.the-variants.{Of, Nothing}
 use Rattle.sheet_lines.specs.declared.Line.{Line}

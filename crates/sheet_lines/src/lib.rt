@@ -4,7 +4,7 @@ use hex::hex2;
 use hex::hex4;
 use hex::hex8;
 ghost use mathlib.Core.Path.{_≡_};
-ghost use Prim.Native.Nat.{_+_, _≤_, _<_, _^_};
+ghost use Prim.Native.Nat.{_+_, _<_, _^_};
 ghost use Rattle.sheet_lines.specs.Reading.{threeOf, threeAt, headerOf, atomOf, exclusionOf, lineAt, widthOf};
 
 // The header's numbers, as they stand: the mask has x at bit 0.

@@ -1,5 +1,5 @@
 -- Laws of printed lines: how long each is, its parts written one after the other, and one pair more. Assumes nothing.
-use Prim.Native.Nat.{ℕ, zero, suc, _+_, _*_, _/_, _≤_, _<_}
+use Prim.Native.Nat.{ℕ, _+_, _*_, _/_, _≤_, _<_}
 use mathlib.Core.Path.{_≡_, refl, sym, ap, _∙_}
 use mathlib.Core.Bool.{Bool}
 use mathlib.Core.List.{List, [], _∷_, _++_, append-assoc, append-nil}
@@ -10,7 +10,6 @@ use native.Mathlib.Nat.{le-of-lt}
 use lib.Seq.{sets, take-suc, take-all, length-take-le}
 use Rattle.lists.specs.Lists.{each, rows}
 use Rattle.lists.proofs.Rows.{length-rows, rows-at}
-use Rattle.hex.specs.Glyphs.{text2, text4, text8}
 use Rattle.hex.proofs.Writing.{length2, length4, length8, put-put}
 use Rattle.sheet_printed.specs.Printed.{countLine, pairLine, refusalLine, pairLines, builtText}
 

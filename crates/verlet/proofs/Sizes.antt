@@ -1,6 +1,6 @@
 -- How large a float is, and what the operations make of it, each rounding counted: at most a / c, at least a / c. Assumes nothing.
 use mathlib.Core.Path.{_≡_, refl, sym, ap, subst, _∙_}
-use mathlib.Core.Bool.{Bool, true, false, cond, not, _&&_, _||_, Bool·beq, false≢true}
+use mathlib.Core.Bool.{Bool, true, false, cond, _&&_, _||_, Bool·beq, false≢true}
 use mathlib.Core.Logic.{_⊎_, inl, inr, ⊎-elim}
 use Prim.Native.Nat.{ℕ, zero, suc, _+_, _-_, _*_, _^_, _≤_, _<_}
 use native.Mathlib.Nat.{le-of-eq, le-of-lt, le-trans, not-suc-le-zero, suc-ne-zero, zero-lt-suc, mul-le-mul, mul-le-mul-right, le-of-mul-le-mul-right, mul-mul-mul-comm, mul-assoc, mul-comm, mul-one, add-mul, mul-pos, zero-mul}

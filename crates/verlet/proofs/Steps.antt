@@ -1,24 +1,20 @@
 -- Laws of a step's loops: lengths, what stands at a place afterwards, and what a test of the lengths tells. Assumes nothing.
-use mathlib.Core.Path.{_≡_, refl, _∙_, ap}
-use mathlib.Core.Bool.{Bool, true, cond}
+use mathlib.Core.Path.{_≡_, _∙_, ap}
+use mathlib.Core.Bool.{true}
 use mathlib.Core.List.{List}
 use Prim.Native.Nat.{ℕ, _*_, _<_, _≤_}
 use borrow.Author.Tests.{eqb-true, eq-eqb, le-leb}
-use lib.Dec.{eqb}
-use lib.Ieee.{Float, nan, le}
+use lib.Ieee.{Float, nan}
 use lib.ListN.{length}
 use Rattle.lists.specs.Atoms.{atomsOf}
 use Rattle.float.specs.Literals.{half}
-use Rattle.float.specs.Arith.{_⊕_, _⊗_, bits, at}
-use Rattle.lists.proofs.Cases.{by-test, and-both}
+use Rattle.float.specs.Arith.{_⊕_, _⊗_, at}
+use Rattle.lists.proofs.Cases.{and-both}
 use Rattle.lists.proofs.Loops.{length-mapAt, getD-mapAt}
 use Rattle.lists.specs.Lists.{every}
-use Rattle.virial.specs.Calls.{fewAtoms}
 use Rattle.virial.specs.declared.Units.{Units}
-use Rattle.verlet.specs.declared.Thermostat.{Thermostat}
-use Rattle.verlet.specs.declared.Thermostat.the-variants.{Absent, Present}
-use Rattle.verlet.specs.Parts.{threeEach, kickFits, moveFits, kickedBy, movedBy, rescaledBy, thermostatBy, coordinate, drifts}
-use Rattle.verlet.specs.Verlet.{kickAt, kickedOf, driftAt, driftedOf, movedOf, lambdaOf, currentOf, scaledBy, berendsenOf}
+use Rattle.verlet.specs.Parts.{threeEach, kickFits, moveFits, kickedBy, movedBy, rescaledBy, coordinate, drifts}
+use Rattle.verlet.specs.Verlet.{kickAt, kickedOf, driftAt, driftedOf, movedOf, berendsenOf}
 
 pub kicked-length : (units : Units) (dt : Float) (fs ms vs : List Float) → length (kickedOf units dt fs ms vs) ≡ length vs
 unfolding kickedOf
@@ -27,10 +23,6 @@ kicked-length units dt fs ms vs = length-mapAt _ nan vs
 pub drifted-length : (dt : Float) (vs xs : List Float) → length (driftedOf dt vs xs) ≡ length xs
 unfolding driftedOf
 drifted-length dt vs xs = length-mapAt _ nan xs
-
-pub scaled-length : (s : Float) (vs : List Float) → length (scaledBy s vs) ≡ length vs
-unfolding scaledBy
-scaled-length s vs = length-mapAt _ nan vs
 
 -- a coordinate after the kick and the drift
 pub drifted-at :
@@ -84,28 +76,8 @@ module _ (units : Units) (dt : Float) (fs ms vs : List Float) (speeds : length v
     unfolding drifts
     drifts-by = rw fits-move
 
--- at most 16,384 atoms: the source's thermostat; of any number the length stays
+-- at most 16,384 atoms: the source's thermostat
 module _ (units : Units) (dt target tau : Float) (ms vs : List Float) where
   pub rescaled-by : atomsOf vs ≤ 16384 → rescaledBy units dt target tau ms vs ≡ berendsenOf units dt target tau ms vs
   unfolding rescaledBy
   rescaled-by h = rw (le-leb (atomsOf vs) 16384 h)
-
-  either : (b : Bool) (l r : List Float) → length l ≡ length vs → length r ≡ length vs → length (cond b l r) ≡ length vs
-  either b l r p q = by-test (λ t. length (cond t l r) ≡ length vs) b (λ e. p) (λ e. q)
-
-  pub berendsen-length : length (berendsenOf units dt target tau ms vs) ≡ length vs
-  unfolding berendsenOf
-  berendsen-length =
-      let t = currentOf units ms vs in
-      let scaled = scaledBy (lambdaOf dt target tau t) vs in
-      let cold = le t (bits 0x3d719799812dea11) in
-      either (eqb (atomsOf vs) 0) vs (cond cold vs scaled) refl (either cold vs scaled refl (scaled-length (lambdaOf dt target tau t) vs))
-
-  pub rescaled-length : length (rescaledBy units dt target tau ms vs) ≡ length vs
-  unfolding rescaledBy
-  rescaled-length = either (fewAtoms (atomsOf vs)) (berendsenOf units dt target tau ms vs) vs berendsen-length refl
-
-pub thermostat-length : (t : Thermostat) (units : Units) (dt : Float) (ms vs : List Float) → length (thermostatBy t units dt ms vs) ≡ length vs
-unfolding thermostatBy
-thermostat-length Absent units dt ms vs = refl
-thermostat-length (Present target tau) units dt ms vs = rescaled-length units dt target tau ms vs

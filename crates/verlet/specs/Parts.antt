@@ -6,9 +6,8 @@ use lib.Dec.{eqb}
 use lib.Ieee.{Float}
 use lib.ListN.{length}
 use Rattle.lists.specs.Atoms.{atomsOf}
-use Rattle.cell.specs.Ranged.{entryLimit}
+pub use Rattle.cell.specs.Ranged.{coordinate}
 use Rattle.lists.specs.Lists.{every}
-use Rattle.ranges.specs.Ranged.{within}
 use Rattle.virial.specs.declared.Units.{Units}
 use Rattle.virial.specs.Calls.{fewAtoms}
 use Rattle.verlet.specs.declared.Thermostat.{Thermostat}
@@ -41,10 +40,6 @@ kickedBy units dt fs ms vs = cond (kickFits fs ms vs) (kickedOf units dt fs ms v
 -- `verlet_step`, lines 178 to 184: positions and velocities
 unfoldable pub movedBy : Units → (dt : Float) (fs ms xs vs : List Float) → List Float × List Float
 movedBy units dt fs ms xs vs = cond (moveFits fs ms xs vs) (movedOf units dt fs ms xs vs) (xs, vs)
-
--- "Coordinates ..: magnitude to 2^20"
-abbrev pub coordinate : Float → Bool
-coordinate x = within entryLimit x
 
 -- "The drift is tested (3) .. before anything is stored": every drifted coordinate is in range
 unfoldable pub drifts : Units → (dt : Float) (fs ms xs vs : List Float) → Bool

@@ -1,6 +1,6 @@
 // The loops of a step, for the crates above: total, and no range is tested. Where the lists do not fit each other nothing is moved. No public call.
 ghost use mathlib.Core.Path.{_≡_};
-ghost use Prim.Native.Nat.{_*_, _/_, _<_};
+ghost use Prim.Native.Nat.{_*_, _<_};
 ghost use lib.ListN.{length};
 ghost use Rattle.float.specs.Literals.{half};
 ghost use Rattle.lists.specs.Lists.{every};

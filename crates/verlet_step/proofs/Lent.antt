@@ -24,7 +24,8 @@ use Rattle.cell.specs.declared.Cell.{Cell}
 use Rattle.neighbor.specs.declared.State.{State}
 use Rattle.neighbor.specs.Rebuild.{needsOf, claimsMore, referencesOk, rangesOk, strayedOf}
 use Rattle.neighbor.specs.Update.{unfit, lengthsBad, listedOf, firstOf, misnamed, keptAsked, tableAsked, andThen}
-use Rattle.neighbor.proofs.Asking.{pass, listed-some}
+use Rattle.answer.proofs.Passed.{pass}
+use Rattle.neighbor.proofs.Asking.{listed-some}
 use Rattle.evaluate.specs.Asked.{termsFit, numbersOk, bondsAsked, idsAsked, namesAsked, inTurn, jobAsked}
 use Rattle.evaluate.proofs.Settling.{passed, both-passed}
 use Rattle.verlet_step.specs.Asked.{motionFits, motionOk}

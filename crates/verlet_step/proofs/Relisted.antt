@@ -34,7 +34,8 @@ use Rattle.neighbor.specs.declared.State.{State}
 use Rattle.neighbor.specs.State.{skinOf, radiusOf, builtOf, emptiedOf}
 use Rattle.neighbor.specs.Rebuild.{needsOf, referencesOk}
 use Rattle.neighbor.specs.Update.{Given, given, Outcome, stays, keptAll, builtAll, fullAll, listedAll, listedBy, rebuiltAll, unfit, updateOf, listedOf, misnamed, keptAsked}
-use Rattle.neighbor.proofs.Asking.{pass, listed-some}
+use Rattle.answer.proofs.Passed.{pass}
+use Rattle.neighbor.proofs.Asking.{listed-some}
 use Rattle.neighbor.proofs.Demands.{near-exactly}
 
 -- ---- the skin, read twice as its maximum with zero, is as read once

@@ -5,7 +5,6 @@ use mathlib.Core.Bool.{Bool, true, false, cond}
 use mathlib.Core.List.{List}
 use lib.Ieee.{Float}
 use lib.ListN.{length}
-use Rattle.evaluate.specs.Asked.{jobAsked}
 use Rattle.answer.specs.declared.Done.{Done}
 use Rattle.answer.specs.declared.Done.the-variants as Done·cases
 use Rattle.answer.specs.declared.Refusal.{Refusal}
@@ -14,9 +13,11 @@ use Rattle.answer.specs.Seen.{Seen, answered, refused, seenDone}
 use Rattle.virial.specs.declared.Units.{Units}
 use Rattle.verlet.specs.declared.Thermostat.{Thermostat}
 use Rattle.verlet.specs.Parts.{kickedBy, movedBy, drifts, thermostatBy}
+use Rattle.neighbor.specs.declared.State.{State}
 use Rattle.neighbor.specs.Update.{given, stays}
 use Rattle.neighbor.specs.Update as Update
-use Rattle.evaluate.specs.Calls.{Job, job, settledOf}
+use Rattle.evaluate.specs.declared.Setting.{Setting}
+use Rattle.evaluate.specs.Calls.{Job, job, jobOf, askedOf, settledOf}
 use Rattle.evaluate.specs.Calls as Evaluation
 use Rattle.verlet_step.specs.declared.Stepped.{Stepped}
 use Rattle.verlet_step.specs.Asked.{stepLimit, finishLimit, motionFits, motionOk}
@@ -31,6 +32,11 @@ pub record Motion : Type 0 where
 
 abbrev pub motion : (dt : Float) → Job → (masses : List Float) → (potential : Float) → (velocities : List Float) → Motion
 motion dt j masses potential velocities = record { dt = dt; job = j; masses = masses; potential = potential; velocities = velocities }
+
+-- that of a call, from what it is handed
+abbrev pub motionOf : Setting → (dt : Float) → State → (potential : Float) → (ids : List ℕ) (params : List Float) (species : List ℕ) (charges : List Float) (bonds : List ℕ) (lengths ks masses : List Float) (exclusions : List ℕ) (positions velocities : List Float) (pairs : List ℕ) (references : List Float) (starts items : List ℕ) (forces : List Float) → Motion
+motionOf setting dt s potential ids params species charges bonds lengths ks masses exclusions positions velocities pairs references starts items forces =
+    motion dt (jobOf setting s ids params species charges bonds lengths ks positions exclusions pairs references starts items forces) masses potential velocities
 
 abbrev pub unitsOf : Motion → Units
 unitsOf m = m .job .terms .units
@@ -121,9 +127,9 @@ cooled t m o =
 -- 1, 2, 6, 3, 4, 5: an evaluation's tests, with what is asked of the motion at 1 and at 3
 unfoldable pub motionAsked : (limit : Float) → Thermostat → Motion → Done
 motionAsked limit t m =
-    jobAsked (motionFits (length (m .job .given .positions)) (length (m .velocities)) (length (m .masses)))
+    askedOf (motionFits (length (m .job .given .positions)) (length (m .velocities)) (length (m .masses)))
     (motionOk limit (m .dt) t (m .masses) (m .velocities) (m .job .forces) (m .potential))
-    (m .job .terms) (m .job .given) (length (m .job .forces))
+    (m .job)
 
 -- the work, unless the tests refuse
 unfoldable pub unless : Motion → Done → Outcome → Outcome

@@ -1,4 +1,6 @@
 -- What the kernel and the private functions say of themselves: nobody has to believe it. Definitions only.
+use Prim.Native.Nat.{ℕ}
+use mathlib.Core.Path.{_≡_}
 use mathlib.Core.Bool.{Bool, true, false}
 use mathlib.Core.List.{List}
 use lib.Ieee.{Float}
@@ -11,7 +13,7 @@ use Rattle.neighbor.specs.declared.State.{State}
 use Rattle.evaluate.specs.declared.Evaluated.{Evaluated}
 use Rattle.evaluate.specs.Steps.{settledIn}
 use Rattle.verlet_step.specs.declared.Stepped.{Stepped}
-use Rattle.verlet_step.specs.Calls.{Motion, Outcome, landedBy, advancedBy}
+use Rattle.verlet_step.specs.Calls.{Motion, Outcome, landedBy, advancedBy, shown}
 
 -- the kernel's evaluation looks species up by halving, in a scratch; after the tests it is settledOf
 abbrev pub landedIn : Motion → Outcome
@@ -19,6 +21,13 @@ landedIn m = landedBy settledIn m
 
 abbrev pub advancedIn : Motion → Outcome
 advancedIn m = advancedBy settledIn m
+
+-- what `land` and `advance` answer, and what everything lent holds at exit
+abbrev pub LandSays : Motion → Stepped → (velocities : List Float) → (pairs : List ℕ) → (references : List Float) → (starts items : List ℕ) → (forces : List Float) → Type 0
+LandSays m r velocities pairs references starts items forces = shown r (m .job .given .positions) velocities pairs references starts items forces ≡ landedIn m
+
+abbrev pub AdvanceSays : Motion → Stepped → (positions velocities : List Float) → (pairs : List ℕ) → (references : List Float) → (starts items : List ℕ) → (forces : List Float) → Type 0
+AdvanceSays m r positions velocities pairs references starts items forces = shown r positions velocities pairs references starts items forces ≡ advancedIn m
 
 abbrev pub unmovedOf : State → (potential : Float) → Refusal → Stepped
 unmovedOf s potential why = record { done = Refused why; stopped = false; rebuilt = false; state = s; potential = potential }

@@ -1,19 +1,11 @@
 // What both calls ask, in 01's order: an evaluation's tests with those of the motion. Total.
+use crate::Pace;
 use answer::Done;
-use cell::Cell;
+use evaluate::Setting;
 use neighbor::State;
-use potentials::BondTerm;
-use potentials::CoulombTerm;
-use potentials::LjTerm;
-use verlet::Thermostat;
-use virial::Units;
 ghost use mathlib.Core.Path.{_≡_};
-ghost use mathlib.Core.Bool.{_&&_};
-ghost use lib.ListN.{length};
-ghost use Rattle.lists.specs.Atoms.{atomsOf};
-ghost use Rattle.neighbor.specs.Update.{firstOf, keptAsked};
-ghost use Rattle.evaluate.specs.Asked.{termsFit, numbersOk, namesAsked, inTurn};
 ghost use Rattle.verlet_step.specs.Asked.{motionFits, motionOk};
+ghost use Rattle.verlet_step.specs.Calls.{motionOf, motionAsked};
 
 fn motion_fits(positions: usize, velocities: usize, masses: usize) -> bool
     ensures { λ r. ⌜ r ≡ motionFits positions velocities masses ⌝ }
@@ -24,16 +16,16 @@ fn motion_fits(positions: usize, velocities: usize, masses: usize) -> bool
 // `limit` is that of the velocities.
 fn motion_ok(
     limit: f64,
-    dt: f64,
-    thermostat: Thermostat,
+    pace: Pace,
     masses: &[f64],
     velocities: &[f64],
     forces: &[f64],
     potential: f64,
 ) -> bool
-    ensures { λ r. ⌜ r ≡ motionOk limit dt thermostat (now (masses .entry)) (now (velocities .entry)) (now (forces .entry)) potential ⌝ }
+    ensures { λ r. ⌜ r ≡ motionOk limit (pace .dt) (pace .thermostat) (now (masses .entry)) (now (velocities .entry)) (now (forces .entry)) potential ⌝ }
 {
-    verlet::ranged::time_step(dt)
+    let thermostat = pace.thermostat;
+    verlet::ranged::time_step(pace.dt)
         & verlet::ranged::thermostat_in_range(thermostat)
         & ranges::all_between(0.0009765625, 1048576.0, masses)
         & ranges::all_within(limit, velocities)
@@ -41,47 +33,39 @@ fn motion_ok(
         & virial::ranged::plain(potential)
 }
 
-// Refusals 1, 2, 6, 3, 4, 5. `species` and `items` are lengths.
+// Refusals 1, 2, 6, 3, 4, 5; `limit` as above.
 pub(crate) fn asked(
     limit: f64,
-    dt: f64,
-    thermostat: Thermostat,
-    lj: LjTerm,
-    coulomb: CoulombTerm,
-    bond: BondTerm,
-    units: Units,
+    setting: Setting,
+    pace: Pace,
     s: State,
-    cell: Cell,
+    potential: f64,
     ids: &[u32],
     params: &[f64],
-    species: usize,
+    species: &[u32],
     charges: &[f64],
     bonds: &[u32],
     lengths: &[f64],
     ks: &[f64],
     masses: &[f64],
     exclusions: &[u32],
-    potential: f64,
     positions: &[f64],
     velocities: &[f64],
     pairs: &[u32],
     references: &[f64],
-    items: usize,
+    starts: &[u32],
+    items: &[u32],
     forces: &[f64],
 ) -> Done
-    ensures { λ r. ⌜ r ≡ inTurn (motionFits (length (now (positions .entry))) (length (now (velocities .entry))) (length (now (masses .entry))) && termsFit (length (now (ids .entry))) (length (now (params .entry))) species (length (now (charges .entry))) (length (now (bonds .entry))) (length (now (positions .entry))) (length (now (forces .entry)))) (firstOf s cell (now (positions .entry)) (length (now (exclusions .entry))) (length (now (pairs .entry))) (length (now (references .entry))) items) (motionOk limit dt thermostat (now (masses .entry)) (now (velocities .entry)) (now (forces .entry)) potential && numbersOk lj coulomb bond units (now (params .entry)) (now (charges .entry)) (now (lengths .entry)) (now (ks .entry))) (keptAsked s (atomsOf (now (positions .entry))) (now (pairs .entry)) (now (references .entry))) (namesAsked (atomsOf (now (positions .entry))) (now (bonds .entry)) (now (exclusions .entry)) (now (ids .entry))) ⌝ }
+    ensures { λ r. ⌜ r ≡ motionAsked limit (pace .thermostat) (motionOf setting (pace .dt) s potential (now (ids .entry)) (now (params .entry)) (now (species .entry)) (now (charges .entry)) (now (bonds .entry)) (now (lengths .entry)) (now (ks .entry)) (now (masses .entry)) (now (exclusions .entry)) (now (positions .entry)) (now (velocities .entry)) (now (pairs .entry)) (now (references .entry)) (now (starts .entry)) (now (items .entry)) (now (forces .entry))) ⌝ }
 {
     let fits = motion_fits(positions.len(), velocities.len(), masses.len());
-    let inside = motion_ok(limit, dt, thermostat, masses, velocities, forces, potential);
+    let inside = motion_ok(limit, pace, masses, velocities, forces, potential);
     evaluate::asked::asked(
         fits,
         inside,
-        lj,
-        coulomb,
-        bond,
-        units,
+        setting,
         s,
-        cell,
         ids,
         params,
         species,
@@ -93,7 +77,8 @@ pub(crate) fn asked(
         exclusions,
         pairs,
         references,
+        starts,
         items,
-        forces.len(),
+        forces,
     )
 }

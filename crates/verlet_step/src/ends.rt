@@ -1,9 +1,9 @@
 // How both calls end: refused with nothing changed, or cooled.
+use crate::Pace;
 use crate::Stepped;
 use answer::Done;
 use answer::Refusal;
 use neighbor::State;
-use verlet::Thermostat;
 use virial::Units;
 ghost use mathlib.Core.Path.{_≡_};
 ghost use Rattle.answer.specs.Seen.{seenDone};
@@ -24,19 +24,13 @@ pub(crate) fn unmoved(s: State, potential: f64, why: Refusal) -> Stepped
 }
 
 // The thermostat, where the step came so far.
-pub(crate) fn cool(
-    r: Stepped,
-    t: Thermostat,
-    units: Units,
-    dt: f64,
-    masses: &[f64],
-    velocities: &mut [f64],
-)
-    ensures { λ _. ⌜ now (velocities .exit) ≡ cooledOf t units dt (now (masses .entry)) (seenDone (r .done)) (now (velocities .entry)) ⌝ }
+pub(crate) fn cool(r: Stepped, units: Units, pace: Pace, masses: &[f64], velocities: &mut [f64])
+    ensures { λ _. ⌜ now (velocities .exit) ≡ cooledOf (pace .thermostat) units (pace .dt) (now (masses .entry)) (seenDone (r .done)) (now (velocities .entry)) ⌝ }
 {
     let done = r.done;
     if let Done::Refused(_) = done {
         return;
     }
-    verlet::kernel::thermostat(t, units, dt, masses, velocities);
+    let t = pace.thermostat;
+    verlet::kernel::thermostat(t, units, pace.dt, masses, velocities);
 }

@@ -3,20 +3,14 @@ use crate::Stepped;
 use crate::ends;
 use answer::Done;
 use answer::Refusal;
-use cell::Cell;
 use evaluate::Evaluated;
+use evaluate::Setting;
 use neighbor::State;
-use potentials::BondTerm;
-use potentials::CoulombTerm;
-use potentials::LjTerm;
 use verlet::moves;
 use virial::Units;
 ghost use mathlib.Core.Path.{_≡_};
-ghost use Rattle.neighbor.specs.Update.{given};
-ghost use Rattle.evaluate.specs.Calls.{job};
-ghost use Rattle.evaluate.specs.Terms.{terms};
-ghost use Rattle.verlet_step.specs.Calls.{motion, shown};
-ghost use Rattle.verlet_step.specs.Steps.{landedIn, advancedIn, kicked, kickedAfter, steppedFrom};
+ghost use Rattle.verlet_step.specs.Calls.{motionOf};
+ghost use Rattle.verlet_step.specs.Steps.{LandSays, AdvanceSays, kicked, kickedAfter, steppedFrom};
 
 // The evaluation's answer with a potential.
 fn with_potential(e: Evaluated, stopped: bool, potential: f64) -> Stepped
@@ -56,13 +50,10 @@ fn second_kick(
 
 // The evaluation at the positions and the second kick: the end of `advance`, and what `finish` resumes.
 pub fn land(
+    setting: Setting,
     dt: f64,
-    lj: LjTerm,
-    coulomb: CoulombTerm,
-    bond: BondTerm,
-    units: Units,
     s: State,
-    cell: Cell,
+    potential: f64,
     ids: &[u32],
     params: &[f64],
     species: &[u32],
@@ -72,7 +63,6 @@ pub fn land(
     ks: &[f64],
     masses: &[f64],
     exclusions: &[u32],
-    potential: f64,
     positions: &[f64],
     velocities: &mut [f64],
     pairs: &mut [u32],
@@ -81,15 +71,12 @@ pub fn land(
     items: &mut [u32],
     forces: &mut [f64],
 ) -> Stepped
-    ensures { λ r. ⌜ shown r (now (positions .entry)) (now (velocities .exit)) (now (pairs .exit)) (now (references .exit)) (now (starts .exit)) (now (items .exit)) (now (forces .exit)) ≡ landedIn (motion dt (job (terms lj coulomb bond units (now (ids .entry)) (now (params .entry)) (now (species .entry)) (now (charges .entry)) (now (bonds .entry)) (now (lengths .entry)) (now (ks .entry))) (given s cell (now (positions .entry)) (now (exclusions .entry)) (now (pairs .entry)) (now (references .entry)) (now (starts .entry)) (now (items .entry))) (now (forces .entry))) (now (masses .entry)) potential (now (velocities .entry))) ⌝ }
+    ensures { λ r. ⌜ LandSays (motionOf setting dt s potential (now (ids .entry)) (now (params .entry)) (now (species .entry)) (now (charges .entry)) (now (bonds .entry)) (now (lengths .entry)) (now (ks .entry)) (now (masses .entry)) (now (exclusions .entry)) (now (positions .entry)) (now (velocities .entry)) (now (pairs .entry)) (now (references .entry)) (now (starts .entry)) (now (items .entry)) (now (forces .entry))) r (now (velocities .exit)) (now (pairs .exit)) (now (references .exit)) (now (starts .exit)) (now (items .exit)) (now (forces .exit)) ⌝ }
 {
+    let units = setting.units;
     let e = evaluate::kernel::settle(
-        lj,
-        coulomb,
-        bond,
-        units,
+        setting,
         s,
-        cell,
         ids,
         params,
         species,
@@ -110,13 +97,10 @@ pub fn land(
 
 // The drift's test, half a kick, the drift, and `land`.
 pub fn advance(
+    setting: Setting,
     dt: f64,
-    lj: LjTerm,
-    coulomb: CoulombTerm,
-    bond: BondTerm,
-    units: Units,
     s: State,
-    cell: Cell,
+    potential: f64,
     ids: &[u32],
     params: &[f64],
     species: &[u32],
@@ -126,7 +110,6 @@ pub fn advance(
     ks: &[f64],
     masses: &[f64],
     exclusions: &[u32],
-    potential: f64,
     positions: &mut [f64],
     velocities: &mut [f64],
     pairs: &mut [u32],
@@ -135,20 +118,18 @@ pub fn advance(
     items: &mut [u32],
     forces: &mut [f64],
 ) -> Stepped
-    ensures { λ r. ⌜ shown r (now (positions .exit)) (now (velocities .exit)) (now (pairs .exit)) (now (references .exit)) (now (starts .exit)) (now (items .exit)) (now (forces .exit)) ≡ advancedIn (motion dt (job (terms lj coulomb bond units (now (ids .entry)) (now (params .entry)) (now (species .entry)) (now (charges .entry)) (now (bonds .entry)) (now (lengths .entry)) (now (ks .entry))) (given s cell (now (positions .entry)) (now (exclusions .entry)) (now (pairs .entry)) (now (references .entry)) (now (starts .entry)) (now (items .entry))) (now (forces .entry))) (now (masses .entry)) potential (now (velocities .entry))) ⌝ }
+    ensures { λ r. ⌜ AdvanceSays (motionOf setting dt s potential (now (ids .entry)) (now (params .entry)) (now (species .entry)) (now (charges .entry)) (now (bonds .entry)) (now (lengths .entry)) (now (ks .entry)) (now (masses .entry)) (now (exclusions .entry)) (now (positions .entry)) (now (velocities .entry)) (now (pairs .entry)) (now (references .entry)) (now (starts .entry)) (now (items .entry)) (now (forces .entry))) r (now (positions .exit)) (now (velocities .exit)) (now (pairs .exit)) (now (references .exit)) (now (starts .exit)) (now (items .exit)) (now (forces .exit)) ⌝ }
 {
+    let units = setting.units;
     if !moves::drifts(units, dt, forces, masses, positions, velocities) {
         return ends::unmoved(s, potential, Refusal::Drifted);
     }
     moves::kick_and_drift(units, dt, forces, masses, positions, velocities);
     land(
+        setting,
         dt,
-        lj,
-        coulomb,
-        bond,
-        units,
         s,
-        cell,
+        potential,
         ids,
         params,
         species,
@@ -158,7 +139,6 @@ pub fn advance(
         ks,
         masses,
         exclusions,
-        potential,
         positions,
         velocities,
         pairs,

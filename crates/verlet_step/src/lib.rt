@@ -1,22 +1,21 @@
 // One step of velocity Verlet and the call that finishes a stopped one (verlet.rs, `verlet_step`): the loops of `verlet` with the evaluation between them.
 // specs/Calls.antt says what both answer and leave; `kernel` has the work without the tests and without the thermostat, for the crates above.
 use answer::Done;
-use cell::Cell;
+use evaluate::Setting;
 use neighbor::State;
-use potentials::BondTerm;
-use potentials::CoulombTerm;
-use potentials::LjTerm;
 use verlet::Thermostat;
-use virial::Units;
 
 mod asked;
 mod ends;
 pub mod kernel;
 
-ghost use Rattle.neighbor.specs.Update.{given};
-ghost use Rattle.evaluate.specs.Calls.{job};
-ghost use Rattle.evaluate.specs.Terms.{terms};
-ghost use Rattle.verlet_step.specs.Calls.{motion, StepSays, FinishSays};
+ghost use Rattle.verlet_step.specs.Calls.{motionOf, StepSays, FinishSays};
+
+// How a step goes on in time.
+pub struct Pace {
+    pub dt: f64,
+    pub thermostat: Thermostat,
+}
 
 // A step, or why not; whether a 7 or 8 stopped it after the drift; whether the list was built anew; the list's state and the potential, which come back in
 // every case. Positions, velocities and forces stand in what the caller lends.
@@ -30,14 +29,10 @@ pub struct Stepped {
 
 // One step; refusals 1, 2, 6, 3, 4, 5, the drift, 7, 8. `forces` and `potential` are those at the positions, `params`, `lengths` and `ks` as in `evaluate`.
 pub fn step(
-    dt: f64,
-    thermostat: Thermostat,
-    lj: LjTerm,
-    coulomb: CoulombTerm,
-    bond: BondTerm,
-    units: Units,
+    setting: Setting,
+    pace: Pace,
     s: State,
-    cell: Cell,
+    potential: f64,
     ids: &[u32],
     params: &[f64],
     species: &[u32],
@@ -47,7 +42,6 @@ pub fn step(
     ks: &[f64],
     masses: &[f64],
     exclusions: &[u32],
-    potential: f64,
     positions: &mut [f64],
     velocities: &mut [f64],
     pairs: &mut [u32],
@@ -56,46 +50,14 @@ pub fn step(
     items: &mut [u32],
     forces: &mut [f64],
 ) -> Stepped
-    ensures { λ r. ⌜ StepSays thermostat (motion dt (job (terms lj coulomb bond units (now (ids .entry)) (now (params .entry)) (now (species .entry)) (now (charges .entry)) (now (bonds .entry)) (now (lengths .entry)) (now (ks .entry))) (given s cell (now (positions .entry)) (now (exclusions .entry)) (now (pairs .entry)) (now (references .entry)) (now (starts .entry)) (now (items .entry))) (now (forces .entry))) (now (masses .entry)) potential (now (velocities .entry))) r (now (positions .exit)) (now (velocities .exit)) (now (pairs .exit)) (now (references .exit)) (now (starts .exit)) (now (items .exit)) (now (forces .exit)) ⌝ }
+    ensures { λ r. ⌜ StepSays (pace .thermostat) (motionOf setting (pace .dt) s potential (now (ids .entry)) (now (params .entry)) (now (species .entry)) (now (charges .entry)) (now (bonds .entry)) (now (lengths .entry)) (now (ks .entry)) (now (masses .entry)) (now (exclusions .entry)) (now (positions .entry)) (now (velocities .entry)) (now (pairs .entry)) (now (references .entry)) (now (starts .entry)) (now (items .entry)) (now (forces .entry))) r (now (positions .exit)) (now (velocities .exit)) (now (pairs .exit)) (now (references .exit)) (now (starts .exit)) (now (items .exit)) (now (forces .exit)) ⌝ }
 {
     let a = asked::asked(
         cell::ranged::ENTRY,
-        dt,
-        thermostat,
-        lj,
-        coulomb,
-        bond,
-        units,
+        setting,
+        pace,
         s,
-        cell,
-        ids,
-        params,
-        species.len(),
-        charges,
-        bonds,
-        lengths,
-        ks,
-        masses,
-        exclusions,
         potential,
-        positions,
-        velocities,
-        pairs,
-        references,
-        items.len(),
-        forces,
-    );
-    if let Done::Refused(why) = a {
-        return ends::unmoved(s, potential, why);
-    }
-    let r = kernel::advance(
-        dt,
-        lj,
-        coulomb,
-        bond,
-        units,
-        s,
-        cell,
         ids,
         params,
         species,
@@ -105,7 +67,6 @@ pub fn step(
         ks,
         masses,
         exclusions,
-        potential,
         positions,
         velocities,
         pairs,
@@ -114,20 +75,42 @@ pub fn step(
         items,
         forces,
     );
-    ends::cool(r, thermostat, units, dt, masses, velocities);
+    if let Done::Refused(why) = a {
+        return ends::unmoved(s, potential, why);
+    }
+    let r = kernel::advance(
+        setting,
+        pace.dt,
+        s,
+        potential,
+        ids,
+        params,
+        species,
+        charges,
+        bonds,
+        lengths,
+        ks,
+        masses,
+        exclusions,
+        positions,
+        velocities,
+        pairs,
+        references,
+        starts,
+        items,
+        forces,
+    );
+    let units = setting.units;
+    ends::cool(r, units, pace, masses, velocities);
     r
 }
 
 // The rest of a step that a 7 or 8 stopped: the same arguments with more room. Refusals as of a step, but velocities to 2^500 and no drift.
 pub fn finish(
-    dt: f64,
-    thermostat: Thermostat,
-    lj: LjTerm,
-    coulomb: CoulombTerm,
-    bond: BondTerm,
-    units: Units,
+    setting: Setting,
+    pace: Pace,
     s: State,
-    cell: Cell,
+    potential: f64,
     ids: &[u32],
     params: &[f64],
     species: &[u32],
@@ -137,7 +120,6 @@ pub fn finish(
     ks: &[f64],
     masses: &[f64],
     exclusions: &[u32],
-    potential: f64,
     positions: &[f64],
     velocities: &mut [f64],
     pairs: &mut [u32],
@@ -146,46 +128,14 @@ pub fn finish(
     items: &mut [u32],
     forces: &mut [f64],
 ) -> Stepped
-    ensures { λ r. ⌜ FinishSays thermostat (motion dt (job (terms lj coulomb bond units (now (ids .entry)) (now (params .entry)) (now (species .entry)) (now (charges .entry)) (now (bonds .entry)) (now (lengths .entry)) (now (ks .entry))) (given s cell (now (positions .entry)) (now (exclusions .entry)) (now (pairs .entry)) (now (references .entry)) (now (starts .entry)) (now (items .entry))) (now (forces .entry))) (now (masses .entry)) potential (now (velocities .entry))) r (now (velocities .exit)) (now (pairs .exit)) (now (references .exit)) (now (starts .exit)) (now (items .exit)) (now (forces .exit)) ⌝ }
+    ensures { λ r. ⌜ FinishSays (pace .thermostat) (motionOf setting (pace .dt) s potential (now (ids .entry)) (now (params .entry)) (now (species .entry)) (now (charges .entry)) (now (bonds .entry)) (now (lengths .entry)) (now (ks .entry)) (now (masses .entry)) (now (exclusions .entry)) (now (positions .entry)) (now (velocities .entry)) (now (pairs .entry)) (now (references .entry)) (now (starts .entry)) (now (items .entry)) (now (forces .entry))) r (now (velocities .exit)) (now (pairs .exit)) (now (references .exit)) (now (starts .exit)) (now (items .exit)) (now (forces .exit)) ⌝ }
 {
     let a = asked::asked(
         cell::ranged::OTHER,
-        dt,
-        thermostat,
-        lj,
-        coulomb,
-        bond,
-        units,
+        setting,
+        pace,
         s,
-        cell,
-        ids,
-        params,
-        species.len(),
-        charges,
-        bonds,
-        lengths,
-        ks,
-        masses,
-        exclusions,
         potential,
-        positions,
-        velocities,
-        pairs,
-        references,
-        items.len(),
-        forces,
-    );
-    if let Done::Refused(why) = a {
-        return ends::unmoved(s, potential, why);
-    }
-    let r = kernel::land(
-        dt,
-        lj,
-        coulomb,
-        bond,
-        units,
-        s,
-        cell,
         ids,
         params,
         species,
@@ -195,7 +145,6 @@ pub fn finish(
         ks,
         masses,
         exclusions,
-        potential,
         positions,
         velocities,
         pairs,
@@ -204,6 +153,32 @@ pub fn finish(
         items,
         forces,
     );
-    ends::cool(r, thermostat, units, dt, masses, velocities);
+    if let Done::Refused(why) = a {
+        return ends::unmoved(s, potential, why);
+    }
+    let r = kernel::land(
+        setting,
+        pace.dt, // as the stopped step had it
+        s,
+        potential,
+        ids,
+        params,
+        species,
+        charges,
+        bonds,
+        lengths,
+        ks,
+        masses,
+        exclusions,
+        positions,
+        velocities,
+        pairs,
+        references,
+        starts,
+        items,
+        forces,
+    );
+    let units = setting.units;
+    ends::cool(r, units, pace, masses, velocities);
     r
 }

@@ -7,7 +7,7 @@ use native.Mathlib.Nat.{not-suc-le-zero, le-of-suc-le-suc}
 use native.Mathlib.Omega.{arith}
 use borrow.Author.Tests.{lt-ltb, le-ltb}
 use lib.Ieee.{Float}
-use lib.ListN.{length, replicate, length-replicate, set, take}
+use lib.ListN.{length, length-replicate, set, take}
 use Rattle.lists.specs.Atoms.{atomsOf}
 use Rattle.float.specs.Literals.{f0}
 use Rattle.cell.specs.declared.Vec3.{Vec3}
@@ -36,14 +36,6 @@ unfolding mergedForces
 merged-length [] added = refl
 merged-length (x ∷ l) [] = refl
 merged-length (x ∷ l) (y ∷ added) = ap suc (merged-length l added)
-
--- what stands at k where both lists go as far
-pub merged-at : (l added : List Float) (k : ℕ) → k < length l → k < length added → at (mergedForces l added) k ≡ at l k ⊕ at added k
-unfolding mergedForces
-merged-at [] added k h m = absurd (not-suc-le-zero h)
-merged-at (x ∷ l) [] k h m = absurd (not-suc-le-zero m)
-merged-at (x ∷ l) (y ∷ added) zero h m = refl
-merged-at (x ∷ l) (y ∷ added) (suc k) h m = merged-at l added k (le-of-suc-le-suc h) (le-of-suc-le-suc m)
 
 -- one element more of the second list is one store
 pub merged-more :

@@ -4,7 +4,7 @@ use mathlib.Core.List.{List}
 use Prim.Native.Nat.{ℕ}
 use lib.Ieee.{Float}
 use Rattle.answer.proofs.Only.{made, seen-only, told-back, done-only, number-only}
-use Rattle.answer.specs.Seen.{Seen, seenDone, seenNumber}
+use Rattle.answer.specs.Seen.{Seen, seenDone}
 use Rattle.answer.specs.declared.Done.{Done}
 use Rattle.answer.specs.declared.Number.{Number}
 use Rattle.cell.specs.declared.Rows.{Rows}

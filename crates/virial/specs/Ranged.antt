@@ -1,7 +1,6 @@
 -- 01's ranges, as tests of what this crate is handed. Definitions only.
 use mathlib.Core.Bool.{Bool, _&&_}
 use mathlib.Core.List.{List}
-use Prim.Native.Nat.{ℕ}
 use lib.Ieee.{Float}
 use Rattle.cell.specs.Ranged.{otherLimit}
 use Rattle.float.specs.Arith.{bits, at, row}

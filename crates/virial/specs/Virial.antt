@@ -1,7 +1,7 @@
 -- virial.rs as definitions: the bundle of energy, forces and virial, and the pressures, in the source's order, one rounding an operation. Definitions only.
-use mathlib.Core.Bool.{Bool, cond}
+use mathlib.Core.Bool.{cond}
 use mathlib.Core.List.{List, [], _∷_}
-use Prim.Native.Nat.{ℕ, _+_, _*_, _/_, min}
+use Prim.Native.Nat.{ℕ, _+_, _*_, min}
 use lib.Dec.{ltb}
 use lib.Ieee.{Float, le, neg}
 use lib.ListN.{length, replicate, set}
@@ -9,7 +9,7 @@ use Rattle.lists.specs.Atoms.{atomsOf}
 use Rattle.float.specs.Literals.{f0, f1, f2, f3}
 use Rattle.cell.specs.declared.Vec3.{Vec3}
 use Rattle.cell.specs.Vec.{scaleOf}
-use Rattle.float.specs.Arith.{_⊕_, _⊗_, _⊘_, bits, at, row, entry}
+use Rattle.float.specs.Arith.{_⊕_, _⊗_, _⊘_, at, row, entry}
 use Rattle.lists.specs.Loops.{foldUpTo}
 use Rattle.virial.specs.declared.Sum.{Sum}
 use Rattle.virial.specs.declared.Units.{Units}

@@ -5,7 +5,7 @@ use super::potentials::{Coulomb, HarmonicBonds, LennardJones};
 use super::units;
 use super::verlet::Berendsen;
 use super::virial::Contribution;
-use crate::raw::{self, BondTerm, CoulombTerm, LjTerm};
+use crate::raw::{self, BondTerm, CoulombTerm, LjTerm, Pace, Setting};
 use crate::Error;
 
 /// The terms of an [`Evaluator`], each absent or present with what it reads of the atoms.
@@ -35,9 +35,8 @@ pub struct Evaluator {
 /// The terms as the library takes them.
 #[derive(Debug, Clone, Default)]
 struct Tables {
-    lj: LjTerm,
-    coulomb: CoulombTerm,
-    bond: BondTerm,
+    /// With no cell: the evaluator's own stands in it while a call runs.
+    setting: Setting,
     ids: Vec<u32>,
     params: Vec<f64>,
     species: Vec<u32>,
@@ -74,12 +73,12 @@ impl Evaluator {
         self.make_ready(positions.len());
         let mut forces = vec![[0.0; 3]; positions.len()];
         loop {
-            let (s, cell) = (self.list.state(), self.cell.as_ref().into());
+            let (setting, s) = (self.setting(), self.list.state());
             let (exclusions, room) = self.list.lent();
             let t = &self.tables;
             #[rustfmt::skip]
-            let r = raw::tyn_evaluate(t.lj, t.coulomb, t.bond, units::RAW, s, cell, &t.ids, &t.params, &t.species, &t.charges, &t.bonds, &t.lengths, &t.ks,
-                positions.as_flattened(), exclusions, &mut room.pairs, &mut room.references, &mut room.starts, &mut room.items, forces.as_flattened_mut());
+            let r = raw::tyn_evaluate(setting, s, &t.ids, &t.params, &t.species, &t.charges, &t.bonds, &t.lengths, &t.ks, positions.as_flattened(),
+                exclusions, &mut room.pairs, &mut room.references, &mut room.starts, &mut room.items, forces.as_flattened_mut());
             if !self.list.took(r.done, r.state) {
                 return Contribution::of("tyn_evaluate", raw::Summed { done: r.done, sum: r.sum }, forces);
             }
@@ -89,13 +88,13 @@ impl Evaluator {
     /// One step. Where the pairs did not fit after the drift it is finished with more room.
     pub(super) fn step(&mut self, m: Motion) -> Result<bool, Error> {
         self.make_ready(m.positions.len());
-        let (s, cell) = (self.list.state(), self.cell.as_ref().into());
+        let (setting, s) = (self.setting(), self.list.state());
         let (exclusions, room) = self.list.lent();
         let t = &self.tables;
         #[rustfmt::skip]
-        let r = raw::tyn_step(m.dt, thermostat(m.thermostat), t.lj, t.coulomb, t.bond, units::RAW, s, cell, &t.ids, &t.params, &t.species, &t.charges,
-            &t.bonds, &t.lengths, &t.ks, m.masses, exclusions, *m.potential, m.positions.as_flattened_mut(), m.velocities.as_flattened_mut(),
-            &mut room.pairs, &mut room.references, &mut room.starts, &mut room.items, m.forces.as_flattened_mut());
+        let r = raw::tyn_step(setting, m.pace(), s, *m.potential, &t.ids, &t.params, &t.species, &t.charges, &t.bonds, &t.lengths, &t.ks, m.masses,
+            exclusions, m.positions.as_flattened_mut(), m.velocities.as_flattened_mut(), &mut room.pairs, &mut room.references, &mut room.starts,
+            &mut room.items, m.forces.as_flattened_mut());
         if self.list.took(r.done, r.state) {
             return self.finish(m);
         }
@@ -107,13 +106,13 @@ impl Evaluator {
     pub(super) fn finish(&mut self, m: Motion) -> Result<bool, Error> {
         self.make_ready(m.positions.len());
         loop {
-            let (s, cell) = (self.list.state(), self.cell.as_ref().into());
+            let (setting, s) = (self.setting(), self.list.state());
             let (exclusions, room) = self.list.lent();
             let t = &self.tables;
             #[rustfmt::skip]
-            let r = raw::tyn_finish(m.dt, thermostat(m.thermostat), t.lj, t.coulomb, t.bond, units::RAW, s, cell, &t.ids, &t.params, &t.species, &t.charges,
-                &t.bonds, &t.lengths, &t.ks, m.masses, exclusions, *m.potential, m.positions.as_flattened(), m.velocities.as_flattened_mut(),
-                &mut room.pairs, &mut room.references, &mut room.starts, &mut room.items, m.forces.as_flattened_mut());
+            let r = raw::tyn_finish(setting, m.pace(), s, *m.potential, &t.ids, &t.params, &t.species, &t.charges, &t.bonds, &t.lengths, &t.ks, m.masses,
+                exclusions, m.positions.as_flattened(), m.velocities.as_flattened_mut(), &mut room.pairs, &mut room.references, &mut room.starts,
+                &mut room.items, m.forces.as_flattened_mut());
             if !self.list.took(r.done, r.state) {
                 *m.potential = r.potential;
                 return stepped("tyn_finish", r);
@@ -121,14 +120,19 @@ impl Evaluator {
         }
     }
 
+    /// The terms with the cell of now: both may have changed since the last call.
+    fn setting(&self) -> Setting {
+        Setting { cell: self.cell.as_ref().into(), ..self.tables.setting }
+    }
+
     /// The library wants a species and a charge an atom also where the term that reads them is absent.
     fn make_ready(&mut self, atoms: usize) {
         self.list.make_ready(atoms);
         let t = &mut self.tables;
-        if t.lj.present == 0 {
+        if t.setting.lj.present == 0 {
             t.species.resize(atoms, 0);
         }
-        if t.coulomb.present == 0 {
+        if t.setting.coulomb.present == 0 {
             t.charges.resize(atoms, 0.0);
         }
     }
@@ -136,26 +140,29 @@ impl Evaluator {
 
 impl Tables {
     fn of(terms: &Terms) -> Self {
-        let mut t = Self::default();
+        let mut t = Self { setting: Setting { units: units::RAW, ..Setting::default() }, ..Self::default() };
         if let Some((lj, numbers)) = &terms.lennard_jones {
-            t.lj = LjTerm { present: 1, lj: lj.numbers() };
+            t.setting.lj = LjTerm { present: 1, lj: lj.numbers() };
             (t.ids, t.params) = lj.table();
             t.species = numbers.clone();
         }
         if let Some((coulomb, charges)) = &terms.coulomb {
-            t.coulomb = CoulombTerm { present: 1, cutoff: coulomb.cutoff };
+            t.setting.coulomb = CoulombTerm { present: 1, cutoff: coulomb.cutoff };
             t.charges = charges.clone();
         }
         if let Some((bonds, pairs)) = &terms.bonds {
-            t.bond = BondTerm { present: 1, bond: bonds.numbers() };
+            t.setting.bond = BondTerm { present: 1, bond: bonds.numbers() };
             (t.bonds, t.lengths, t.ks) = (raw::rows(pairs), bonds.per_bond.clone(), bonds.per_bond_k.clone());
         }
         t
     }
 }
 
-fn thermostat(t: Option<Berendsen>) -> raw::Thermostat {
-    t.map_or(raw::Thermostat::default(), |t| raw::Thermostat { present: 1, target_k: t.target_k, tau_fs: t.tau_fs })
+impl Motion<'_> {
+    fn pace(&self) -> Pace {
+        let thermostat = self.thermostat.map_or(raw::Thermostat::default(), |t| raw::Thermostat { present: 1, target_k: t.target_k, tau_fs: t.tau_fs });
+        Pace { dt: self.dt, thermostat }
+    }
 }
 
 fn stepped(call: &'static str, r: raw::Stepped) -> Result<bool, Error> {

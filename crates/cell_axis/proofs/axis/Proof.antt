@@ -1,4 +1,4 @@
--- `image::axis` meets its contract. Assumes nothing.
+-- `cell_axis::axis` meets its contract. Assumes nothing.
 use borrow.Author.Needs.{needs}
 use Rattle.cell_axis.specs.Image.{axisOf}
 use Rattle.cell_axis.proofs.axis.Statement.{statement}

@@ -1,4 +1,4 @@
--- `image::far` meets its contract: the formula by `far-apart`. Assumes nothing.
+-- `cell_axis::far` meets its contract: the formula by `far-apart`. Assumes nothing.
 use borrow.Author.Needs.{needs}
 use Rattle.cell_axis.specs.Image.{farOf}
 use Rattle.cell_axis.proofs.Long.{far-apart}

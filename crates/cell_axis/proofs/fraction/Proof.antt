@@ -1,4 +1,4 @@
--- `image::fraction` meets its contract: it is the definition. Assumes nothing.
+-- `cell_axis::fraction` meets its contract: it is the definition. Assumes nothing.
 use borrow.Author.Needs.{needs}
 use Rattle.cell_axis.specs.Image.{fractionOf}
 use Rattle.cell_axis.proofs.fraction.Statement.{statement}

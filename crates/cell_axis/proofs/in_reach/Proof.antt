@@ -1,6 +1,6 @@
--- `image::in_reach` meets its contract: it is the definition. Assumes nothing.
-use borrow.Author.Needs.{needs}
+-- `cell_axis::in_reach` meets its contract: it is the definition. Assumes nothing.
 use Rattle.cell_axis.specs.Image.{inReach}
+use borrow.Author.Needs.{needs}
 use Rattle.cell_axis.proofs.in_reach.Statement.{statement}
 use Rattle.cell_axis.proofs.in_reach.Tie as tie
 

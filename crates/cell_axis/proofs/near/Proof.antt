@@ -1,4 +1,3 @@
--- `image::near` meets its contract: the formula by `near-apart`. Assumes nothing.
 use lib.Ieee.{inf}
 use mathlib.Core.Bool.{false}
 use borrow.Author.Needs.{needs}
@@ -14,7 +13,7 @@ returns c =
     let g = c .before .good in
     record {
       is = cc;
-      formula = λ A h k. near-apart _ _ (inf false) _ _ (yes (g .1 .0 .1)) (yes (g .1 .1 .0 .1)) A h k (cc);
+      formula = λ A h k. near-apart _ _ (inf false) _ _ (yes (g .0 .1)) (yes (g .1 .0 .1)) A h k (cc);
     }
 
 pub near-spec : {M : Type 1} → statement M

@@ -1,4 +1,4 @@
--- `image::nearest` meets its contract: it is the definition. Assumes nothing.
+-- `cell_axis::nearest` meets its contract: it is the definition. Assumes nothing.
 use borrow.Author.Needs.{needs}
 use Rattle.cell_axis.specs.Image.{nearestOf}
 use Rattle.cell_axis.proofs.nearest.Statement.{statement}

@@ -1,4 +1,4 @@
--- `image::steps` meets its contract: each branch is what the definition's `cond` picks. Assumes nothing.
+-- `cell_axis::steps` meets its contract: each branch is what the definition's `cond` picks. Assumes nothing.
 use mathlib.Core.Path.{sym}
 use Rattle.cell_axis.specs.Image.{stepsOf}
 use Rattle.cell_axis.proofs.steps.Statement.{statement}

@@ -1,4 +1,4 @@
--- `image::toward` meets its contract: each branch is what the definition's `cond` picks. Assumes nothing.
+-- `cell_axis::toward` meets its contract: each branch is what the definition's `cond` picks. Assumes nothing.
 use mathlib.Core.Path.{sym}
 use Rattle.cell_axis.proofs.toward.Statement.{statement}
 use Rattle.cell_axis.proofs.toward.Tie as tie

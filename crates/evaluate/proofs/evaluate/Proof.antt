@@ -1,17 +1,14 @@
-use Rattle.evaluate.specs.Asked.{jobAsked}
 use Rattle.evaluate.proofs.Settling.{evaluated-refused, evaluated-on}
-use Rattle.evaluate.specs.Calls.{Job, job}
-use Rattle.evaluate.specs.Terms.{terms}
-use Rattle.neighbor.specs.Update.{given}
+use Rattle.evaluate.specs.Calls.{Job, jobOf}
 use borrow.Author.Needs.{needs}
 use Rattle.evaluate.proofs.evaluate.Statement.{statement}
 use Rattle.evaluate.proofs.evaluate.Tie as tie
 
 returns : tie.Need-returns
-returns c = let a = c .before .before .before .before .before .before .before .before .before .before .before .before .before .before .before .before .before .before .before .before .before .args in let j : Job = job (terms (a .lj) (a .coulomb) (a .bond) (a .units) (a .ids .now) (a .params .now) (a .species .now) (a .charges .now) (a .bonds .now) (a .lengths .now) (a .ks .now)) (given (a .s) (a .cell) (a .positions .now) (a .exclusions .now) (a .pairs .now) (a .references .now) (a .starts .now) (a .items .now)) (a .forces .now) in unfold jobAsked in evaluated-refused j (c .before .before .before .before .asked .ensures) (c .before .before .a .given .1) (c .refused .ensures)
+returns c = let a = c .before .before .before .before .before .before .before .before .before .before .before .before .before .before .before .before .before .before .before .before .before .before .before .before .args in let j : Job = jobOf (a .setting) (a .s) (a .ids .now) (a .params .now) (a .species .now) (a .charges .now) (a .bonds .now) (a .lengths .now) (a .ks .now) (a .positions .now) (a .exclusions .now) (a .pairs .now) (a .references .now) (a .starts .now) (a .items .now) (a .forces .now) in evaluated-refused j (c .before .before .before .before .asked .ensures) (c .before .before .a .given .1) (c .refused .ensures)
 
 returns-2 : tie.Need-returns-2
-returns-2 c = let a = c .before .before .before .before .before .before .before .before .before .before .before .before .before .before .before .before .before .before .before .before .before .before .before .before .before .before .before .before .before .before .before .before .before .before .before .args in let j : Job = job (terms (a .lj) (a .coulomb) (a .bond) (a .units) (a .ids .now) (a .params .now) (a .species .now) (a .charges .now) (a .bonds .now) (a .lengths .now) (a .ks .now)) (given (a .s) (a .cell) (a .positions .now) (a .exclusions .now) (a .pairs .now) (a .references .now) (a .starts .now) (a .items .now)) (a .forces .now) in unfold jobAsked in evaluated-on j (c .before .before .before .before .before .before .before .before .before .before .before .before .before .before .before .before .before .before .asked .ensures) (c .before .before .before .before .before .before .before .before .before .before .before .before .before .before .before .before .enum-told .given .1) (c .before .before .before .before .before .before .before .before .before .before .settle .ensures)
+returns-2 c = let a = c .before .before .before .before .before .before .before .before .before .before .before .before .before .before .before .before .before .before .before .before .before .before .before .before .before .before .before .before .before .before .before .before .before .before .before .before .before .before .args in let j : Job = jobOf (a .setting) (a .s) (a .ids .now) (a .params .now) (a .species .now) (a .charges .now) (a .bonds .now) (a .lengths .now) (a .ks .now) (a .positions .now) (a .exclusions .now) (a .pairs .now) (a .references .now) (a .starts .now) (a .items .now) (a .forces .now) in evaluated-on j (c .before .before .before .before .before .before .before .before .before .before .before .before .before .before .before .before .before .before .asked .ensures) (c .before .before .before .before .before .before .before .before .before .before .before .before .before .before .before .before .enum-told .given .1) (c .before .before .before .before .before .before .before .before .before .before .settle .ensures)
 
 pub evaluate-spec : {M : Type 1} → statement M
 evaluate-spec =
@@ -20,6 +17,9 @@ evaluate-spec =
     (λ c κs. search needs)
     (λ c. search needs)
     (λ c κs. search needs)
+    (λ c. search needs)
+    (λ c. search needs)
+    (λ c. search needs)
     (λ c. search needs)
     (λ c. search needs)
     returns

@@ -1,24 +1,18 @@
 -- `float::floor` meets its contract: each branch is a fact of `proofs/Whole.antt`, with what the calls ensure put in. Assumes nothing.
-use mathlib.Core.Path.{_≡_, _∙_, ap, subst}
-use mathlib.Core.Bool.{true, false}
-use lib.Ieee.{Float, ofBits, binary64, neg, add, sub, lt}
-use borrow.Author.Needs.{needs}
-use Rattle.float.specs.Def.{truncOf, floorOf, roundOf, absOf}
-use Rattle.float.specs.Steps.{signOf}
 use Rattle.float.proofs.Branches.{yes}
-use Rattle.float.proofs.Whole.{big+, half+, one+, with-parts, requires-of, floor-up, floor-whole, floor-else, floor-large}
+use Rattle.float.proofs.Whole.{big+, one+, with-parts, requires-of, floor-up, floor-whole, floor-else, floor-large}
+use Rattle.float.specs.Def.{floorOf}
+use Rattle.float.specs.Steps.{signOf}
+use borrow.Author.Needs.{needs}
+use lib.Ieee.{Float, ofBits, binary64, neg, add, lt}
+use mathlib.Core.Bool.{true, false}
+use mathlib.Core.Path.{_≡_, _∙_, subst}
 use Rattle.float.proofs.floor.Statement.{statement}
 use Rattle.float.proofs.floor.Tie as tie
-
-abs-requires : tie.Need-abs-requires
-abs-requires c κs = search needs
 
 whole-part-requires : tie.Need-whole-part-requires
 unfolding ofBits
 whole-part-requires c κs = requires-of _ _ (c .before .abs .ensures) (c .if1 .taken)
-
-with-sign-requires : tie.Need-with-sign-requires
-with-sign-requires c κs = search needs
 
 returns : tie.Need-returns
 unfolding ofBits
@@ -49,4 +43,12 @@ returns-4 c =
 
 pub floor-spec : {M : Type 1} → statement M
 floor-spec =
-    tie.close (tie.spec abs-requires whole-part-requires with-sign-requires returns returns-2 returns-3 returns-4)
+    tie.close
+    (tie.spec
+    (λ c κs. search needs)
+    whole-part-requires
+    (λ c κs. search needs)
+    returns
+    returns-2
+    returns-3
+    returns-4)

@@ -1,5 +1,5 @@
 -- `float::more_digits` meets its contract. The loop's invariant is `Digits` of `proofs/Sqrt.antt`, and a turn is `turn-one` or `turn-zero` there. Assumes nothing.
-use Prim.Native.Nat.{ℕ, _≤_, _<_, _-_, _^_}
+use Prim.Native.Nat.{_-_}
 use native.Mathlib.Omega.{arith}
 use mathlib.Core.Logic.{⊎-elim}
 use Rattle.float.specs.Steps.{Digits}

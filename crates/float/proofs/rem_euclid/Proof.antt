@@ -1,13 +1,10 @@
 -- `float::rem_euclid` meets its contract: each branch returns what the definition's `cond` picks. Assumes nothing.
-use mathlib.Core.Path.{ap, _∙_}
-use lib.Ieee.{ofBits, binary64, add}
-use borrow.Author.Needs.{needs}
 use Rattle.float.proofs.Branches.{rem-neg, rem-else}
+use borrow.Author.Needs.{needs}
+use lib.Ieee.{ofBits, binary64, add}
+use mathlib.Core.Path.{ap, _∙_}
 use Rattle.float.proofs.rem_euclid.Statement.{statement}
 use Rattle.float.proofs.rem_euclid.Tie as tie
-
-abs-requires : tie.Need-abs-requires
-abs-requires c κs = search needs
 
 returns : tie.Need-returns
 unfolding ofBits
@@ -18,4 +15,4 @@ unfolding ofBits
 returns-2 c = rem-else _ _ (c .if1 .left)
 
 pub rem-euclid-spec : {M : Type 1} → statement M
-rem-euclid-spec = tie.close (tie.spec abs-requires returns returns-2)
+rem-euclid-spec = tie.close (tie.spec (λ c κs. search needs) returns returns-2)

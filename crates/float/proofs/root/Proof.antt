@@ -1,17 +1,14 @@
 -- `float::root` meets its contract: the cases but a finite number above zero are in `proofs/Finite.antt`. Assumes nothing.
-use lib.Ieee.{ofBits, div}
-use borrow.Author.Needs.{needs}
 use Rattle.float.proofs.Branches.{yes}
 use Rattle.float.proofs.Finite.{positive-of, root-inf, root-zero, root-else}
+use borrow.Author.Needs.{needs}
+use lib.Ieee.{ofBits, div}
 use Rattle.float.proofs.root.Statement.{statement}
 use Rattle.float.proofs.root.Tie as tie
 
 root-finite-requires : tie.Need-root-finite-requires
 unfolding ofBits div
 root-finite-requires c κs = positive-of _ (c .before .if1 .taken) (c .if2 .taken)
-
-returns : tie.Need-returns
-returns c = search needs
 
 returns-2 : tie.Need-returns-2
 unfolding ofBits div
@@ -26,4 +23,11 @@ unfolding ofBits div
 returns-4 c = root-else _ (yes (c .before .before .good .0 .1)) (c .before .if1 .left) (c .if3 .left)
 
 pub root-spec : {M : Type 1} → statement M
-root-spec = tie.close (tie.spec root-finite-requires returns returns-2 returns-3 returns-4)
+root-spec =
+    tie.close
+    (tie.spec
+    root-finite-requires
+    (λ c. search needs)
+    returns-2
+    returns-3
+    returns-4)

@@ -1,21 +1,12 @@
 -- `float::root_even` meets its contract by `even-root` of `proofs/Patterns.antt`. Assumes nothing.
-use mathlib.Core.Path.{_≡_, ap, _∙_}
 use Prim.Native.Nat.{ℕ, _+_, _*_, _/_, _^_}
-use native.Mathlib.Omega.{arith}
-use lib.Ieee.{ofBits, binary64}
-use borrow.Author.Needs.{needs}
 use Rattle.float.proofs.Patterns.{digits-lt, even-root, not-nan}
+use borrow.Author.Needs.{needs}
+use lib.Ieee.{ofBits, binary64}
+use mathlib.Core.Path.{ap, _∙_}
+use native.Mathlib.Omega.{arith}
 use Rattle.float.proofs.root_even.Statement.{statement}
 use Rattle.float.proofs.root_even.Tie as tie
-
-root-digits-requires : tie.Need-root-digits-requires
-root-digits-requires c κs = search needs
-
-add-result : tie.Need-add-result
-add-result c = search needs
-
-mul-result : tie.Need-mul-result
-mul-result c = search needs
 
 add-result-2 : tie.Need-add-result-2
 add-result-2 c = omega (arith, digits-lt _ _ (c .before .pre .1) (c .root-digits .ensures))
@@ -34,4 +25,11 @@ returns c =
 pub root-even-spec : {M : Type 1} → statement M
 root-even-spec =
     tie.close
-    (tie.spec root-digits-requires add-result mul-result add-result-2 add-result-3 float-from-bits-result returns)
+    (tie.spec
+    (λ c κs. search needs)
+    (λ c. search needs)
+    (λ c. search needs)
+    add-result-2
+    add-result-3
+    float-from-bits-result
+    returns)

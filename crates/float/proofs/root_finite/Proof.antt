@@ -1,13 +1,13 @@
 -- `float::root_finite` meets its contract by the fields of x's bits, in `proofs/Finite.antt`. Assumes nothing.
-use mathlib.Core.Path.{_≡_, _∙_}
+use Rattle.float.proofs.Branches.{yes}
+use Rattle.float.proofs.Finite.{positive-no-nan, low-pos, low-root, field-lt, high-root, bits}
+use borrow.Author.Needs.{needs}
+use lib.Dec.{T}
+use lib.Ieee.{fits, binary64}
+use lib.Pow.{pow-pos}
+use mathlib.Core.Path.{_∙_}
 use native.Mathlib.Nat.{mod-lt}
 use native.Mathlib.Omega.{arith}
-use lib.Dec.{T}
-use lib.Pow.{pow-pos}
-use lib.Ieee.{fits, binary64}
-use borrow.Author.Needs.{needs}
-use Rattle.float.proofs.Branches.{yes}
-use Rattle.float.proofs.Finite.{positive-no-nan, low-pos, low-root, field-lt, high-root, digitsOf, fieldOf, bits}
 use Rattle.float.proofs.root_finite.Statement.{statement}
 use Rattle.float.proofs.root_finite.Tie as tie
 
@@ -19,12 +19,6 @@ float-to-bits-bits c = positive-no-nan _ (c .pre)
 
 root-scaled-requires : tie.Need-root-scaled-requires
 root-scaled-requires c κs = (low-pos _ (c .before .pre) (held (c .before)) (c .if1 .taken), omega (arith, mod-lt (bits _ (c .before .pre) (held (c .before))) (pow-pos 52)), omega arith)
-
-add-root-scaled : tie.Need-add-root-scaled
-add-root-scaled c = search needs
-
-sub-root-scaled : tie.Need-sub-root-scaled
-sub-root-scaled c = search needs
 
 root-scaled-requires-2 : tie.Need-root-scaled-requires-2
 root-scaled-requires-2 c κs = (omega arith, omega (arith, mod-lt (bits _ (c .before .pre) (held (c .before))) (pow-pos 52)), omega (arith, field-lt _ (c .before .pre) (held (c .before))))
@@ -38,4 +32,11 @@ returns-2 c = c .root-scaled2 .ensures ∙ high-root _ (c .before .before .pre) 
 pub root-finite-spec : {M : Type 1} → statement M
 root-finite-spec =
     tie.close
-    (tie.spec float-to-bits-bits root-scaled-requires add-root-scaled sub-root-scaled root-scaled-requires-2 returns returns-2)
+    (tie.spec
+    float-to-bits-bits
+    root-scaled-requires
+    (λ c. search needs)
+    (λ c. search needs)
+    root-scaled-requires-2
+    returns
+    returns-2)

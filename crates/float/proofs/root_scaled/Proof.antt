@@ -1,11 +1,11 @@
 -- `float::root_scaled` meets its contract: `proofs/Normal.antt` has what the shift by the leading zeros gives. Assumes nothing.
-use mathlib.Core.Path.{_≡_, ap, _∙_, subst}
 use Prim.Native.Nat.{ℕ, _+_, _-_, _*_, _/_, _^_, _≤_}
-use lib.Count.{leadingZeros}
-use native.Mathlib.Omega.{arith}
-use borrow.Author.Needs.{needs}
-use Rattle.float.specs.Def.{rootScaled}
 use Rattle.float.proofs.Normal.{Norm, normal, even-sum, odd-sum, half-le, same-is, same-in, next-is, next-in, rescaled}
+use Rattle.float.specs.Def.{rootScaled}
+use borrow.Author.Needs.{needs}
+use lib.Count.{leadingZeros}
+use mathlib.Core.Path.{ap, _∙_}
+use native.Mathlib.Omega.{arith}
 use Rattle.float.proofs.root_scaled.Statement.{statement}
 use Rattle.float.proofs.root_scaled.Tie as tie
 
@@ -17,9 +17,6 @@ sub-z c = norm c .0
 
 cast-z : tie.Need-cast-z
 cast-z c = omega (arith, norm c .1 .shift)
-
-add-p : tie.Need-add-p
-add-p c = search needs
 
 sub-p : tie.Need-sub-p
 sub-p c = omega (arith, norm c .1 .shift)
@@ -56,4 +53,15 @@ returns-2 c =
 pub root-scaled-spec : {M : Type 1} → statement M
 root-scaled-spec =
     tie.close
-    (tie.spec sub-z cast-z add-p sub-p shl-root-even root-even-requires add-root-even shl-root-even-2 root-even-requires-2 returns returns-2)
+    (tie.spec
+    sub-z
+    cast-z
+    (λ c. search needs)
+    sub-p
+    shl-root-even
+    root-even-requires
+    add-root-even
+    shl-root-even-2
+    root-even-requires-2
+    returns
+    returns-2)

@@ -1,5 +1,5 @@
 -- `float::to_bits` meets its contract. Assumes nothing.
-use mathlib.Core.Path.{sym, ap}
+use mathlib.Core.Path.{ap}
 use borrow.Author.Needs.{needs}
 use lib.Ieee.{toBits, binary64}
 use Rattle.float.proofs.Branches.{nan-told, number-told}

@@ -1,24 +1,18 @@
 -- `float::trunc` meets its contract: each branch is a fact of `proofs/Whole.antt`, with what the calls ensure put in. Assumes nothing.
-use mathlib.Core.Path.{_≡_, _∙_, ap, subst}
-use mathlib.Core.Bool.{true, false}
-use lib.Ieee.{Float, ofBits, binary64, neg, add, sub, lt}
-use borrow.Author.Needs.{needs}
-use Rattle.float.specs.Def.{truncOf, floorOf, roundOf, absOf}
-use Rattle.float.specs.Steps.{signOf}
 use Rattle.float.proofs.Branches.{yes}
-use Rattle.float.proofs.Whole.{big+, half+, one+, with-parts, requires-of, trunc-small, trunc-large}
+use Rattle.float.proofs.Whole.{big+, with-parts, requires-of, trunc-small, trunc-large}
+use Rattle.float.specs.Def.{truncOf}
+use Rattle.float.specs.Steps.{signOf}
+use borrow.Author.Needs.{needs}
+use lib.Ieee.{Float, ofBits, lt}
+use mathlib.Core.Bool.{true, false}
+use mathlib.Core.Path.{_≡_, _∙_, subst}
 use Rattle.float.proofs.trunc.Statement.{statement}
 use Rattle.float.proofs.trunc.Tie as tie
-
-abs-requires : tie.Need-abs-requires
-abs-requires c κs = search needs
 
 whole-part-requires : tie.Need-whole-part-requires
 unfolding ofBits
 whole-part-requires c κs = requires-of _ _ (c .before .abs .ensures) (c .if1 .taken)
-
-with-sign-requires : tie.Need-with-sign-requires
-with-sign-requires c κs = search needs
 
 returns : tie.Need-returns
 unfolding ofBits
@@ -35,4 +29,10 @@ returns-2 c =
 
 pub trunc-spec : {M : Type 1} → statement M
 trunc-spec =
-    tie.close (tie.spec abs-requires whole-part-requires with-sign-requires returns returns-2)
+    tie.close
+    (tie.spec
+    (λ c κs. search needs)
+    whole-part-requires
+    (λ c κs. search needs)
+    returns
+    returns-2)

@@ -1,6 +1,6 @@
-use Rattle.hex.specs.Digits.{digitOf, joined, hex2, hex4, hex8}
+use Rattle.hex.specs.Digits.{digitOf}
 use borrow.Author.Needs.{needs}
-use borrow.Author.Tests.{lt-ltb, le-ltb, eq-eqb, ne-eqb}
+use borrow.Author.Tests.{lt-ltb, le-ltb}
 use Rattle.hex.proofs.digit.Statement.{statement}
 use Rattle.hex.proofs.digit.Tie as tie
 

@@ -1,6 +1,6 @@
 use Prim.Native.Nat.{_≤_}
-use Rattle.hex.specs.Digits.{digitOf, joined, hex2, hex4, hex8}
-use borrow.Author.Tests.{lt-ltb, le-ltb, eq-eqb, ne-eqb}
+use Rattle.hex.specs.Digits.{joined}
+use borrow.Author.Tests.{lt-ltb, le-ltb}
 use native.Mathlib.Nat.{mul-le-mul}
 use native.Mathlib.Omega.{arith}
 use Rattle.hex.proofs.join.Statement.{statement}

@@ -1,4 +1,4 @@
-use Prim.Native.Nat.{_≤_, _+_, _-_}
+use Prim.Native.Nat.{_≤_, _-_}
 use Rattle.sheet.proofs.Copying.{one-more}
 use borrow.Author.Needs.{needs}
 use lib.ListN.{length, take}

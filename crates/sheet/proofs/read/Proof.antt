@@ -1,7 +1,5 @@
 use Rattle.sheet.proofs.Settling.{too-long, no-room, no-rows, read-whole, read-refused}
-use Rattle.sheet.specs.Desk.{meaningFor}
 use borrow.Author.Needs.{needs}
-use mathlib.Core.Path.{refl}
 use Rattle.sheet.proofs.read.Statement.{statement}
 use Rattle.sheet.proofs.read.Tie as tie
 

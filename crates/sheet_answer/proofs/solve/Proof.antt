@@ -5,7 +5,7 @@ use Rattle.sheet_answer.proofs.Fitting.{solve-fits}
 use Rattle.sheet_answer.proofs.Telling.{read-answered, read-refused, too-small, solved}
 use borrow.Author.Needs.{needs}
 use lib.ListN.{replicate, length-replicate}
-use mathlib.Core.Path.{_∙_, sym}
+use mathlib.Core.Path.{_∙_}
 use native.Mathlib.Omega.{arith}
 use Rattle.sheet_answer.proofs.solve.Statement.{statement}
 use Rattle.sheet_answer.proofs.solve.Tie as tie

@@ -1,7 +1,6 @@
 use Rattle.sheet_lines.specs.Reading.{headerOf}
 use borrow.Author.Needs.{needs}
 use borrow.Author.Tests.{lt-ltb, le-ltb, eq-eqb, ne-eqb}
-use mathlib.Core.Path.{sym}
 use Rattle.sheet_lines.proofs.header_of.Statement.{statement}
 use Rattle.sheet_lines.proofs.header_of.Tie as tie
 

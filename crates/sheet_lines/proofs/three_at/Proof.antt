@@ -1,4 +1,4 @@
-use Rattle.sheet_lines.specs.Reading.{threeOf, threeAt, headerOf, atomOf, exclusionOf, lineAt}
+use Rattle.sheet_lines.specs.Reading.{threeAt}
 use borrow.Author.Needs.{needs}
 use Rattle.sheet_lines.proofs.three_at.Statement.{statement}
 use Rattle.sheet_lines.proofs.three_at.Tie as tie

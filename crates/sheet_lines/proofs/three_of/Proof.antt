@@ -1,6 +1,6 @@
-use Rattle.sheet_lines.specs.Reading.{threeOf, threeAt, headerOf, atomOf, exclusionOf, lineAt}
+use Rattle.sheet_lines.specs.Reading.{threeOf}
 use borrow.Author.Needs.{needs}
-use borrow.Author.Tests.{lt-ltb, le-ltb, eq-eqb, ne-eqb}
+use borrow.Author.Tests.{lt-ltb, le-ltb}
 use Rattle.sheet_lines.proofs.three_of.Statement.{statement}
 use Rattle.sheet_lines.proofs.three_of.Tie as tie
 

@@ -1,4 +1,4 @@
-use Prim.Native.Nat.{_+_, _*_, _/_, _-_, _≤_}
+use Prim.Native.Nat.{_+_, _*_, _-_, _≤_}
 use Rattle.lists.specs.Lists.{rows, each}
 use Rattle.sheet_printed.proofs.Parts.{one-pair}
 use Rattle.sheet_printed.specs.Printed.{pairLines}

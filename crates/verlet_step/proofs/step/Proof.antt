@@ -1,18 +1,14 @@
-use Rattle.evaluate.specs.Asked.{jobAsked}
-use Rattle.evaluate.specs.Calls.{job}
-use Rattle.evaluate.specs.Terms.{terms}
-use Rattle.neighbor.specs.Update.{given}
 use Rattle.verlet_step.proofs.Landing.{stepped-on, stepped-refused}
-use Rattle.verlet_step.specs.Calls.{Motion, motion, motionAsked}
+use Rattle.verlet_step.specs.Calls.{Motion, motionOf}
 use borrow.Author.Needs.{needs}
 use Rattle.verlet_step.proofs.step.Statement.{statement}
 use Rattle.verlet_step.proofs.step.Tie as tie
 
 returns : tie.Need-returns
-returns c = let a = c .before .before .before .before .before .before .before .before .before .before .before .before .before .before .before .before .before .before .before .before .before .before .before .before .before .before .args in let m : Motion = motion (a .dt) (job (terms (a .lj) (a .coulomb) (a .bond) (a .units) (a .ids .now) (a .params .now) (a .species .now) (a .charges .now) (a .bonds .now) (a .lengths .now) (a .ks .now)) (given (a .s) (a .cell) (a .positions .now) (a .exclusions .now) (a .pairs .now) (a .references .now) (a .starts .now) (a .items .now)) (a .forces .now)) (a .masses .now) (a .potential) (a .velocities .now) in unfold motionAsked in unfold jobAsked in stepped-refused (a .thermostat) m (c .before .before .before .before .asked .ensures) (c .before .before .a .given .1) (c .unmoved .ensures)
+returns c = let a = c .before .before .before .before .before .before .before .before .before .before .before .before .before .before .before .before .before .before .before .before .before .before .before .before .before .before .before .before .args in let m : Motion = motionOf (a .setting) (a .pace .dt) (a .s) (a .potential) (a .ids .now) (a .params .now) (a .species .now) (a .charges .now) (a .bonds .now) (a .lengths .now) (a .ks .now) (a .masses .now) (a .exclusions .now) (a .positions .now) (a .velocities .now) (a .pairs .now) (a .references .now) (a .starts .now) (a .items .now) (a .forces .now) in stepped-refused (a .pace .thermostat) m (c .before .before .before .before .asked .ensures) (c .before .before .a .given .1) (c .unmoved .ensures)
 
 returns-2 : tie.Need-returns-2
-returns-2 c = let a = c .before .before .before .before .before .before .before .before .before .before .before .before .before .before .before .before .before .before .before .before .before .before .before .before .before .before .before .before .before .before .before .before .before .before .before .before .before .before .before .before .before .before .before .before .before .before .before .before .before .before .args in let m : Motion = motion (a .dt) (job (terms (a .lj) (a .coulomb) (a .bond) (a .units) (a .ids .now) (a .params .now) (a .species .now) (a .charges .now) (a .bonds .now) (a .lengths .now) (a .ks .now)) (given (a .s) (a .cell) (a .positions .now) (a .exclusions .now) (a .pairs .now) (a .references .now) (a .starts .now) (a .items .now)) (a .forces .now)) (a .masses .now) (a .potential) (a .velocities .now) in unfold motionAsked in unfold jobAsked in stepped-on (a .thermostat) m (c .before .before .before .before .before .before .before .before .before .before .before .before .before .before .before .before .before .before .before .before .before .before .before .before .before .before .before .before .asked .ensures) (c .before .before .before .before .before .before .before .before .before .before .before .before .before .before .before .before .before .before .before .before .before .before .before .before .before .before .enum-told .given .1) (c .before .before .before .before .before .before .before .before .before .before .before .before .before .before .before .before .before .before .advance .ensures) (c .before .before .cool .ensures)
+returns-2 c = let a = c .before .before .before .before .before .before .before .before .before .before .before .before .before .before .before .before .before .before .before .before .before .before .before .before .before .before .before .before .before .before .before .before .before .before .before .before .before .before .before .before .before .before .before .before .before .before .before .before .before .before .before .before .before .args in let m : Motion = motionOf (a .setting) (a .pace .dt) (a .s) (a .potential) (a .ids .now) (a .params .now) (a .species .now) (a .charges .now) (a .bonds .now) (a .lengths .now) (a .ks .now) (a .masses .now) (a .exclusions .now) (a .positions .now) (a .velocities .now) (a .pairs .now) (a .references .now) (a .starts .now) (a .items .now) (a .forces .now) in stepped-on (a .pace .thermostat) m (c .before .before .before .before .before .before .before .before .before .before .before .before .before .before .before .before .before .before .before .before .before .before .before .before .before .before .before .before .before .asked .ensures) (c .before .before .before .before .before .before .before .before .before .before .before .before .before .before .before .before .before .before .before .before .before .before .before .before .before .before .before .enum-told .given .1) (c .before .before .before .before .before .before .before .before .before .before .before .before .before .before .before .before .before .before .before .advance .ensures) (c .before .before .cool .ensures)
 
 pub step-spec : {M : Type 1} → statement M
 step-spec =
@@ -21,6 +17,8 @@ step-spec =
     (λ c κs. search needs)
     (λ c. search needs)
     (λ c κs. search needs)
+    (λ c. search needs)
+    (λ c. search needs)
     (λ c. search needs)
     (λ c. search needs)
     (λ c. search needs)

@@ -1,4 +1,4 @@
-use Prim.Native.Nat.{_*_, _+_}
+use Prim.Native.Nat.{_*_}
 use Rattle.bins.proofs.FlatLaws.{place-parts, place-in, home-is, home-past}
 use Rattle.bins.proofs.Wide.{two-wide, more-wide}
 use borrow.Author.Needs.{needs}

@@ -1,6 +1,6 @@
-use lib.Ieee.{ofBits}
 use Rattle.cell.specs.Seen.{zeroRows}
 use borrow.Author.Needs.{needs}
+use lib.Ieee.{ofBits}
 use Rattle.cell.proofs.matrices.zero_rows.Statement.{statement}
 use Rattle.cell.proofs.matrices.zero_rows.Tie as tie
 

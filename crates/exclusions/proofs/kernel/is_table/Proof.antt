@@ -1,7 +1,7 @@
 use Rattle.exclusions.proofs.Search.{all-taken}
 use Rattle.exclusions.specs.Table.{isTable}
 use borrow.Author.Needs.{needs}
-use mathlib.Core.Path.{_≡_, _∙_, refl, sym, ap}
+use mathlib.Core.Path.{_∙_, ap}
 use Rattle.exclusions.proofs.kernel.is_table.Statement.{statement}
 use Rattle.exclusions.proofs.kernel.is_table.Tie as tie
 

@@ -1,14 +1,9 @@
-use borrow.Author.Tests.{not-true, not-false}
-use Rattle.field_structs.proofs.Handing.{flagged-good, flagged-bad}
 use borrow.Author.Needs.{needs}
 use Rattle.field.proofs.cells.tyn_matrix.Statement.{statement}
 use Rattle.field.proofs.cells.tyn_matrix.Tie as tie
 
 returns : tie.Need-returns
-returns c = rw (← c .before .before .lattice .ensures) (flagged-bad (not-true _ (c .before .if1 .taken)) (c .unasked-rows .ensures) tt)
-
-returns-2 : tie.Need-returns-2
-returns-2 c = rw (← c .before .before .before .before .lattice .ensures, ← c .before .before .lattice2 .ensures) (flagged-good (not-false _ (c .before .before .before .if1 .left)) (c .before .matrix .result) (c .rows .ensures) (c .before .matrix .ensures))
+returns c = rw (← c .before .before .lattice .ensures) (record { answer = c .before .matrix .result; handed = c .rows .ensures; says = c .before .matrix .ensures })
 
 pub tyn-matrix-spec : {M : Type 1} → statement M
 tyn-matrix-spec =
@@ -16,8 +11,5 @@ tyn-matrix-spec =
     (tie.spec
     (λ c κs. search needs)
     (λ c κs. search needs)
-    returns
     (λ c κs. search needs)
-    (λ c κs. search needs)
-    (λ c κs. search needs)
-    returns-2)
+    returns)

@@ -1,14 +1,9 @@
-use borrow.Author.Tests.{not-true, not-false}
-use Rattle.field_structs.proofs.Handing.{flagged-good, flagged-bad}
 use borrow.Author.Needs.{needs}
 use Rattle.field.proofs.cells.tyn_to_fractional.Statement.{statement}
 use Rattle.field.proofs.cells.tyn_to_fractional.Tie as tie
 
 returns : tie.Need-returns
-returns c = rw (← c .before .before .lattice .ensures) (flagged-bad (not-true _ (c .before .if1 .taken)) (c .vector .ensures) tt)
-
-returns-2 : tie.Need-returns-2
-returns-2 c = rw (← c .before .before .before .before .lattice .ensures, ← c .before .before .lattice2 .ensures) (flagged-good (not-false _ (c .before .before .before .if1 .left)) (c .before .to-fractional .result) (c .vector2 .ensures) (c .before .to-fractional .ensures))
+returns c = rw (← c .before .before .lattice .ensures) (record { answer = c .before .to-fractional .result; handed = c .vector .ensures; says = c .before .to-fractional .ensures })
 
 pub tyn-to-fractional-spec : {M : Type 1} → statement M
 tyn-to-fractional-spec =
@@ -16,8 +11,5 @@ tyn-to-fractional-spec =
     (tie.spec
     (λ c κs. search needs)
     (λ c κs. search needs)
-    returns
     (λ c κs. search needs)
-    (λ c κs. search needs)
-    (λ c κs. search needs)
-    returns-2)
+    returns)

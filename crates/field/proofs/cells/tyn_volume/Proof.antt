@@ -1,14 +1,9 @@
-use borrow.Author.Tests.{not-true, not-false}
-use Rattle.field_structs.proofs.Handing.{flagged-good, flagged-bad}
 use borrow.Author.Needs.{needs}
 use Rattle.field.proofs.cells.tyn_volume.Statement.{statement}
 use Rattle.field.proofs.cells.tyn_volume.Tie as tie
 
 returns : tie.Need-returns
-returns c = rw (← c .before .before .lattice .ensures) (flagged-bad (not-true _ (c .before .if1 .taken)) (c .number .ensures) tt)
-
-returns-2 : tie.Need-returns-2
-returns-2 c = rw (← c .before .before .before .before .lattice .ensures, ← c .before .before .lattice2 .ensures) (flagged-good (not-false _ (c .before .before .before .if1 .left)) (c .before .volume .result) (c .number2 .ensures) (c .before .volume .ensures))
+returns c = rw (← c .before .before .lattice .ensures) (record { answer = c .before .volume .result; handed = c .number .ensures; says = c .before .volume .ensures })
 
 pub tyn-volume-spec : {M : Type 1} → statement M
 tyn-volume-spec =
@@ -16,8 +11,5 @@ tyn-volume-spec =
     (tie.spec
     (λ c κs. search needs)
     (λ c κs. search needs)
-    returns
     (λ c κs. search needs)
-    (λ c κs. search needs)
-    (λ c κs. search needs)
-    returns-2)
+    returns)

@@ -1,15 +1,9 @@
-use borrow.Author.Tests.{not-true, not-false}
-use Rattle.field_structs.proofs.Handing.{flagged-good, flagged-bad}
-use mathlib.Core.Path.{refl}
 use borrow.Author.Needs.{needs}
 use Rattle.field.proofs.pairs.tyn_maybe_build.Statement.{statement}
 use Rattle.field.proofs.pairs.tyn_maybe_build.Tie as tie
 
 returns : tie.Need-returns
-returns c = rw (← c .before .before .before .state .ensures, ← c .before .before .cell .ensures) (flagged-bad (not-true _ (c .before .if1 .taken)) (c .unasked-update .ensures) (refl, refl, refl, refl))
-
-returns-2 : tie.Need-returns-2
-returns-2 c = rw (← c .before .before .before .before .before .before .before .before .before .before .before .before .before .before .before .before .before .before .state .ensures, ← c .before .before .before .before .before .before .before .before .before .before .before .before .before .before .before .before .before .cell .ensures, ← c .before .before .before .before .before .before .before .before .before .before .before .before .before .before .before .state2 .ensures, ← c .before .before .before .before .before .before .before .before .before .before .before .before .before .before .cell2 .ensures) (flagged-good (not-false _ (c .before .before .before .before .before .before .before .before .before .before .before .before .before .before .before .before .if1 .left)) (c .before .before .before .before .before .before .before .before .before .maybe-build .result) (c .updated .ensures) (c .before .before .before .before .before .before .before .before .before .maybe-build .ensures))
+returns c = rw (← c .before .before .before .before .before .before .before .before .before .before .before .before .before .before .before .state .ensures, ← c .before .before .before .before .before .before .before .before .before .before .before .before .before .before .cell .ensures) (record { answer = c .before .before .before .before .before .before .before .before .before .maybe-build .result; handed = c .updated .ensures; says = c .before .before .before .before .before .before .before .before .before .maybe-build .ensures })
 
 pub tyn-maybe-build-spec : {M : Type 1} → statement M
 tyn-maybe-build-spec =
@@ -18,13 +12,9 @@ tyn-maybe-build-spec =
     (λ c κs. search needs)
     (λ c κs. search needs)
     (λ c κs. search needs)
-    returns
-    (λ c κs. search needs)
-    (λ c κs. search needs)
-    (λ c κs. search needs)
     (λ c κs. search needs)
     (λ c. search needs)
     (λ c. search needs)
     (λ c. search needs)
     (λ c. search needs)
-    returns-2)
+    returns)

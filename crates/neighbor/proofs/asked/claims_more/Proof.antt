@@ -2,10 +2,7 @@ use Rattle.neighbor.specs.Rebuild.{claimsMore}
 use mathlib.Core.Path.{refl}
 use Rattle.neighbor.proofs.asked.claims_more.Statement.{statement}
 use Rattle.neighbor.proofs.asked.claims_more.Tie as tie
-use Rattle.neighbor.proofs.asked.claims_more.Reads as reads
-use Rattle.neighbor.proofs.asked.claims_more.Lts as lts
 
--- src/tests.rt:32:1
 returns : tie.Need-returns
 unfolding claimsMore
 returns c = refl

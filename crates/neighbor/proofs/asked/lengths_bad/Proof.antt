@@ -2,10 +2,7 @@ use Rattle.neighbor.specs.Update.{lengthsBad}
 use mathlib.Core.Path.{refl}
 use Rattle.neighbor.proofs.asked.lengths_bad.Statement.{statement}
 use Rattle.neighbor.proofs.asked.lengths_bad.Tie as tie
-use Rattle.neighbor.proofs.asked.lengths_bad.Reads as reads
-use Rattle.neighbor.proofs.asked.lengths_bad.Lts as lts
 
--- src/tests.rt:26:1
 returns : tie.Need-returns
 unfolding lengthsBad
 returns c = refl

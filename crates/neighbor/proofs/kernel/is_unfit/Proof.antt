@@ -2,10 +2,7 @@ use Rattle.neighbor.specs.Update.{unfit}
 use mathlib.Core.Path.{refl}
 use Rattle.neighbor.proofs.kernel.is_unfit.Statement.{statement}
 use Rattle.neighbor.proofs.kernel.is_unfit.Tie as tie
-use Rattle.neighbor.proofs.kernel.is_unfit.Reads as reads
-use Rattle.neighbor.proofs.kernel.is_unfit.Lts as lts
 
--- src/kernel.rt:72:1
 returns : tie.Need-returns
 unfolding unfit
 returns c = refl

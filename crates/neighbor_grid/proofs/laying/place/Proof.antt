@@ -1,9 +1,11 @@
 use Prim.Native.Nat.{_/_}
 use Rattle.neighbor_grid.proofs.Sizes.{filled}
-use Rattle.neighbor_grid.proofs.Tables.{room-front, done-within, done-part, done-rows, laid-starts, laid-items}
+use Rattle.lists.proofs.Loops.{room-front}
+use Rattle.bins.proofs.Tables.{done-within, done-part, laid-starts, laid-items}
+use Rattle.candidates.proofs.Counted.{done-rows}
 use borrow.Author.Needs.{needs}
 use lib.ListN.{length}
-use mathlib.Core.Path.{_∙_, sym}
+use mathlib.Core.Path.{refl, _∙_, sym}
 use native.Mathlib.Omega.{arith}
 use Rattle.neighbor_grid.proofs.laying.place.Statement.{statement}
 use Rattle.neighbor_grid.proofs.laying.place.Tie as tie
@@ -27,7 +29,7 @@ slice-aggregate-rows-touching : tie.Need-slice-aggregate-rows-touching
 slice-aggregate-rows-touching c = let x = c .before .before .before .before .before .before .before .before .before .before .before .before .before .before .before .before .before .before in let h = filled (x .args .ruler) (x .args .xs .now) (c .before .before .before .before .before .before .before .before .before .before .before .before .before .blank .result) (c .before .before .before .before .before .before .before .before .before .before .before .bin-atoms .last .1 .1 .1 .0) (x .pre .0) (c .before .before .before .before .before .before .before .before .before .before .before .before .before .blank .ensures) (x .pre .1 .0) (c .before .before .before .before .before .before .before .before .before .before .before .bin-atoms .ensures) in done-part h
 
 returns : tie.Need-returns
-returns c = let x = c .before .before .before .before .before .before .before .before .before .before .before .before .before .before .before .before .before .before .before in let h = filled (x .args .ruler) (x .args .xs .now) (c .before .before .before .before .before .before .before .before .before .before .before .before .before .before .blank .result) (c .before .before .before .before .before .before .before .before .before .before .before .before .bin-atoms .last .1 .1 .1 .0) (x .pre .0) (c .before .before .before .before .before .before .before .before .before .before .before .before .before .before .blank .ensures) (x .pre .1 .0) (c .before .before .before .before .before .before .before .before .before .before .before .before .bin-atoms .ensures) in (c .rows-touching .ensures ∙ done-rows h _, (c .before .before .before .before .before .before .sort .ensures .1 .0 ∙ laid-starts h (x .args .starts .now) (x .args .items .now) (c .before .before .before .before .before .before .before .before .before .before .cell-count .ensures) (x .pre .1 .1) (x .pre .1 .2), c .before .before .before .before .before .before .sort .ensures .1 .1 ∙ laid-items h (x .args .starts .now) (x .args .items .now) (c .before .before .before .before .before .before .before .before .before .before .cell-count .ensures) (x .pre .1 .1) (x .pre .1 .2)))
+returns c = let x = c .before .before .before .before .before .before .before .before .before .before .before .before .before .before .before .before .before .before .before in let h = filled (x .args .ruler) (x .args .xs .now) (c .before .before .before .before .before .before .before .before .before .before .before .before .before .before .blank .result) (c .before .before .before .before .before .before .before .before .before .before .before .before .bin-atoms .last .1 .1 .1 .0) (x .pre .0) (c .before .before .before .before .before .before .before .before .before .before .before .before .before .before .blank .ensures) (x .pre .1 .0) (c .before .before .before .before .before .before .before .before .before .before .before .before .bin-atoms .ensures) in (c .rows-touching .ensures ∙ done-rows h refl _, (c .before .before .before .before .before .before .sort .ensures .1 .0 ∙ laid-starts h (x .args .starts .now) (x .args .items .now) (c .before .before .before .before .before .before .before .before .before .before .cell-count .ensures) (rw (c .before .before .before .before .before .before .before .before .before .before .cell-count .ensures) (x .pre .1 .1)) (x .pre .1 .2), c .before .before .before .before .before .before .sort .ensures .1 .1 ∙ laid-items h (x .args .starts .now) (x .args .items .now) (c .before .before .before .before .before .before .before .before .before .before .cell-count .ensures) (rw (c .before .before .before .before .before .before .before .before .before .before .cell-count .ensures) (x .pre .1 .1)) (x .pre .1 .2)))
 
 pub place-spec : {M : Type 1} → statement M
 place-spec =

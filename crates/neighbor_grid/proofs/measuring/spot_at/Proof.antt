@@ -1,5 +1,5 @@
-use borrow.Author.Needs.{needs}
 use Rattle.cell.specs.Vec.{positionAt}
+use borrow.Author.Needs.{needs}
 use Rattle.neighbor_grid.proofs.measuring.spot_at.Statement.{statement}
 use Rattle.neighbor_grid.proofs.measuring.spot_at.Tie as tie
 

@@ -1,7 +1,6 @@
 use Rattle.neighbor_listing.proofs.Sifted.{room-long, room-near, room-within, room-count, ready-near, few-listed}
-use Rattle.neighbor_listing.specs.Steps.{nearTo}
 use borrow.Author.Needs.{needs}
-use mathlib.Core.Path.{sym, _∙_}
+use mathlib.Core.Path.{sym}
 use native.Mathlib.Omega.{arith}
 use Rattle.neighbor_listing.proofs.loops.consider_few.Statement.{statement}
 use Rattle.neighbor_listing.proofs.loops.consider_few.Tie as tie

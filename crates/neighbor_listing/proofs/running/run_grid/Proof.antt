@@ -1,7 +1,7 @@
 use Prim.Native.Nat.{ℕ, _/_}
 use Rattle.neighbor_listing.proofs.Counts.{grid-ran, grid-ready, grid-swept, shown-is}
 use Rattle.neighbor_listing.proofs.Leading.{firsts-part, firsts-within, firsts-long}
-use Rattle.neighbor_listing.proofs.Numbered.{front-long}
+use Rattle.lists.proofs.Loops.{room-front}
 use borrow.Author.Needs.{needs}
 use mathlib.Core.Bool.{false}
 use mathlib.Core.Path.{ap, sym}
@@ -9,7 +9,7 @@ use Rattle.neighbor_listing.proofs.running.run_grid.Statement.{statemen
 use Rattle.neighbor_listing.proofs.running.run_grid.Tie as tie
 
 slice-aggregate-first-rows : tie.Need-slice-aggregate-first-rows
-slice-aggregate-first-rows c = sym (front-long _ _ (c .before .blank .ensures) (c .before .before .before .before .before .before .before .pre .0 .1))
+slice-aggregate-first-rows c = sym (room-front _ _ (c .before .blank .ensures) (c .before .before .before .before .before .before .before .pre .0 .1))
 
 array-share-prefix-firsts : tie.Need-array-share-prefix-firsts
 array-share-prefix-firsts c = firsts-within _ _ (c .before .before .before .before .blank .ensures) (c .before .before .before .before .before .before .before .before .before .before .pre .0 .1) (c .before .before .first-rows .ensures) (c .before .before .first-rows .kept .1 .0)

@@ -1,8 +1,9 @@
+use Rattle.lists.proofs.Loops.{room-front}
 use Prim.Native.Nat.{ℕ, _/_}
 use Rattle.bins.proofs.Found.{plain-ready}
 use Rattle.neighbor_listing.proofs.Counts.{plain-ran, shown-is}
 use Rattle.neighbor_listing.proofs.Leading.{firsts-part, firsts-within, firsts-long}
-use Rattle.neighbor_listing.proofs.Numbered.{front-long, part-is, part-within, part-long, part-below}
+use Rattle.neighbor_listing.proofs.Numbered.{part-is, part-within, part-long, part-below}
 use Rattle.neighbor_listing.specs.Found.{sceneOf}
 use borrow.Author.Needs.{needs}
 use lib.ListN.{length}
@@ -13,13 +14,13 @@ use Rattle.neighbor_listing.proofs.running.run_plain.Statement.{stateme
 use Rattle.neighbor_listing.proofs.running.run_plain.Tie as tie
 
 slice-aggregate-first-rows : tie.Need-slice-aggregate-first-rows
-slice-aggregate-first-rows c = sym (front-long _ _ (c .before .blank .ensures) (c .before .before .before .before .before .pre .1))
+slice-aggregate-first-rows c = sym (room-front _ _ (c .before .blank .ensures) (c .before .before .before .before .before .pre .1))
 
 slice-aggregate-number : tie.Need-slice-aggregate-number
-slice-aggregate-number c = sym (front-long _ _ (c .before .blank2 .ensures) (c .before .before .before .before .before .before .before .before .before .pre .1))
+slice-aggregate-number c = sym (room-front _ _ (c .before .blank2 .ensures) (c .before .before .before .before .before .before .before .before .before .pre .1))
 
 number-requires : tie.Need-number-requires
-number-requires c κs = omega (arith, front-long (c .before .blank2 .result) (length (c .before .before .before .before .before .before .before .before .before .args .xs .now) / 3) (c .before .blank2 .ensures) (c .before .before .before .before .before .before .before .before .before .pre .1), c .before .before .before .before .before .before .before .before .before .pre .1)
+number-requires c κs = omega (arith, room-front (c .before .blank2 .result) (length (c .before .before .before .before .before .before .before .before .before .args .xs .now) / 3) (c .before .blank2 .ensures) (c .before .before .before .before .before .before .before .before .before .pre .1), c .before .before .before .before .before .before .before .before .before .pre .1)
 
 array-share-prefix-firsts : tie.Need-array-share-prefix-firsts
 array-share-prefix-firsts c = firsts-within _ _ (c .before .before .before .before .before .before .before .before .blank .ensures) (c .before .before .before .before .before .before .before .before .before .before .before .before .pre .1) (c .before .before .before .before .before .before .first-rows .ensures) (c .before .before .before .before .before .before .first-rows .kept .1 .0)

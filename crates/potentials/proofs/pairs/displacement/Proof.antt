@@ -4,7 +4,7 @@ use Rattle.potentials.proofs.pairs.displacement.Statement.{statement}
 use Rattle.potentials.proofs.pairs.displacement.Tie as tie
 
 returns : tie.Need-returns
-returns c = displaced-by (c .before .before .before .before .before .before .args .p) (c .before .before .before .before .before .before .args .xs .now) (c .before .before .before .before .before .before .args .i) (c .before .before .before .before .before .before .args .j) (c .before .before .before .before .place .ensures) (c .before .before .before .place2 .ensures) (c .before .before .sub .ensures) (c .before .image-in .ensures)
+returns c = displaced-by (c .before .before .before .before .before .before .args .p) (c .before .before .before .before .before .before .args .xs .now) (c .before .before .before .before .before .before .args .i) (c .before .before .before .before .before .before .args .j) (c .before .before .before .before .spot-at .ensures) (c .before .before .before .spot-at2 .ensures) (c .before .before .sub .ensures) (c .before .image-in .ensures)
 
 pub displacement-spec : {M : Type 1} → statement M
 displacement-spec =

@@ -1,7 +1,6 @@
 use Rattle.sheet.proofs.Arms.{header-again, header-kept, atom-again, atom-kept, exclusion-over, exclusion-kept, malformed-line, end-line}
-use Rattle.sheet.specs.Meaning.{headed, seated, excluding}
 use borrow.Author.Needs.{needs}
-use mathlib.Core.Path.{refl, sym, _∙_}
+use mathlib.Core.Path.{sym, _∙_}
 use Rattle.sheet.proofs.desk.keep.Statement.{statement}
 use Rattle.sheet.proofs.desk.keep.Tie as tie
 

@@ -1,0 +1,145 @@
+// An answer's values as words. Each call writes from a place on, and answers the place after.
+use answer::Done;
+use answer::Number;
+use answer::Refusal;
+use answer::Whole;
+use answer::YesNo;
+use cell::Lattice;
+use cell::Rows;
+use cell::RowsAnswer;
+use cell::Vec3;
+use neighbor::State;
+use virial::Sum;
+use virial::Summed;
+
+// Number 0, place 0.
+pub(crate) fn put_answered(out: &mut [u64; 8208]) -> usize {
+    replay_words::put_words(out, 0, &[0, 0])
+}
+
+pub(crate) fn put_refusal(out: &mut [u64; 8208], why: Refusal) -> usize {
+    let number = why.number();
+    let place = why.place();
+    replay_words::put_words(out, 0, &[number, place])
+}
+
+// A call without a value of its own.
+pub(crate) fn put_done(out: &mut [u64; 8208], answer: Done) -> usize {
+    match answer {
+        Done::Answered => put_answered(out),
+        Done::Refused(why) => put_refusal(out, why),
+    }
+}
+
+// A whole number, or the refusal.
+pub(crate) fn put_whole(out: &mut [u64; 8208], answer: Whole) -> usize {
+    match answer {
+        Whole::Answered(n) => replay_words::put_words(out, 0, &[0, 0, n]),
+        Whole::Refused(why) => put_refusal(out, why),
+    }
+}
+
+// A float, or the refusal.
+pub(crate) fn put_number(out: &mut [u64; 8208], answer: Number) -> usize {
+    match answer {
+        Number::Answered(x) => {
+            let w = float::to_bits(x);
+            replay_words::put_words(out, 0, &[0, 0, w])
+        }
+        Number::Refused(why) => put_refusal(out, why),
+    }
+}
+
+// A flag, or the refusal.
+pub(crate) fn put_yes_no(out: &mut [u64; 8208], answer: YesNo) -> usize {
+    match answer {
+        YesNo::Answered(yes) => {
+            let w = replay_words::flag_word(yes);
+            replay_words::put_words(out, 0, &[0, 0, w])
+        }
+        YesNo::Refused(why) => put_refusal(out, why),
+    }
+}
+
+// Three rows of three floats, or the refusal.
+pub(crate) fn put_rows_answer(out: &mut [u64; 8208], answer: RowsAnswer) -> usize {
+    let done = answer.done;
+    let rows = answer.rows;
+    match done {
+        Done::Answered => {
+            let at = put_answered(out);
+            put_rows(out, at, rows)
+        }
+        Done::Refused(why) => put_refusal(out, why),
+    }
+}
+
+// A sum, or the refusal.
+pub(crate) fn put_summed(out: &mut [u64; 8208], answer: Summed) -> usize {
+    match answer {
+        Summed::Answered(sum) => {
+            let at = put_answered(out);
+            put_sum(out, at, sum)
+        }
+        Summed::Refused(why) => put_refusal(out, why),
+    }
+}
+
+// A sum or the refusal, then the forces, whatever became of them.
+pub(crate) fn put_summed_forces(out: &mut [u64; 8208], answer: Summed, forces: &[f64]) -> usize {
+    let at = put_summed(out, answer);
+    replay_words::put_floats(out, at, forces)
+}
+
+pub(crate) fn put_vec3(out: &mut [u64; 8208], at: usize, v: Vec3) -> usize {
+    replay_words::put_reals(out, at, &[v.x, v.y, v.z])
+}
+
+pub(crate) fn put_rows(out: &mut [u64; 8208], at: usize, rows: Rows) -> usize {
+    let rx = rows.x;
+    let ry = rows.y;
+    let rz = rows.z;
+    let x = replay_words::put_reals(out, at, &rx);
+    let y = replay_words::put_reals(out, x, &ry);
+    replay_words::put_reals(out, y, &rz)
+}
+
+pub(crate) fn put_lattice(out: &mut [u64; 8208], at: usize, l: Lattice) -> usize {
+    let a = l.a;
+    let b = l.b;
+    let c = l.c;
+    let next = replay_words::put_reals(out, at, &[a.x, a.y, a.z, b.x, b.y, b.z, c.x, c.y, c.z]);
+    let px = replay_words::flag_word(l.px);
+    let py = replay_words::flag_word(l.py);
+    let pz = replay_words::flag_word(l.pz);
+    replay_words::put_words(out, next, &[px, py, pz])
+}
+
+pub(crate) fn put_sum(out: &mut [u64; 8208], at: usize, s: Sum) -> usize {
+    replay_words::put_reals(
+        out,
+        at,
+        &[
+            s.energy,
+            s.xx,
+            s.xy,
+            s.xz,
+            s.yx,
+            s.yy,
+            s.yz,
+            s.zx,
+            s.zy,
+            s.zz,
+        ],
+    )
+}
+
+pub(crate) fn put_state(out: &mut [u64; 8208], at: usize, s: State) -> usize {
+    let next = replay_words::put_reals(out, at, &[s.cutoff, s.skin]);
+    let pairs = s.pairs as u64;
+    let references = s.references as u64;
+    let checks = s.checks as u64;
+    let fallback = replay_words::flag_word(s.fallback);
+    let builds = s.builds as u64;
+    replay_words::put_words(out, next, &[pairs, references, checks, fallback, builds])
+}

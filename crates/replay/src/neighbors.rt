@@ -1,0 +1,161 @@
+// The calls of `neighbor`, 30, 31 and 34 to 37.
+use crate::answers;
+use crate::records;
+use crate::tables;
+use cell::Cell;
+use neighbor::State;
+use neighbor::StateAnswer;
+use neighbor::Updated;
+
+fn tell_state(out: &mut [u64; 8208], answer: StateAnswer) -> usize {
+    match answer {
+        StateAnswer::Answered(s) => {
+            let at = answers::put_answered(out);
+            answers::put_state(out, at, s)
+        }
+        StateAnswer::Refused(why) => answers::put_refusal(out, why),
+    }
+}
+
+fn new_case(ws: &[u64], out: &mut [u64; 8208]) -> usize {
+    let cutoff = replay_words::take_float(ws, 0);
+    let skin = replay_words::take_float(ws, cutoff.next);
+    if skin.next != ws.len() {
+        return 0;
+    }
+    tell_state(out, neighbor::new(cutoff.value, skin.value))
+}
+
+fn search_radius_case(ws: &[u64], out: &mut [u64; 8208]) -> usize {
+    let s = records::take_state(ws, 0);
+    if s.next != ws.len() {
+        return 0;
+    }
+    answers::put_number(out, neighbor::search_radius(s.value))
+}
+
+fn builds_since_case(ws: &[u64], out: &mut [u64; 8208]) -> usize {
+    let s = records::take_state(ws, 0);
+    let earlier = replay_words::take_u32(ws, s.next);
+    if earlier.next != ws.len() {
+        return 0;
+    }
+    let span = neighbor::builds_since(s.value, earlier.value);
+    let w = span as u64;
+    replay_words::put_words(out, 0, &[0, 0, w])
+}
+
+fn needs_rebuild_case(ws: &[u64], out: &mut [u64; 8208]) -> usize {
+    let s = records::take_state(ws, 0);
+    let c = records::take_cell(ws, s.next);
+    let x = replay_words::take_floats(ws, c.next);
+    let r = replay_words::take_floats(ws, x.next);
+    if r.next != ws.len() {
+        return 0;
+    }
+    let state = s.value;
+    let cell = c.value;
+    let fs = tables::floats(ws);
+    answers::put_yes_no(
+        out,
+        neighbor::needs_rebuild(state, cell, tables::part(&fs, x), tables::part(&fs, r)),
+    )
+}
+
+// A build, or a question and then a build.
+fn brought(
+    question: bool,
+    s: State,
+    cell: Cell,
+    positions: &[f64],
+    exclusions: &[u32],
+    pairs: &mut [u32],
+    references: &mut [f64],
+    starts: &mut [u32],
+    items: &mut [u32],
+) -> Updated {
+    if question {
+        return neighbor::maybe_build(
+            s,
+            cell,
+            positions,
+            exclusions,
+            pairs,
+            references,
+            starts,
+            items,
+        );
+    }
+    neighbor::build(
+        s,
+        cell,
+        positions,
+        exclusions,
+        pairs,
+        references,
+        starts,
+        items,
+    )
+}
+
+// The refusal or 0, whether the list was built anew, where the call may keep it, and the state, also with a refusal.
+fn tell_updated(out: &mut [u64; 8208], question: bool, r: Updated) -> usize {
+    let done = r.done;
+    let state = r.state;
+    let at = answers::put_done(out, done);
+    if question {
+        let asked = replay_words::put_word(out, at, replay_words::flag_word(r.rebuilt));
+        return answers::put_state(out, asked, state);
+    }
+    answers::put_state(out, at, state)
+}
+
+fn build_case(question: bool, ws: &[u64], out: &mut [u64; 8208]) -> usize {
+    let s = records::take_state(ws, 0);
+    let c = records::take_cell(ws, s.next);
+    let x = replay_words::take_floats(ws, c.next);
+    let e = replay_words::take_u32s(ws, x.next);
+    let p = replay_words::take_u32s(ws, e.next);
+    let r = replay_words::take_floats(ws, p.next);
+    let t = replay_words::take_u32s(ws, r.next);
+    let i = replay_words::take_u32s(ws, t.next);
+    if i.next != ws.len() {
+        return 0;
+    }
+    let state = s.value;
+    let cell = c.value;
+    let fs = tables::floats(ws);
+    let us = tables::u32s(ws);
+    let mut pairs = tables::u32s(ws);
+    let mut references = tables::floats(ws);
+    let mut starts = tables::u32s(ws);
+    let mut items = tables::u32s(ws);
+    let updated = brought(
+        question,
+        state,
+        cell,
+        tables::part(&fs, x),
+        tables::part_u32(&us, e),
+        tables::room_u32(&mut pairs, p),
+        tables::room(&mut references, r),
+        tables::room_u32(&mut starts, t),
+        tables::room_u32(&mut items, i),
+    );
+    let told = tell_updated(out, question, updated);
+    let listed = replay_words::put_u32s(out, told, tables::part_u32(&pairs, p));
+    let referred = replay_words::put_floats(out, listed, tables::part(&references, r));
+    let laid = replay_words::put_u32s(out, referred, tables::part_u32(&starts, t));
+    replay_words::put_u32s(out, laid, tables::part_u32(&items, i))
+}
+
+pub(crate) fn answer(call: u64, ws: &[u64], out: &mut [u64; 8208]) -> usize {
+    match call {
+        48 => new_case(ws, out),
+        49 => search_radius_case(ws, out),
+        52 => needs_rebuild_case(ws, out),
+        53 => build_case(false, ws, out),
+        54 => build_case(true, ws, out),
+        55 => builds_since_case(ws, out),
+        _ => 0,
+    }
+}

@@ -1,4 +1,0 @@
-pub mod Reading
-pub mod Signs
-pub mod Taking
-pub mod Writing

@@ -1,2 +1,0 @@
-pub mod Liquid
-pub mod Terms
