@@ -2,15 +2,13 @@
 """Checks that every name in docs/PROMISES.md is in the tree, and prints those that are not; exit 1 where there is one. The forms, in backquotes:
 `crate/specs/File.name` and `crate/proofs/File.name` (a definition, record, field, case or law), `crate::function` and `crate::module::function`,
 paths. `--pub` lists every `pub fn` of every crate by what its `ensures` says of the outcome: an equation, a relation with a law in
-proofs/Only.antt, or neither. It reads texts and proves nothing. Python 3.9 or newer, run anywhere in the repository."""
+proofs/Only.antt, or neither; an export by the law in proofs/Only.antt that has its name. It reads texts and proves nothing. Python 3.9 or newer, run anywhere in the repository."""
 import os
 import re
 import sys
 
 ROOT = os.path.dirname(os.path.dirname(os.path.abspath(__file__)))
 PAGE = "docs/PROMISES.md"
-# relations over any relation, with their law; what they are given has its own
-GENERAL = {"Shown": "shown-only", "Flagged": "flagged-only", "PartSays": "part-only"}
 
 
 def read(path):
@@ -144,9 +142,9 @@ class Crates:
         return self.texts[path]
 
     def home(self, source, crate, word):
-        """The crate and the file of specs/ that a word of a source comes from."""
+        """The crate and the file of specs/ that a word of a source, or of a file of specs/, comes from."""
         alias, _, name = word.rpartition(".")
-        for line in re.findall(r"^ghost use (.*);$", source, re.M):
+        for line in re.findall(r"^(?:ghost )?use (Rattle·.*?);?$", source, re.M):
             m = re.match(r"Rattle·(\w+?)(?:·specs)?\.specs\.(\w+)(?:\.\{(.*)\}| as (\S+))?$", line)
             if not m:
                 continue
@@ -201,6 +199,7 @@ class Function:
         self.requires = re.search(r"\n\s*requires\b", head)
         self.ensures = re.findall(r"ensures \w*\s*\{ λ (\w+)\. ⌜ (.*?) ⌝ \}", head, re.S)
         self.by = {}
+        self.exported = 'extern "C"' in head
 
     def outcome(self):
         return (["result"] if self.result else []) + self.lent
@@ -236,7 +235,7 @@ class Function:
                 at += len(m.group(0))
         return found
 
-    def equation(self, left, binder):
+    def equation(self, left, binder, source=None):
         left = left.strip()
         pieces = parts(bare(left), ",") if left.startswith("(") else [left]
         if len(pieces) > 1 or self.part(left, binder):
@@ -244,7 +243,7 @@ class Function:
                 self.note(self.part(p, binder), "equation")
             return
         name, *given = self.terms(bare(left))
-        crate, module, word = self.tree.home(self.source, self.crate, name)
+        crate, module, word = self.tree.home(source or self.source, self.crate, name)
         said = self.tree.definition(crate, module, word)
         if "record {" in said:
             how = "equation for the record %s" % word
@@ -257,22 +256,17 @@ class Function:
         name, *given = self.terms(text)
         crate, module, word = self.tree.home(self.source, self.crate, name)
         laws = self.tree.laws(crate, word)
-        if word in GENERAL:
-            inner = []
-            for w in re.findall(r"[^\s(){}]+", text[len(name) :]):
-                home, _, said = self.tree.home(self.source, self.crate, w)
-                inner += self.tree.laws(home, said) if said.endswith("Says") else []
-            laws = [law for law in laws if law.endswith("." + GENERAL[word])]
-            if laws and inner:
-                how = "law %s of %s" % (laws[0], ", ".join(dict.fromkeys(inner)))
-                for p in ["result"] + [m for m in self.lent if "now (%s .exit)" % m in text]:
-                    self.note(p, how)
-            return
         if laws:
             for g in given:
                 self.note(self.part(g, binder), "law " + laws[0])
             return
         said = self.tree.definition(crate, module, word)
+        m = re.search(r"^%s ([^=]*) = ([^×→]*?) ≡ [^×→]*$" % re.escape(word), said, re.M)
+        if m:  # a name for an equation: its left side with what the name is given
+            values = dict(zip(m.group(1).split(), given))
+            left = " ".join(values.get(t, t) for t in self.terms(m.group(2)))
+            self.equation(left, binder, self.tree.text("crates/%s/specs/%s.antt" % (crate, module)))
+            return
         if re.match(r"pub record ", said):
             held = re.findall(r"[({]([^:(){}]+) :", said.split(" where")[0])
             names = [n for group in held for n in group.split()]
@@ -283,6 +277,10 @@ class Function:
                     self.note(self.part(g, binder), "fields of %s" % word)
 
     def verdict(self):
+        if self.exported:
+            law = self.name.replace("_", "-") + "-only"
+            told = re.search(r"^pub %s : OneOutcome " % law, self.tree.text("crates/%s/proofs/Only.antt" % self.crate), re.M)
+            return "law %s/proofs/Only.%s" % (self.crate, law) if told else "neither: no law " + law
         for binder, text in self.ensures:
             for said in parts(bare(" ".join(text.split())), " × "):
                 said = bare(said)

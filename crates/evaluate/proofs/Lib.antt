@@ -1,3 +1,4 @@
 pub mod Folding
 pub mod Settling
+pub mod Lists
 pub mod Only

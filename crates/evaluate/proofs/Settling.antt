@@ -2,9 +2,9 @@
 use Prim.Native.Nat.{ℕ, _/_, _%_, _≤_, min}
 use native.Mathlib.Omega.{arith}
 use mathlib.Core.Path.{_≡_, refl, sym, ap, _∙_}
-use mathlib.Core.Bool.{Bool, true, false, cond, not, _&&_}
+use mathlib.Core.Bool.{Bool, true, false, not, _&&_}
 use mathlib.Core.List.{List, [], _∷_}
-use lib.Dec.{eqb, ltb}
+use lib.Dec.{eqb}
 use lib.Ieee.{Float}
 use lib.ListN.{length, take}
 use lib.Seq.{length-take-le}
@@ -12,7 +12,7 @@ use borrow.Author.Tests.{ltb-false, eqb-true, not-false}
 use Rattle.answer.specs.declared.Done.{Done}
 use Rattle.answer.specs.declared.Done.the-variants.{Answered, Refused}
 use Rattle.answer.specs.declared.Refusal.{Refusal}
-use Rattle.answer.specs.declared.Refusal.the-variants.{Lengths, Range, Order, TooMany}
+use Rattle.answer.specs.declared.Refusal.the-variants.{Lengths, Range, Order}
 use Rattle.answer.specs.Seen.{Seen, answered, refused, seenDone}
 use Rattle.lists.specs.Lists.{rows}
 use Rattle.lists.proofs.Cases.{and-both, or-neither}
@@ -29,9 +29,9 @@ use Rattle.potentials.specs.declared.LjTerm.the-variants.{Absent, Present}
 use Rattle.potentials.specs.Terms.{ljOver}
 use Rattle.neighbor.specs.declared.State.{State}
 use Rattle.neighbor.specs.declared.Updated.{Updated}
-use Rattle.neighbor.specs.Update.{Given, updateOf, listedOf, lengthsBad, firstOf, tableAsked, andThen}
+use Rattle.neighbor.specs.Update.{Given, updateOf, listedOf, firstOf, tableAsked}
 use Rattle.neighbor.specs.Update as Update
-use Rattle.answer.proofs.Passed.{pass}
+use Rattle.neighbor.proofs.Source.{passed, both-passed, first-told, lengths-told}
 use Rattle.evaluate.proofs.Folding.{merged-room}
 use Rattle.evaluate.specs.declared.Evaluated.{Evaluated}
 use Rattle.evaluate.specs.Terms.{Terms, ljGives, contributions, mergedAll}
@@ -89,15 +89,6 @@ module _ (j : Job) where
       ∙ ap (λ (o : Update.Outcome). afterList lookBy (min (length (j .forces)) scratchLength) j (o .answer) o) e
 
 -- ---- what passed tests show
-pub passed : (b : Bool) (r : Refusal) → cond b Answered (Refused r) ≡ Answered → b ≡ true
-passed true r e = refl
-passed false r e = let z : _≡_ {A = ℕ} 0 1 = cc in absurd (omega arith)
-
-pub both-passed : (a b : Done) → andThen a b ≡ Answered → (a ≡ Answered) × (b ≡ Answered)
-unfolding andThen
-both-passed Answered b e = (refl, e)
-both-passed (Refused r) b e = let z : _≡_ {A = ℕ} 0 1 = cc in absurd (omega arith)
-
 module _ (fits : Bool) (first : Done) (ok : Bool) (kept names : Done) (e : inTurn fits first ok kept names ≡ Answered) where
   turn-fits : fits ≡ true
   unfolding inTurn
@@ -125,12 +116,11 @@ fit-forces ids params species charges bonds xs forces e =
     eqb-true forces xs (and-both (eqb (params / 2) ids && eqb (params % 2) 0 && eqb species (xs / 3) && eqb charges (xs / 3) && eqb (bonds % 2) 0) (eqb forces xs) e .1)
 
 first-room : (s : State) (cell : Cell) (xs : List Float) (table pairs refs items : ℕ) → firstOf s cell xs table pairs refs items ≡ Answered → (length xs % 3 ≡ 0) × (length xs ≤ 49152)
-unfolding firstOf lengthsBad
 first-room s cell xs table pairs refs items e =
-    let p = pass (lengthsBad (length xs) table refs items) Lengths _ e in
-    let q = pass (ltb 16384 (length xs / 3)) (TooMany (length xs / 3)) _ (p .1) in
-    let m : length xs / 3 ≤ 16384 = ltb-false 16384 (length xs / 3) (q .0) in
-    let z : length xs % 3 ≡ 0 = eqb-true (length xs % 3) 0 (not-false (eqb (length xs % 3) 0) (or-neither (not (eqb (length xs % 3) 0)) _ (or-neither _ _ (or-neither _ _ (p .0) .0) .0) .0)) in
+    let f = first-told s cell xs table pairs refs items e in
+    let m : length xs / 3 ≤ 16384 = ltb-false 16384 (length xs / 3) (f .1) in
+    let r = or-neither (not (eqb (length xs % 3) 0)) _ (lengths-told (length xs) table refs items (f .0) .0) in
+    let z : length xs % 3 ≡ 0 = eqb-true (length xs % 3) 0 (not-false (eqb (length xs % 3) 0) (r .0)) in
     (z, omega arith)
 
 -- what an evaluation, or a step, that passed its tests may count on
@@ -184,8 +174,17 @@ settled-is j h l =
     let m : min (length (j .forces)) scratchLength ≡ length (j .forces) = omega arith in
     rw m (after-looked j h (length (j .forces)) _ _)
 
--- the forces are as many as they were
+-- the list's outcome is the evaluation's, and the forces are as many as they were
 module _ (look : List ℕ → List Float → Lj → ℕ → Mixed) (room : ℕ) (j : Job) where
+  after-list : (a : Seen (Unit {0})) (o : Update.Outcome) → afterList look room j a o .list ≡ o
+  unfolding afterList
+  after-list (answered u) o = refl
+  after-list (refused n p) o = refl
+
+  pub settled-list : settledBy look room j .list ≡ updateOf true (j .given)
+  unfolding settledBy
+  settled-list = after-list _ _
+
   after-length : (a : Seen (Unit {0})) (o : Update.Outcome) → length (afterList look room j a o .total .forces) ≡ length (j .forces)
   unfolding afterList totalOf
   after-length (answered u) o = merged-room _ _

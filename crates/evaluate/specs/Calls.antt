@@ -18,6 +18,7 @@ use Rattle.potentials_pair.specs.Species.{lookOf}
 use Rattle.neighbor.specs.declared.State.{State}
 use Rattle.neighbor.specs.Update.{Given, given, updateOf, listedOf, stays}
 use Rattle.neighbor.specs.Update as Update
+use Rattle.neighbor.specs.Listed.{Listed}
 use Rattle.evaluate.specs.declared.Evaluated.{Evaluated}
 use Rattle.evaluate.specs.declared.Setting.{Setting}
 use Rattle.evaluate.specs.Terms.{Terms, terms, contributions, mergedAll}
@@ -92,3 +93,7 @@ shown r pairs references starts items forces =
 -- The contract of `evaluate`: what the answer shows, and what everything lent holds at exit.
 abbrev pub EvaluateSays : Job → Evaluated → (pairs : List ℕ) → (references : List Float) → (starts items : List ℕ) → (forces : List Float) → Type 0
 EvaluateSays j r pairs references starts items forces = shown r pairs references starts items forces ≡ evaluatedOf j
+
+-- Demand 3 of an evaluation that built the list anew, said of the lent pairs at exit.
+abbrev pub EvaluateLists : Job → Evaluated → (pairs : List ℕ) → Type 0
+EvaluateLists j r pairs = r .rebuilt ≡ true → Listed (j .given) (r .state) pairs

@@ -18,7 +18,7 @@ ghost use mathlib.Core.Path.{_≡_};
 ghost use mathlib.Core.Bool.{false};
 ghost use Rattle.answer.specs.declared.Done.the-variants.{Refused};
 ghost use Rattle.virial.specs.Virial.{zeroSum};
-ghost use Rattle.evaluate.specs.Calls.{jobOf, EvaluateSays};
+ghost use Rattle.evaluate.specs.Calls.{jobOf, EvaluateSays, EvaluateLists};
 
 // What an evaluation goes by besides its tables: the terms, each absent or present with its numbers, the units, and the cell.
 pub struct Setting {
@@ -70,7 +70,8 @@ pub fn evaluate(
     items: &mut [u32],
     forces: &mut [f64],
 ) -> Evaluated
-    ensures { λ r. ⌜ EvaluateSays (jobOf setting s (now (ids .entry)) (now (params .entry)) (now (species .entry)) (now (charges .entry)) (now (bonds .entry)) (now (lengths .entry)) (now (ks .entry)) (now (positions .entry)) (now (exclusions .entry)) (now (pairs .entry)) (now (references .entry)) (now (starts .entry)) (now (items .entry)) (now (forces .entry))) r (now (pairs .exit)) (now (references .exit)) (now (starts .exit)) (now (items .exit)) (now (forces .exit)) ⌝ }
+    ensures says { λ r. ⌜ EvaluateSays (jobOf setting s (now (ids .entry)) (now (params .entry)) (now (species .entry)) (now (charges .entry)) (now (bonds .entry)) (now (lengths .entry)) (now (ks .entry)) (now (positions .entry)) (now (exclusions .entry)) (now (pairs .entry)) (now (references .entry)) (now (starts .entry)) (now (items .entry)) (now (forces .entry))) r (now (pairs .exit)) (now (references .exit)) (now (starts .exit)) (now (items .exit)) (now (forces .exit)) ⌝ }
+    ensures lists { λ r. ⌜ EvaluateLists (jobOf setting s (now (ids .entry)) (now (params .entry)) (now (species .entry)) (now (charges .entry)) (now (bonds .entry)) (now (lengths .entry)) (now (ks .entry)) (now (positions .entry)) (now (exclusions .entry)) (now (pairs .entry)) (now (references .entry)) (now (starts .entry)) (now (items .entry)) (now (forces .entry))) r (now (pairs .exit)) ⌝ }
 {
     let a = asked::asked(
         true,

@@ -11,7 +11,7 @@ use field_structs::give;
 use field_structs::take;
 use potentials::Bond;
 use virial::Units;
-ghost use Rattle.evaluate.specs.Calls.{EvaluateSays, jobOf};
+ghost use Rattle.evaluate.specs.Calls.{EvaluateLists, EvaluateSays, jobOf};
 ghost use Rattle.field_structs.specs.Flat.{flatBondAnswer, flatEvaluated, flatLj, flatLjAnswer, flatSummed};
 ghost use Rattle.field_structs.specs.Shown.{Shown};
 ghost use Rattle.field_structs.specs.Taken.{cellOf, ljOf, settingOf, stateOf};
@@ -183,7 +183,7 @@ pub extern "C" fn tyn_evaluate(
     items: &mut [u32],
     forces: &mut [f64],
 ) -> FlatEvaluated
-    ensures { λ r. ⌜ Shown flatEvaluated (λ a. EvaluateSays (jobOf (settingOf setting) (stateOf s) (now (ids .entry)) (now (params .entry)) (now (species .entry)) (now (charges .entry)) (now (bonds .entry)) (now (lengths .entry)) (now (ks .entry)) (now (positions .entry)) (now (exclusions .entry)) (now (pairs .entry)) (now (references .entry)) (now (starts .entry)) (now (items .entry)) (now (forces .entry))) a (now (pairs .exit)) (now (references .exit)) (now (starts .exit)) (now (items .exit)) (now (forces .exit))) r ⌝ }
+    ensures { λ r. ⌜ (let j = jobOf (settingOf setting) (stateOf s) (now (ids .entry)) (now (params .entry)) (now (species .entry)) (now (charges .entry)) (now (bonds .entry)) (now (lengths .entry)) (now (ks .entry)) (now (positions .entry)) (now (exclusions .entry)) (now (pairs .entry)) (now (references .entry)) (now (starts .entry)) (now (items .entry)) (now (forces .entry)) in Shown flatEvaluated (λ a. EvaluateSays j a (now (pairs .exit)) (now (references .exit)) (now (starts .exit)) (now (items .exit)) (now (forces .exit)) × EvaluateLists j a (now (pairs .exit))) r) ⌝ }
 {
     give::evaluated(evaluate::evaluate(
         take::setting(setting),

@@ -33,7 +33,7 @@ pub extern "C" fn tyn_frame_build(
     starts: &mut [u32],
     items: &mut [u32],
 ) -> FlatBuilt
-    ensures { λ r. ⌜ Shown flatBuilt (λ a. BuildSays (given (frameOf f) (now (coordinates .entry)) (now (exclusions .entry)) (now (pairs .entry)) (now (starts .entry)) (now (items .entry))) a (now (pairs .exit)) (now (starts .exit)) (now (items .exit)) × BuildLists (given (frameOf f) (now (coordinates .entry)) (now (exclusions .entry)) (now (pairs .entry)) (now (starts .entry)) (now (items .entry))) a (now (pairs .exit))) r ⌝ }
+    ensures { λ r. ⌜ (let i = given (frameOf f) (now (coordinates .entry)) (now (exclusions .entry)) (now (pairs .entry)) (now (starts .entry)) (now (items .entry)) in Shown flatBuilt (λ a. BuildSays i a (now (pairs .exit)) (now (starts .exit)) (now (items .exit)) × BuildLists i a (now (pairs .exit))) r) ⌝ }
 {
     give::built(frame::build(
         take::frame(f),

@@ -8,7 +8,7 @@ use field_structs::take;
 ghost use Rattle.field_structs.specs.Flat.{flatStepped};
 ghost use Rattle.field_structs.specs.Shown.{Shown};
 ghost use Rattle.field_structs.specs.Taken.{paceOf, settingOf, stateOf};
-ghost use Rattle.verlet_step.specs.Calls.{FinishSays, StepSays, motionOf};
+ghost use Rattle.verlet_step.specs.Calls.{FinishSays, StepLists, StepSays, motionOf};
 
 // One step of velocity Verlet: half a kick and the drift, the evaluation, half a kick, the thermostat. forces and potential are those at the positions.
 // Where a 7 or 8 stopped it after the drift (stopped is 1), positions and velocities are drifted, forces and potential old: call tyn_finish with more
@@ -36,7 +36,7 @@ pub extern "C" fn tyn_step(
     items: &mut [u32],
     forces: &mut [f64],
 ) -> FlatStepped
-    ensures { λ r. ⌜ Shown flatStepped (λ a. StepSays (paceOf pace .thermostat) (motionOf (settingOf setting) (paceOf pace .dt) (stateOf s) potential (now (ids .entry)) (now (params .entry)) (now (species .entry)) (now (charges .entry)) (now (bonds .entry)) (now (lengths .entry)) (now (ks .entry)) (now (masses .entry)) (now (exclusions .entry)) (now (positions .entry)) (now (velocities .entry)) (now (pairs .entry)) (now (references .entry)) (now (starts .entry)) (now (items .entry)) (now (forces .entry))) a (now (positions .exit)) (now (velocities .exit)) (now (pairs .exit)) (now (references .exit)) (now (starts .exit)) (now (items .exit)) (now (forces .exit))) r ⌝ }
+    ensures { λ r. ⌜ (let m = motionOf (settingOf setting) (paceOf pace .dt) (stateOf s) potential (now (ids .entry)) (now (params .entry)) (now (species .entry)) (now (charges .entry)) (now (bonds .entry)) (now (lengths .entry)) (now (ks .entry)) (now (masses .entry)) (now (exclusions .entry)) (now (positions .entry)) (now (velocities .entry)) (now (pairs .entry)) (now (references .entry)) (now (starts .entry)) (now (items .entry)) (now (forces .entry)) in Shown flatStepped (λ a. StepSays (paceOf pace .thermostat) m a (now (positions .exit)) (now (velocities .exit)) (now (pairs .exit)) (now (references .exit)) (now (starts .exit)) (now (items .exit)) (now (forces .exit)) × StepLists m a (now (positions .exit)) (now (pairs .exit))) r) ⌝ }
 {
     give::stepped(verlet_step::step(
         take::setting(setting),
@@ -86,7 +86,7 @@ pub extern "C" fn tyn_finish(
     items: &mut [u32],
     forces: &mut [f64],
 ) -> FlatStepped
-    ensures { λ r. ⌜ Shown flatStepped (λ a. FinishSays (paceOf pace .thermostat) (motionOf (settingOf setting) (paceOf pace .dt) (stateOf s) potential (now (ids .entry)) (now (params .entry)) (now (species .entry)) (now (charges .entry)) (now (bonds .entry)) (now (lengths .entry)) (now (ks .entry)) (now (masses .entry)) (now (exclusions .entry)) (now (positions .entry)) (now (velocities .entry)) (now (pairs .entry)) (now (references .entry)) (now (starts .entry)) (now (items .entry)) (now (forces .entry))) a (now (velocities .exit)) (now (pairs .exit)) (now (references .exit)) (now (starts .exit)) (now (items .exit)) (now (forces .exit))) r ⌝ }
+    ensures { λ r. ⌜ (let m = motionOf (settingOf setting) (paceOf pace .dt) (stateOf s) potential (now (ids .entry)) (now (params .entry)) (now (species .entry)) (now (charges .entry)) (now (bonds .entry)) (now (lengths .entry)) (now (ks .entry)) (now (masses .entry)) (now (exclusions .entry)) (now (positions .entry)) (now (velocities .entry)) (now (pairs .entry)) (now (references .entry)) (now (starts .entry)) (now (items .entry)) (now (forces .entry)) in Shown flatStepped (λ a. FinishSays (paceOf pace .thermostat) m a (now (velocities .exit)) (now (pairs .exit)) (now (references .exit)) (now (starts .exit)) (now (items .exit)) (now (forces .exit)) × StepLists m a (now (positions .entry)) (now (pairs .exit))) r) ⌝ }
 {
     give::stepped(verlet_step::finish(
         take::setting(setting),

@@ -85,7 +85,7 @@ pub extern "C" fn tyn_build(
     starts: &mut [u32],
     items: &mut [u32],
 ) -> FlatUpdated
-    ensures { λ r. ⌜ Shown flatUpdated (λ a. UpdateSays false (given (stateOf s) (cellOf cell) (now (positions .entry)) (now (exclusions .entry)) (now (pairs .entry)) (now (references .entry)) (now (starts .entry)) (now (items .entry))) a (now (pairs .exit)) (now (references .exit)) (now (starts .exit)) (now (items .exit)) × UpdateLists (given (stateOf s) (cellOf cell) (now (positions .entry)) (now (exclusions .entry)) (now (pairs .entry)) (now (references .entry)) (now (starts .entry)) (now (items .entry))) a (now (pairs .exit))) r ⌝ }
+    ensures { λ r. ⌜ (let i = given (stateOf s) (cellOf cell) (now (positions .entry)) (now (exclusions .entry)) (now (pairs .entry)) (now (references .entry)) (now (starts .entry)) (now (items .entry)) in Shown flatUpdated (λ a. UpdateSays false i a (now (pairs .exit)) (now (references .exit)) (now (starts .exit)) (now (items .exit)) × UpdateLists i a (now (pairs .exit))) r) ⌝ }
 {
     give::updated(neighbor::build(
         take::state(s),
@@ -111,7 +111,7 @@ pub extern "C" fn tyn_maybe_build(
     starts: &mut [u32],
     items: &mut [u32],
 ) -> FlatUpdated
-    ensures { λ r. ⌜ Shown flatUpdated (λ a. UpdateSays true (given (stateOf s) (cellOf cell) (now (positions .entry)) (now (exclusions .entry)) (now (pairs .entry)) (now (references .entry)) (now (starts .entry)) (now (items .entry))) a (now (pairs .exit)) (now (references .exit)) (now (starts .exit)) (now (items .exit)) × UpdateLists (given (stateOf s) (cellOf cell) (now (positions .entry)) (now (exclusions .entry)) (now (pairs .entry)) (now (references .entry)) (now (starts .entry)) (now (items .entry))) a (now (pairs .exit))) r ⌝ }
+    ensures { λ r. ⌜ (let i = given (stateOf s) (cellOf cell) (now (positions .entry)) (now (exclusions .entry)) (now (pairs .entry)) (now (references .entry)) (now (starts .entry)) (now (items .entry)) in Shown flatUpdated (λ a. UpdateSays true i a (now (pairs .exit)) (now (references .exit)) (now (starts .exit)) (now (items .exit)) × UpdateLists i a (now (pairs .exit))) r) ⌝ }
 {
     give::updated(neighbor::maybe_build(
         take::state(s),

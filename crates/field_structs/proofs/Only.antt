@@ -1,9 +1,13 @@
--- Where no second answer and no second memory fits a call's relation, none fits an export's contract. `m` is everything that is lent to be written, at exit. Assumes nothing.
+-- Where no second answer and no second memory fits a call's relation, none fits an export's. Assumes nothing.
 use mathlib.Core.Path.{_≡_, sym, ap, _∙_}
 use Rattle.field_structs.specs.Shown.{Shown}
 
-module _ {A F M : Type 0} (flat : A → F) (Says : M → A → Type 0) (only : (m n : M) (a b : A) → Says m a → Says n b → (a ≡ b) × (m ≡ n)) where
-  pub shown-only : (m n : M) (r s : F) → Shown flat (Says m) r → Shown flat (Says n) s → (r ≡ s) × (m ≡ n)
-  shown-only m n r s p q =
-      let both = only m n (p .answer) (q .answer) (p .says) (q .says) in
-      (p .handed ∙ ap flat (both .0) ∙ sym (q .handed), both .1)
+-- P and Q are the relation at one memory and at another, and Same is what that tells of the two
+pub shown-only : {A F : Type 0} {flat : A → F} {P Q : A → Type 0} {r s : F} {Same : Type 0} → Shown flat P r → Shown flat Q s → ((a b : A) → P a → Q b → (a ≡ b) × Same) → (r ≡ s) × Same
+shown-only {flat} p q only =
+    let both = only (p .answer) (q .answer) (p .says) (q .says) in
+    (p .handed ∙ ap flat (both .0) ∙ sym (q .handed), both .1)
+
+-- nothing is lent to be written
+pub shown-alone : {A F : Type 0} {flat : A → F} {P : A → Type 0} {r s : F} → Shown flat P r → Shown flat P s → ((a b : A) → P a → P b → a ≡ b) → r ≡ s
+shown-alone {flat} p q only = p .handed ∙ ap flat (only (p .answer) (q .answer) (p .says) (q .says)) ∙ sym (q .handed)

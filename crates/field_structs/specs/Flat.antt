@@ -13,8 +13,6 @@ use Rattle.answer.specs.declared.YesNo.{YesNo}
 use Rattle.answer.specs.declared.YesNo.the-variants as YesNo·cases
 use Rattle.answer.specs.declared.Whole.{Whole}
 use Rattle.answer.specs.declared.Whole.the-variants as Whole·cases
-use Rattle.cell.specs.Seen.{zeroRows}
-use Rattle.cell.specs.declared.Vec3.{Vec3}
 use Rattle.cell.specs.declared.Lattice.{Lattice}
 use Rattle.cell.specs.declared.Vector.{Vector}
 use Rattle.cell.specs.declared.Vector.the-variants as Vector·cases

@@ -1,3 +1,4 @@
 pub mod Flat
 pub mod Taken
 pub mod Shown
+pub mod Unique

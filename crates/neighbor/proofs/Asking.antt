@@ -15,7 +15,7 @@ use Rattle.float.specs.Literals.{half}
 use Rattle.answer.specs.declared.Done.{Done}
 use Rattle.answer.specs.declared.Done.the-variants.{Answered, Refused}
 use Rattle.answer.specs.declared.Refusal.{Refusal}
-use Rattle.answer.specs.declared.Refusal.the-variants.{Lengths, TooMany, Range, NotThere, Order, Claims}
+use Rattle.answer.specs.declared.Refusal.the-variants.{Lengths, Range, NotThere, Order}
 use Rattle.answer.specs.Seen.{answered, refusedBy}
 use Rattle.float.specs.Arith.{_⊗_, bits}
 use Rattle.ranges.specs.Ranged.{within}
@@ -34,8 +34,8 @@ use Rattle.exclusions.specs.Table.{isTable}
 use Rattle.neighbor.specs.declared.State.{State}
 use Rattle.neighbor.specs.State.{settingsOk, skinOf}
 use Rattle.neighbor.specs.Steps.{strayed}
-use Rattle.neighbor.specs.Rebuild.{allowance, needsOf, claimsMore, referencesOk, rangesOk, questionOf, needsSeen, strayedOf}
-use Rattle.neighbor.specs.Update.{lengthsBad, listedOf, firstOf, misnamed, keptAsked, tableAsked, andThen, listAsked}
+use Rattle.neighbor.specs.Rebuild.{allowance, needsOf, referencesOk, rangesOk, questionOf, needsSeen, strayedOf}
+use Rattle.neighbor.specs.Update.{listedOf, firstOf, misnamed, keptAsked, tableAsked, andThen, listAsked}
 
 -- ---- a search of the numbers below n, one after the other: what is left decides
 pub record Searching (p : ℕ → Bool) (n i : ℕ) : Type 0 where

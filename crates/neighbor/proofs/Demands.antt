@@ -67,7 +67,7 @@ module _ (cell : Cell) (r : Float) (xs : List Float) (table : List ℕ) where
   near-exactly = ⊎-elim plain-exactly grid-exactly (true-or-false (plainOf cell r xs))
 
 -- ---- an outcome, where it is a build's
-abbrev Says : Given → Outcome → Type 0
+abbrev pub Says : Given → Outcome → Type 0
 Says i o = o .rebuilt ≡ true → Listed i (o .state) (o .pairs)
 
 never : {A : Type 0} → false ≡ true → A
@@ -134,7 +134,7 @@ module _ (i : Given) where
       (λ e. few-lists i (ltb-true (atomsOf (i .positions)) 2 e))
       (λ _. list-lists)
 
-  update-lists : (question : Bool) → Says i (updateOf question i)
+  pub update-lists : (question : Bool) → Says i (updateOf question i)
   unfolding updateOf keptAll
   update-lists question =
       let asked = question && not (needsOf (i .state) (i .cell) (i .positions) (i .references)) in

@@ -2,3 +2,4 @@ pub mod Asking
 pub mod Updates
 pub mod Demands
 pub mod Only
+pub mod Source

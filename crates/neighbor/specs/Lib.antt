@@ -3,3 +3,4 @@ pub mod Rebuild
 pub mod Update
 pub mod Listed
 pub mod Steps
+pub mod Source

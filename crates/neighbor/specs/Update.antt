@@ -11,7 +11,7 @@ use Rattle.lists.specs.Atoms.{atomsOf, mostAtoms}
 use Rattle.answer.specs.declared.Done.{Done}
 use Rattle.answer.specs.declared.Done.the-variants as Done·cases
 use Rattle.answer.specs.declared.Refusal.{Refusal}
-use Rattle.answer.specs.declared.Refusal.the-variants.{Lengths, TooMany, Range, NotThere, Order, Claims, Cells, Room}
+use Rattle.answer.specs.declared.Refusal.the-variants.{Lengths, Range, NotThere, Order, Claims, Cells, Room}
 use Rattle.answer.specs.Seen.{Seen, answered, refusedBy, seenDone}
 use Rattle.float.specs.Arith.{at}
 use Rattle.lists.specs.Lists.{rows}
@@ -116,7 +116,7 @@ fullAll i count pairs starts items =
       items = items;
     }
 
--- by what the listing answers and leaves (`Crowded` and `Unfit` leave everything as it came); `Unfit` is what the tests below leave no case of
+-- by what the listing answers and leaves (`Crowded` and `Unfit` leave everything as it came); `Unfit` is what the tests below leave no case of (Source.antt)
 unfoldable pub listedAll : Given → Listed → List ℕ → List ℕ → List ℕ → Outcome
 listedAll i (Listed·cases.Found count checks fallback) pairs starts items = builtAll i count checks fallback pairs starts items
 listedAll i (Listed·cases.Full count) pairs starts items = fullAll i count pairs starts items
@@ -133,7 +133,7 @@ rebuiltAll i =
     (listedBy i
     (List·specs.listingOf (i .cell) (radiusOf (i .state)) (i .positions) (i .exclusions) (i .pairs) (i .starts) (i .items)))
 
--- what the tests leave no case of
+-- what the tests leave no case of (Source.antt)
 unfoldable pub unfit : ℕ → ℕ → Bool
 unfit positions references = ltb references positions || ltb mostAtoms (positions / 3)
 

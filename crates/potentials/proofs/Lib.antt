@@ -2,5 +2,6 @@ pub mod Folds
 pub mod Kernels
 pub mod Only
 pub mod Outcomes
+pub mod Source
 pub mod Table
 pub mod Turns

@@ -10,6 +10,7 @@ use Rattle.answer.specs.declared.Done.{Done}
 use Rattle.answer.specs.declared.Done.the-variants.{Answered, Refused}
 use Rattle.answer.specs.declared.Refusal.{Refusal}
 use Rattle.answer.specs.declared.Refusal.the-variants.{Lengths, TooMany, Range, NotThere, Order}
+use Rattle.answer.proofs.Passed.{pass}
 use Rattle.cell.specs.declared.Cell.{Cell}
 use Rattle.virial.specs.declared.Sum.{Sum}
 use Rattle.virial.specs.declared.Summed.the-variants as Summed·cases
@@ -37,19 +38,24 @@ passed : (b : Bool) {d : Done} (r : Refusal) → cond b d (Refused r) ≡ Answer
 passed true r e = (refl, e)
 passed false r e = absurd (differ r e)
 
-clear-of : (b : Bool) {d : Done} (r : Refusal) → cond b (Refused r) d ≡ Answered → d ≡ Answered
-clear-of true r e = absurd (differ r e)
-clear-of false r e = e
+-- what passed tests show: the lengths agree, every row's atoms are there, the species ascend
+pub record Cleared (fits : Bool) (count absent : ℕ) (ordered : Bool) : Type 0 where
+  pub lengths : fits ≡ true
+  pub there : ltb absent count ≡ false
+  pub order : ordered ≡ true
 
-asked-order : (fits : Bool) (atoms : ℕ) (inRange : Bool) (count absent : ℕ) (ordered : Bool) → askedBy fits atoms inRange count absent ordered ≡ Answered → ordered ≡ true
+pub asked-told : (fits : Bool) (atoms : ℕ) (inRange : Bool) (count absent : ℕ) (ordered : Bool) → askedBy fits atoms inRange count absent ordered ≡ Answered → Cleared fits count absent ordered
 unfolding askedBy
-asked-order fits atoms inRange count absent ordered e =
-    passed ordered Order (clear-of (ltb absent count) (NotThere absent) (passed inRange Range (passed (fewAtoms atoms) (TooMany atoms) (passed fits Lengths e .1) .1) .1)) .0
+asked-told fits atoms inRange count absent ordered e =
+    let a = passed fits Lengths e in
+    let b = passed inRange Range (passed (fewAtoms atoms) (TooMany atoms) (a .1) .1) in
+    let c = pass (ltb absent count) (NotThere absent) _ (b .1) in
+    record { lengths = a .0; there = c .0; order = passed ordered Order (c .1) .0 }
 
 module _ (lj : Lj) (cell : Cell) (ids : List ℕ) (params : List Float) (species : ℕ) (xs : List Float) (forces pairs absent : ℕ) {done : Done} where
   ids-rising : done ≡ ljAsked lj cell ids params species xs forces pairs absent → done ≡ Answered → rising ids ≡ true
   unfolding ljAsked
-  ids-rising A e = asked-order _ _ _ _ _ _ (sym A ∙ e)
+  ids-rising A e = asked-told _ _ _ _ _ _ (sym A ∙ e) .order
 
   pub lj-looked : done ≡ ljAsked lj cell ids params species xs forces pairs absent → done ≡ Answered → (of : List ℕ) (room : ℕ) (l : List (ℕ × ℕ)) {r : Total}
       → r ≡ ljOver (lookBy ids params lj) lj cell of xs room l → r ≡ ljOver (lookOf ids params lj) lj cell of xs room l

@@ -1,4 +1,5 @@
 pub mod Calls
 pub mod Ranged
+pub mod Source
 pub mod Steps
 pub mod Terms

@@ -30,7 +30,7 @@ use Rattle.potentials.specs.declared.Bond.{Bond}
 unfoldable pub zeroTotal : ℕ → Total
 zeroTotal room = record { sum = zeroSum; forces = zeroForces room }
 
--- what a pair of n atoms adds; one that names an atom not there adds nothing (refusal 4 keeps it from a public call)
+-- what a pair of n atoms adds; one that names an atom not there adds nothing (refusal 4 leaves no such case: Source.antt)
 unfoldable pub step : ℕ → (ℕ × ℕ → Pull) → Total → ℕ × ℕ → Total
 step n pull t p = cond (isAbsent n p) t (after t p (pull p))
 

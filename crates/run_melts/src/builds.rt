@@ -7,7 +7,6 @@ use crate::show;
 use cell::Cell;
 use neighbor::State;
 use neighbor::Updated;
-ghost use Prim.Native.Nat.{_≤_};
 
 fn put_built(u: Updated, pairs: &[u32]) {
     let done = u.done;

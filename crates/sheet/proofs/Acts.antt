@@ -1,5 +1,5 @@
--- Two lines may change places: acts on different parts of the meaning always, acts on one part by that part's own law. A new line form needs only the laws of its
--- part. Assumes nothing.
+-- THEOREM. Two lines may change places: acts on different parts of the meaning always, acts on one part by that part's own law. A new line form needs only the laws
+-- of its part. Assumes nothing.
 use Prim.Native.Nat.{ℕ, zero, suc, _+_, _*_, _≤_}
 use mathlib.Core.Path.{_≡_, refl, sym, ap, _∙_}
 use mathlib.Core.Logic.{_≢_}
@@ -18,6 +18,7 @@ use Rattle.sheet_lines.specs.declared.Head.{Head}
 use Rattle.sheet_lines.specs.declared.Line.{Line}
 use Rattle.sheet_lines.specs.declared.Line.the-variants.{Header, Atom, Exclusion, Malformed, End}
 use Rattle.sheet.specs.Meaning.{Meaning, Atoms, Act, onHeader, onAtoms, onRows, nowhere, andThen, acted, actOf, headed, seated, excluding, fresh, placed}
+use Rattle.sheet.specs.Theorems.{Swaps}
 use Rattle.sheet.proofs.RowSets.{added-comm}
 
 -- ---- parts
@@ -32,7 +33,7 @@ stays-none none = refl
 stays-none (some a) = refl
 
 -- two acts on the same part may change places
-abbrev pub Alike : Act → Act → Type 0
+abbrev Alike : Act → Act → Type 0
 Alike (onHeader f) (onHeader g) = (x : Option Head) → andThen (f x) g ≡ andThen (g x) f
 Alike (onHeader f) (onAtoms g) = Unit {0}
 Alike (onHeader f) (onRows g) = Unit {0}
@@ -61,7 +62,7 @@ module _ {A : Type 0} (put : A → Meaning) where
       through (f x) g second k ∙ (ap (λ (o : Option A). andThen o (λ a. some (put a))) e ∙ sym (through (g x) f first h))
 
 module _ (m : Meaning) where
-  abbrev pub Swap : Act → Act → Type 0
+  abbrev Swap : Act → Act → Type 0
   Swap a b = andThen (acted a m) (λ m′. acted b m′) ≡ andThen (acted b m) (λ m′. acted a m′)
 
   header-atoms : (f : Option Head → Option (Option Head)) (g : Atoms → Option Atoms) → Swap (onHeader f) (onAtoms g)
@@ -82,7 +83,7 @@ module _ (m : Meaning) where
   nowhere-any : (b : Act) → Swap nowhere b
   nowhere-any b = sym (stays-none (acted b m))
 
-  pub swap : (a b : Act) → Alike a b → Swap a b
+  swap : (a b : Act) → Alike a b → Swap a b
   swap (onHeader f) (onHeader g) e =
       same-part (λ h. record { header = h; atoms = m .atoms; rows = m .rows }) (m .header) f g (λ m′. acted (onHeader f) m′) (λ m′. acted (onHeader g) m′) (λ a. refl) (λ a. refl) (e (m .header))
   swap (onHeader f) (onAtoms g) e = header-atoms f g
@@ -173,7 +174,7 @@ two-exclusions a b d e l =
     (λ q. cases (leb (length (added d e l)) 1024) (λ r. simp (q, r, same, p)) (λ r. simp (q, r, p)))
     (λ q. cases (leb (length (added d e l)) 1024) (λ r. simp (q, r, same, p)) (λ r. simp (q, r))))
 
-pub alike : (l k : Line) → Alike (actOf l) (actOf k)
+alike : (l k : Line) → Alike (actOf l) (actOf k)
 alike (Header h) (Header k) = two-headers h k
 alike (Header h) (Atom n x y z) = tt
 alike (Header h) (Exclusion a b) = tt
@@ -191,3 +192,6 @@ alike (Exclusion a b) Malformed = tt
 alike (Exclusion a b) End = tt
 alike Malformed k = tt
 alike End k = tt
+
+pub swaps : (l k : Line) (m : Meaning) → Swaps l k m
+swaps l k m = swap m (actOf l) (actOf k) (alike l k)

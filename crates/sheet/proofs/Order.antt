@@ -15,7 +15,7 @@ use Rattle.sheet_lines.specs.declared.Line.{Line}
 use Rattle.sheet_lines.specs.declared.Line.the-variants.{Header, Atom, Exclusion, Malformed, End}
 use Rattle.sheet.specs.Meaning.{Meaning, andThen, acted, actOf}
 use Rattle.sheet.specs.Reading.{refusalFor, onward, run, blank, thenTested, sheetOf}
-use Rattle.sheet.proofs.Acts.{swap, alike}
+use Rattle.sheet.proofs.Acts.{swaps}
 
 -- the lines' acts one after the other; none where one is refused
 abbrev pub acts : List Line → Meaning → Option Meaning
@@ -39,7 +39,7 @@ order (List·Permᴰ·cons {a = a} {b = b} {l₁ = l₁} {l₂ = l₂} e p) m =
     ∙ and-same (acted (actOf b) m) (λ m′. acts l₁ m′) (λ m′. acts l₂ m′) (λ m′. order p m′)
 order (List·Permᴰ·swap {a = a} {b = b} {a′ = a′} {b′ = b′} {l = l} e f) m =
     sym (and-and (acted (actOf a) m) (λ m′. acted (actOf b) m′) (λ m′. acts l m′))
-    ∙ (ap (λ (o : Option Meaning). andThen o (λ m′. acts l m′)) (swap m (actOf a) (actOf b) (alike a b))
+    ∙ (ap (λ (o : Option Meaning). andThen o (λ m′. acts l m′)) (swaps a b m)
     ∙ (and-and (acted (actOf b) m) (λ m′. acted (actOf a) m′) (λ m′. acts l m′)
     ∙ (ap (λ (x : Line). andThen (acted (actOf x) m) (λ m′. andThen (acted (actOf a) m′) (λ m″. acts l m″))) f
     ∙ ap (λ (x : Line). andThen (acted (actOf a′) m) (λ m′. andThen (acted (actOf x) m′) (λ m″. acts l m″))) e)))
@@ -89,12 +89,14 @@ pub record ReadWhole (s : List ℕ) : Type 0 where
   pub meaning : Meaning
   pub read : run (linesOf s) 0 blank ≡ answered meaning
 
+pub read-well : (s : List ℕ) → ReadWhole s → AllWellFormed (linesOf s)
+read-well s r = well-formed (linesOf s) blank (r .meaning) (run-acts (linesOf s) 0 blank (r .meaning) (r .read))
+
 -- Whole lines that are all kept come, in any other order, to the same sheet, of as many bytes.
 pub same-sheet : (cs ds : List (List ℕ)) → AllWhole cs → List·Permᴰ cs ds → ReadWhole (joinAll cs) → (sheetOf (joinAll ds) ≡ sheetOf (joinAll cs)) × (length (joinAll cs) ≡ length (joinAll ds))
 unfolding sheetOf
 same-sheet cs ds w p r =
-    let g = well-formed (linesOf (joinAll cs)) blank (r .meaning) (run-acts (linesOf (joinAll cs)) 0 blank (r .meaning) (r .read)) in
-    let q = reordered cs ds w p g in
+    let q = reordered cs ds w p (read-well (joinAll cs) r) in
     (ap thenTested (run-order blank (r .meaning) (q .0) (r .read) ∙ sym (r .read)), q .1)
 
 -- ---- after a refused line

@@ -2,3 +2,4 @@ pub mod Meaning
 pub mod Reading
 pub mod Desk
 pub mod Read
+pub mod Theorems

@@ -1,6 +1,6 @@
--- An accepted sheet with its whole lines in another order prints the same: the statement in bytes alone. Assumes nothing.
+-- THEOREM. An accepted sheet is whole lines in one way, and in another order they print the same. Assumes nothing.
 use Prim.Native.Nat.{ℕ, _≤_}
-use mathlib.Core.Path.{_≡_, refl, ap}
+use mathlib.Core.Path.{_≡_, refl, sym, ap, _∙_, subst}
 use mathlib.Core.Logic.{∥∥₁-elim}
 use mathlib.Core.List.{List, Perm, List·isSet, List·Permᴰ}
 use native.Mathlib.Nat.{ℕ-set}
@@ -11,10 +11,12 @@ use Rattle.lists.proofs.Cases.{impossible}
 use Rattle.answer.specs.Seen.{Seen, answered, refused}
 use Rattle.sheet_lines.specs.Reading.{linesOf}
 use Rattle.sheet_lines.specs.Grammar.{AllWhole, joinAll}
+use Rattle.sheet_lines.proofs.WholeLines.{texts, one-way, in-lines}
 use Rattle.sheet.specs.Meaning.{Meaning}
 use Rattle.sheet.specs.Reading.{Sound, run, blank, thenTested, sheetOf}
-use Rattle.sheet.proofs.Order.{ReadWhole, same-sheet}
-use Rattle.sheet_answer.specs.Solve.{printed, answerText}
+use Rattle.sheet.proofs.Order.{ReadWhole, read-well, same-sheet}
+use Rattle.sheet_answer.specs.Solve.{printed, answerText, solveOf}
+use Rattle.sheet_answer.specs.Theorems.{Accepted, AcceptedInAnyOrder}
 
 in-order : (cs ds : List (List ℕ)) → AllWhole cs → List·Permᴰ cs ds → length (joinAll cs) ≤ 65536 → ReadWhole (joinAll cs) → printed (joinAll ds) ≡ printed (joinAll cs)
 unfolding printed
@@ -29,12 +31,6 @@ whole-lines-in-any-order cs ds w p h r =
 
 -- ---- an accepted sheet
 
--- it is short enough, and sound
-pub record Accepted (s : List ℕ) : Type 0 where
-  pub short : length s ≤ 65536
-  pub sound : Sound
-  pub is : sheetOf s ≡ answered sound
-
 read-whole : (s : List ℕ) (x : Seen Meaning) (a : Sound) → run (linesOf s) 0 blank ≡ x → thenTested x ≡ answered a → ReadWhole s
 read-whole s (answered m) a e p = record { meaning = m; read = e }
 read-whole s (refused n k) a e p = impossible (cc)
@@ -43,6 +39,29 @@ accepted-read : (s : List ℕ) (a : Sound) → sheetOf s ≡ answered a → Read
 unfolding sheetOf
 accepted-read s a e = read-whole s (run (linesOf s) 0 blank) a refl e
 
--- Condition C.2: "An accepted sheet with its whole lines in another order prints the same."
-pub accepted-in-any-order : (cs ds : List (List ℕ)) → AllWhole cs → Perm cs ds → Accepted (joinAll cs) → printed (joinAll ds) ≡ printed (joinAll cs)
-accepted-in-any-order cs ds w p a = whole-lines-in-any-order cs ds w p (a .short) (accepted-read (joinAll cs) (a .sound) (a .is))
+module _ (s : List ℕ) (a : Accepted s) where
+  read : ReadWhole s
+  read = accepted-read s (a .sound) (a .is)
+
+  parts : AllWhole (texts (linesOf s)) × (s ≡ joinAll (texts (linesOf s)))
+  parts = in-lines s (read-well s read)
+
+  prints : (ds : List (List ℕ)) → Perm (texts (linesOf s)) ds → printed (joinAll ds) ≡ printed s
+  prints ds p =
+      let joined = parts .1 in
+      whole-lines-in-any-order (texts (linesOf s)) ds (parts .0) p (subst (λ (z : List ℕ). length z ≤ 65536) joined (a .short)) (subst ReadWhole joined read) ∙ ap printed (sym joined)
+
+  solves : (ds : List (List ℕ)) → Perm (texts (linesOf s)) ds → (out : List ℕ) → solveOf (joinAll ds) out ≡ solveOf s out
+  unfolding solveOf
+  solves ds p out = rw (prints ds p)
+
+pub accepted-in-any-order : (s : List ℕ) → AcceptedInAnyOrder s
+accepted-in-any-order s a =
+    record {
+      lines = texts (linesOf s);
+      whole = parts s a .0;
+      joined = parts s a .1;
+      only = λ cs w e. one-way cs (texts (linesOf s)) w (parts s a .0) (sym e ∙ parts s a .1);
+      prints = prints s a;
+      solves = solves s a;
+    }

@@ -5,7 +5,7 @@ use libc::STDOUT_FILENO;
 use sheet_answer::solve;
 ghost use mathlib.Core.Path.{_≡_};
 ghost use Prim.Native.Nat.{_≤_};
-ghost use lib.ListN.{length};
+ghost use lib.ListN.{length, take};
 ghost use lib.Seq.{sets};
 ghost use Rattle.sheet_answer.specs.Solve.{printed, solveOf};
 
@@ -31,10 +31,19 @@ fn print_whole(sheet: &[u8], out: &mut [u8])
     print(sheet, out);
 }
 
-// Reads one byte more than a sheet may have, so that a longer one is seen to be longer.
-pub fn run() {
-    let mut input = [0u8; 65537];
-    let mut out = [0u8; 90133];
-    let got = io::read_full(STDIN_FILENO, &mut input);
-    print_whole(&input[..got], &mut out);
+// Reads a sheet, as far as there is room for it, and prints its whole text; how many bytes it read.
+fn read_and_print(input: &mut [u8], out: &mut [u8]) -> usize
+    requires { ⌜ 90133 ≤ length (now out) ⌝ }
+    ensures { λ got. ⌜ now (out .exit) ≡ sets (now (out .entry)) 0 (printed (take got (now (input .exit)))) ⌝ }
+{
+    let got = io::read_full(STDIN_FILENO, input);
+    print_whole(&input[..got], out);
+    got
+}
+
+// Room for one byte more than a sheet may have, so that a longer one is seen to be longer, and for the longest answer.
+pub fn run(input: &mut [u8; 65537], out: &mut [u8; 90133]) -> usize
+    ensures { λ got. ⌜ now (out .exit) ≡ sets (now (out .entry)) 0 (printed (take got (now (input .exit)))) ⌝ }
+{
+    read_and_print(input, out)
 }

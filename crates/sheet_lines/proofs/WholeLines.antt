@@ -70,7 +70,7 @@ whole-text (Exclusion a b) v =
 whole-text Malformed v = absurd v
 whole-text End v = absurd v
 
-abbrev texts : List Line → List (List ℕ)
+abbrev pub texts : List Line → List (List ℕ)
 texts [] = []
 texts (l ∷ ls) = lineText l ∷ texts ls
 
@@ -93,7 +93,7 @@ unsplit (x ∷ xs) (y ∷ ys) r t a b e =
     let q = unsplit xs ys r t (a .1) (b .1) (cc) in
     (cc (q .0), q .1)
 
-one-way : (cs es : List (List ℕ)) → AllWhole cs → AllWhole es → joinAll cs ≡ joinAll es → cs ≡ es
+pub one-way : (cs es : List (List ℕ)) → AllWhole cs → AllWhole es → joinAll cs ≡ joinAll es → cs ≡ es
 one-way [] [] a b e = refl
 one-way [] (d ∷ es) a b e =
     absurd (omega (arith, ap length e, length-append d (joinAll es), ap length (b .0 .is), length-append (b .0 .body) (10 ∷ [])))
@@ -131,12 +131,16 @@ follow (List·Permᴰ·trans p q) ls e =
 
 -- ---- the theorem
 
+-- A sheet with no malformed line is whole lines one after the other.
+pub in-lines : (s : List ℕ) → AllWellFormed (linesOf s) → AllWhole (texts (linesOf s)) × (s ≡ joinAll (texts (linesOf s)))
+in-lines s g = let t = text-of-lines s g in (whole-texts (linesOf s) (t .0), t .1 ∙ sym (join-texts (linesOf s)))
+
 -- A sheet with no malformed line, and the same whole lines in another order: the same lines in that order, and as many bytes.
 pub reordered : (cs ds : List (List ℕ)) → AllWhole cs → List·Permᴰ cs ds → AllWellFormed (linesOf (joinAll cs)) → List·Permᴰ (linesOf (joinAll cs)) (linesOf (joinAll ds)) × (length (joinAll cs) ≡ length (joinAll ds))
 reordered cs ds w p g =
-    let ls = linesOf (joinAll cs) in
     let t = text-of-lines (joinAll cs) g in
-    let e : cs ≡ texts (linesOf (joinAll cs)) = one-way cs (texts (linesOf (joinAll cs))) w (whole-texts (linesOf (joinAll cs)) (t .0)) (t .1 ∙ sym (join-texts (linesOf (joinAll cs)))) in
+    let u = in-lines (joinAll cs) g in
+    let e : cs ≡ texts (linesOf (joinAll cs)) = one-way cs (texts (linesOf (joinAll cs))) w (u .0) (u .1) in
     let m = follow p (linesOf (joinAll cs)) e in
     let d : joinAll ds ≡ sheetText (m .0) = ap joinAll (m .1) ∙ join-texts (m .0) in
     let v = valid-order (m .2) (t .0) in

@@ -2,7 +2,7 @@
 use Prim.Native.Nat.{ℕ, _≤_}
 use native.Mathlib.Omega.{arith}
 use mathlib.Core.Path.{_≡_, refl, sym, ap, _∙_}
-use mathlib.Core.Bool.{Bool, true, false, cond}
+use mathlib.Core.Bool.{Bool, true, false}
 use mathlib.Core.List.{List}
 use lib.Ieee.{Float}
 use lib.ListN.{length}
@@ -10,7 +10,7 @@ use Rattle.answer.specs.declared.Done.{Done}
 use Rattle.answer.specs.declared.Done.the-variants.{Answered, Refused}
 use Rattle.answer.specs.declared.Refusal.{Refusal}
 use Rattle.answer.specs.declared.Refusal.the-variants.{Drifted}
-use Rattle.answer.specs.Seen.{Seen, answered, refused, refusedBy, seenDone}
+use Rattle.answer.specs.Seen.{Seen, answered, refused, seenDone}
 use Rattle.potentials_pair.specs.declared.Lj.{Lj}
 use Rattle.potentials_pair.specs.declared.Mixed.{Mixed}
 use Rattle.potentials_pair.specs.Species.{rising}
@@ -21,19 +21,14 @@ use Rattle.evaluate.specs.declared.Evaluated.{Evaluated}
 use Rattle.evaluate.specs.Calls.{Job, afterList, settledBy, settledOf}
 use Rattle.evaluate.specs.Calls as Evaluation
 use Rattle.evaluate.specs.Steps.{settledIn}
-use Rattle.evaluate.proofs.Settling.{asked-rising, asked-forces, asked-few, settled-is}
+use Rattle.evaluate.proofs.Settling.{asked-rising, asked-forces, asked-few, settled-list, settled-is}
 use Rattle.verlet_step.specs.declared.Stepped.{Stepped}
 use Rattle.verlet_step.specs.Asked.{stepLimit, finishLimit}
-use Rattle.verlet_step.specs.Calls.{Motion, Outcome, unitsOf, allStays, landedAfter, landedBy, placed, moved, advancedBy, cooledOf, cooled, motionAsked, unless, steppedOf, finishedOf, shown}
+use Rattle.verlet_step.specs.Calls.{Motion, Outcome, unitsOf, landedAfter, landedBy, placed, moved, advancedBy, cooledOf, cooled, motionAsked, unless, steppedOf, finishedOf, shown}
 use Rattle.verlet_step.specs.Steps.{landedIn, advancedIn, unmovedOf, kicked, kickedAfter, Kicked}
 
 -- ---- an evaluation that is refused leaves the forces
 module _ (look : List ℕ → List Float → Lj → ℕ → Mixed) (room : ℕ) (j : Job) where
-  after-list : (a : Seen (Unit {0})) (o : Update.Outcome) → afterList look room j a o .list ≡ o
-  unfolding afterList
-  after-list (answered u) o = refl
-  after-list (refused k q) o = refl
-
   module _ {n p : ℕ} where
     after-stays : (a : Seen (Unit {0})) (o : Update.Outcome) → o .answer ≡ a → o .answer ≡ refused n p → afterList look room j a o .total .forces ≡ j .forces
     unfolding afterList
@@ -44,7 +39,7 @@ module _ (look : List ℕ → List Float → Lj → ℕ → Mixed) (room : ℕ) 
     unfolding settledBy
     forces-stay h =
         let o = Update.updateOf true (j .given) in
-        after-stays (o .answer) o refl (sym (ap (λ (x : Update.Outcome). x .answer) (after-list (o .answer) o)) ∙ h)
+        after-stays (o .answer) o refl (sym (ap (λ (x : Update.Outcome). x .answer) (settled-list look room j)) ∙ h)
 
 -- ---- the evaluation and the second kick
 module _ (m : Motion) (e : Evaluated) (pairs : List ℕ) (references : List Float) (starts items : List ℕ) (forces : List Float) where

@@ -9,41 +9,29 @@ use lib.Dec.{eqb, ltb}
 use lib.Ieee.{Float, nan}
 use lib.ListN.{length, take, getD, length-take}
 use lib.Seq.{getD-take}
-use borrow.Author.Tests.{not-false, ltb-false, le-ltb, ne-eqb}
+use borrow.Author.Tests.{ltb-false, le-ltb, ne-eqb}
 use Rattle.cell.specs.Vec.{positionAt}
 use Rattle.lists.specs.Atoms.{atomsOf}
 use Rattle.answer.specs.declared.Done.the-variants.{Answered}
-use Rattle.answer.specs.declared.Refusal.the-variants.{Lengths, TooMany, Claims, Range, Order}
+use Rattle.answer.specs.declared.Refusal.the-variants.{Lengths, Range, Order}
 use Rattle.lists.specs.Lists.{numbers, some, rows}
 use Rattle.lists.proofs.Cases.{or-neither, neither-or, same-or}
 use Rattle.exclusions.specs.Table.{isTable}
-use Rattle.neighbor_grid.specs.Layout.{unfitOf}
 use Rattle.neighbor_listing.specs.Listed.{unlisted}
 use Rattle.verlet.specs.declared.Thermostat.{Thermostat}
 use Rattle.cell.specs.declared.Cell.{Cell}
 use Rattle.neighbor.specs.declared.State.{State}
 use Rattle.neighbor.specs.Rebuild.{needsOf, claimsMore, referencesOk, rangesOk, strayedOf}
 use Rattle.neighbor.specs.Update.{unfit, lengthsBad, listedOf, firstOf, misnamed, keptAsked, tableAsked, andThen}
-use Rattle.answer.proofs.Passed.{pass}
 use Rattle.neighbor.proofs.Asking.{listed-some}
 use Rattle.evaluate.specs.Asked.{termsFit, numbersOk, bondsAsked, idsAsked, namesAsked, inTurn, jobAsked}
-use Rattle.evaluate.proofs.Settling.{passed, both-passed}
+use Rattle.neighbor.proofs.Source.{passed, both-passed, first-told, lengths-told, build-fits, build-able}
 use Rattle.verlet_step.specs.Asked.{motionFits, motionOk}
 use Rattle.verlet_step.specs.Calls.{Motion, motionAsked}
 use Rattle.verlet_step.specs.Theorems.{Rooms, Carries}
 
 -- ---- tests in turn
 module _ (s : State) (cell : Cell) (xs : List Float) (table pairs refs items : ℕ) where
-  first-told : firstOf s cell xs table pairs refs items ≡ Answered
-      → (lengthsBad (length xs) table refs items ≡ false) × (ltb 16384 (atomsOf xs) ≡ false) × (claimsMore (s .pairs) (pairs / 2) (s .references) (refs / 3) ≡ false) × (rangesOk s cell xs ≡ true)
-  unfolding firstOf
-  first-told e =
-      let p = pass (lengthsBad (length xs) table refs items) Lengths _ e in
-      let q = pass (ltb 16384 (atomsOf xs)) (TooMany (atomsOf xs)) _ (p .1) in
-      let r = pass (claimsMore (s .pairs) (pairs / 2) (s .references) (refs / 3)) Claims _ (q .1) in
-      let u = pass (not (rangesOk s cell xs)) Range _ (r .1) in
-      (p .0, q .0, r .0, not-false (rangesOk s cell xs) (u .0))
-
   first-made : lengthsBad (length xs) table refs items ≡ false → ltb 16384 (atomsOf xs) ≡ false → claimsMore (s .pairs) (pairs / 2) (s .references) (refs / 3) ≡ false → rangesOk s cell xs ≡ true
       → firstOf s cell xs table pairs refs items ≡ Answered
   unfolding firstOf
@@ -93,14 +81,6 @@ module _ (limit : Float) (t : Thermostat) (m : Motion) where
       rw (p .fits, f, p .numbers, p .kept, p .names)
 
 -- ---- what the tests say to a build
-lengths-told : (xs table refs items : ℕ) → lengthsBad xs table refs items ≡ false → (not (eqb (xs % 3) 0) || not (eqb (table % 2) 0) ≡ false) × (ltb refs xs ≡ false) × (ltb items (xs / 3) ≡ false)
-unfolding lengthsBad
-lengths-told xs table refs items h =
-    let rows = not (eqb (xs % 3) 0) || not (eqb (table % 2) 0) in
-    let p = or-neither (rows || ltb refs xs) (ltb items (xs / 3)) h in
-    let q = or-neither rows (ltb refs xs) (p .0) in
-    (q .0, q .1, p .1)
-
 -- rooms of at least these lengths
 pub lengths-again : (xs table refs items more others : ℕ) → lengthsBad xs table refs items ≡ false → xs ≤ more → xs / 3 ≤ others → lengthsBad xs table more others ≡ false
 unfolding lengthsBad
@@ -113,13 +93,11 @@ unfolding namesAsked tableAsked
 table-told n bonds table ids e = passed (isTable (rows table)) Order (both-passed _ (idsAsked ids) (both-passed (bondsAsked n bonds) _ e .1) .0)
 
 module _ (limit : Float) (t : Thermostat) (m : Motion) (p : Passed limit t m) where
-  pub build-fits : unfit (length (m .job .given .positions)) (length (m .job .given .references)) ≡ false
-  unfolding unfit
-  build-fits = neither-or _ _ (lengths-told _ _ _ _ (p .lengths) .1) (p .few)
+  pub list-fits : unfit (length (m .job .given .positions)) (length (m .job .given .references)) ≡ false
+  list-fits = build-fits (m .job .given) (p .lengths) (p .few)
 
-  pub build-able : unlisted (m .job .given .positions) (m .job .given .exclusions) (m .job .given .items) ≡ false
-  unfolding unlisted unfitOf
-  build-able = rw (p .few, lengths-told _ _ _ _ (p .lengths) .2, table-told _ _ _ _ (p .names))
+  pub list-able : unlisted (m .job .given .positions) (m .job .given .exclusions) (m .job .given .items) ≡ false
+  list-able = build-able (m .job .given) (p .lengths) (p .few) (table-told _ _ _ _ (p .names))
 
 -- ---- the old list in other rooms
 module _ {A : Type 0} (k : ℕ) (old new : List A) (same : take k new ≡ take k old) where

@@ -85,7 +85,7 @@ module _ (t : Thermostat) (m : Motion) (is : Stopped t m) where
   asked-ranges = ranges-told (m .job .given .state) (m .job .given .cell) places (step-passed .ranges)
 
   source : BySource m
-  source = by-source stepLimit t m (is .asked)
+  source = by-source m stepLimit t (is .asked)
 
   kicks-small : every (within finishLimit) kicks ≡ true
   kicks-small =

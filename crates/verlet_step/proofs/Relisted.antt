@@ -9,7 +9,7 @@ use lib.Dec.{eqb, ltb, leb}
 use lib.ListN.{length, take, drop, take-append-drop}
 use lib.Seq.{length-take-le, take-append-le, take-take}
 use lib.Ieee.{Float, lt, isNan, ofBits}
-use borrow.Author.Tests.{ltb-false, leb-false, lt-ltb, le-ltb, ne-eqb, not-false}
+use borrow.Author.Tests.{ltb-false, leb-false, le-ltb, ne-eqb, not-false}
 use Rattle.lists.specs.Atoms.{atomsOf}
 use Rattle.float.specs.Arith.{bits}
 use Rattle.float.specs.Def.{maxOf, negative}
@@ -37,6 +37,7 @@ use Rattle.neighbor.specs.Update.{Given, given, Outcome, stays, keptAll, builtA
 use Rattle.answer.proofs.Passed.{pass}
 use Rattle.neighbor.proofs.Asking.{listed-some}
 use Rattle.neighbor.proofs.Demands.{near-exactly}
+use Rattle.potentials.proofs.Source.{two-there}
 
 -- ---- the skin, read twice as its maximum with zero, is as read once
 one-of : (b : Bool) {z x u w : Float} → (u ≡ z) ⊎ (u ≡ x) → (w ≡ z) ⊎ (w ≡ x) → (cond b u w ≡ z) ⊎ (cond b u w ≡ x)
@@ -67,10 +68,6 @@ module _ (s : State) where
   built-again : (n count checks : ℕ) (fallback : Bool) → builtOf (emptiedOf s) n count checks fallback ≡ builtOf s n count checks fallback
   unfolding builtOf emptiedOf
   built-again n count checks fallback = rw (skin-again)
-
-  emptied-again : emptiedOf (emptiedOf s) ≡ emptiedOf s
-  unfolding emptiedOf
-  emptied-again = rw (skin-again)
 
   pub needs-again : (cell : Cell) (xs refs : List Float) → 2 ≤ atomsOf xs → needsOf (emptiedOf s) cell xs refs ≡ true
   unfolding needsOf emptiedOf
@@ -207,9 +204,6 @@ first-none p (a ∷ l) h = rw (h a (List·Memᴰ·head refl), first-none p l (λ
 
 of-front : {A : Type 0} (k : ℕ) (l : List A) {a : A} → a ∈ take k l → a ∈ l
 of-front {A} k l {a} m = subst (λ (t : List A). a ∈ t) (take-append-drop k l) (Memᴰ·append-left (drop k l) m)
-
-two-there : (n : ℕ) (p : ℕ × ℕ) → Two n p → isAbsent n p ≡ false
-two-there n p u = let l = u .0 in let h = u .1 in rw (lt-ltb (p .0) n (omega arith), lt-ltb (p .1) n h)
 
 all-there : (n : ℕ) (l : List ℕ) → ((p : ℕ × ℕ) → p ∈ rows l → Two n p) → ltb (absentOf n (rows l)) (length l / 2) ≡ false
 unfolding absentOf

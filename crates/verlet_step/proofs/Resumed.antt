@@ -27,7 +27,7 @@ use Rattle.verlet_step.specs.declared.Stepped.{Stepped}
 use Rattle.verlet_step.specs.Asked.{stepLimit, finishLimit}
 use Rattle.verlet_step.specs.Calls.{Motion, Outcome, atomsStay, landedBy, moved, cooled, motionAsked, steppedOf, finishedOf}
 use Rattle.verlet_step.specs.Theorems.{Rooms, Carries, roomsOf, leftIn, lentTo, resumed, Holds, before, after, Stops, Resumable, StepResumes, FinishResumes, CallsResume}
-use Rattle.verlet_step.proofs.Lent.{Passed, asked-told, asked-made, lengths-again, build-fits, build-able, claims-told, claims-made, claims-carried, needs-carried, kept-carried}
+use Rattle.verlet_step.proofs.Lent.{Passed, asked-told, asked-made, lengths-again, list-fits, list-able, claims-told, claims-made, claims-carried, needs-carried, kept-carried}
 use Rattle.verlet_step.proofs.Relisted.{zero-or, foundIn, Untouched, Overfull, update-leaves, update-again, overfull-kept}
 use Rattle.verlet_step.proofs.Stopping.{updated, Stopped, stopped-told, step-on, Halted, halted-told, finish-asked, finish-on, finish-listed, finish-ends, lands-again, places-length, putIn}
 use Rattle.verlet_step.proofs.Moved.{speeds-asked, ranges-told, ranges-made, moved-passed, speeds-small}
@@ -64,7 +64,7 @@ pub record Again (t : Thermostat) (q : Motion) (r : Rooms) : Type 0 where
 
 module _ (t : Thermostat) (q : Motion) (base : Passed finishLimit t q) (number place : ℕ) (refusal : updated q .answer ≡ refused number place) where
   leaves : Untouched (q .job .given) (updated q) ⊎ Overfull (q .job .given) (updated q)
-  leaves = update-leaves (q .job .given) (build-fits finishLimit t q base) (build-able finishLimit t q base) number place refusal
+  leaves = update-leaves (q .job .given) (list-fits finishLimit t q base) (list-able finishLimit t q base) number place refusal
 
   reason : Stops (updated q .answer)
   reason = ⊎-elim (λ (u : Untouched (q .job .given) (updated q)). inl (u .answer)) (λ (o : Overfull (q .job .given) (updated q)). inr (length (foundIn (q .job .given)), o .answer)) leaves
@@ -262,6 +262,7 @@ module _ (t : Thermostat) (m : Motion) (r : Rooms) (a b : Stepped) (xs vs ws : L
     (starts starts′ items items′ : List ℕ) (forces forces′ : List Float) where
   pub calls-resume : CallsResume t m r a b xs vs ws pairs pairs′ references references′ starts starts′ items items′ forces forces′
   calls-resume step stopped holds finish done =
+      let held = ⊎-elim (λ e. inl (ap (λ (u : Outcome). u .list .state) (sym step) ∙ e)) (λ h. inr (rw step at h)) holds in
       let again = ap (λ (u : Outcome). finishedOf t (resumed m u r)) step in
       let all = step-resumes t m (ap (λ (u : Outcome). u .stopped) (sym step) ∙ stopped) in
-      finish ∙ again ∙ all .resumes r (inr (rw step at holds)) (ap (λ (u : Outcome). u .list .answer) (sym (finish ∙ again)) ∙ ap seenDone done)
+      finish ∙ again ∙ all .resumes r held (ap (λ (u : Outcome). u .list .answer) (sym (finish ∙ again)) ∙ ap seenDone done)

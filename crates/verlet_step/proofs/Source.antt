@@ -1,7 +1,7 @@
 -- After passed tests the lists of a motion fit each other, and so each part of a step is the Rust's own loop. Assumes nothing.
 use Prim.Native.Nat.{_*_, _/_, _≤_}
 use native.Mathlib.Omega.{arith}
-use mathlib.Core.Path.{_≡_, ap, _∙_}
+use mathlib.Core.Path.{_≡_, _∙_}
 use mathlib.Core.List.{List}
 use lib.Dec.{eqb}
 use lib.Ieee.{Float}
@@ -16,7 +16,7 @@ use Rattle.verlet.proofs.Steps.{kicked-by, moved-by, drifts-by, rescaled-by}
 use Rattle.evaluate.proofs.Settling.{asked-fits, asked-forces, asked-few, asked-thirds, settled-length}
 use Rattle.verlet_step.specs.Asked.{motionFits}
 use Rattle.verlet_step.specs.Calls.{Motion, unitsOf, placed, motionAsked}
-use Rattle.verlet_step.specs.Source.{BySource}
+use Rattle.verlet_step.specs.Source.{BySource, StepsBySource}
 
 module _ (limit : Float) (t : Thermostat) (m : Motion) (e : motionAsked limit t m ≡ Answered) where
   fits : (length (m .velocities) ≡ length (m .job .given .positions)) × (length (m .masses) ≡ length (m .job .given .positions) / 3)
@@ -41,9 +41,9 @@ module _ (limit : Float) (t : Thermostat) (m : Motion) (e : motionAsked limit t 
   unfolding motionAsked
   few vs l = omega (arith, l, fits .0, asked-few _ _ (m .job .terms) (m .job .given) (length (m .job .forces)) e)
 
-  pub by-source : BySource m
+  parts : BySource m
   unfolding movedOf
-  by-source =
+  parts =
       record {
         moves = moved-by (unitsOf m) (m .dt) (m .job .forces) (m .masses) (m .velocities) speeds pulls (m .job .given .positions) places;
         asks = drifts-by (unitsOf m) (m .dt) (m .job .forces) (m .masses) (m .velocities) speeds pulls (m .job .given .positions) places;
@@ -51,3 +51,6 @@ module _ (limit : Float) (t : Thermostat) (m : Motion) (e : motionAsked limit t 
             λ xs vs l. kicked-by (unitsOf m) (m .dt) _ (m .masses) vs (l ∙ speeds) (settled-length _ _ (placed m (xs, vs) .job) ∙ pulls);
         cools = λ target tau vs l. rescaled-by (unitsOf m) (m .dt) target tau (m .masses) vs (few vs l);
       }
+
+pub by-source : (m : Motion) → StepsBySource m
+by-source m limit t e = parts limit t m e

@@ -14,7 +14,8 @@ use Rattle.virial.specs.declared.Units.{Units}
 use Rattle.verlet.specs.declared.Thermostat.{Thermostat}
 use Rattle.verlet.specs.Parts.{kickedBy, movedBy, drifts, thermostatBy}
 use Rattle.neighbor.specs.declared.State.{State}
-use Rattle.neighbor.specs.Update.{given, stays}
+use Rattle.neighbor.specs.Listed.{Listed}
+use Rattle.neighbor.specs.Update.{Given, given, stays}
 use Rattle.neighbor.specs.Update as Update
 use Rattle.evaluate.specs.declared.Setting.{Setting}
 use Rattle.evaluate.specs.Calls.{Job, job, jobOf, askedOf, settledOf}
@@ -86,14 +87,13 @@ landedAfter m (answered u) e =
 unfoldable pub landedBy : (evaluation : Job → Evaluation.Outcome) → Motion → Outcome
 landedBy evaluation m = landedAfter m (evaluation (m .job) .list .answer) (evaluation (m .job))
 
+-- what a build is given, at other positions
+abbrev pub givenAt : Given → (positions : List Float) → Given
+givenAt g xs = given (g .state) (g .cell) xs (g .exclusions) (g .pairs) (g .references) (g .starts) (g .items)
+
 -- the atoms at other positions and velocities
 abbrev pub placed : Motion → List Float × List Float → Motion
-placed m p =
-    motion (m .dt)
-    (job (m .job .terms)
-    (given (m .job .given .state) (m .job .given .cell) (p .0) (m .job .given .exclusions) (m .job .given .pairs) (m .job .given .references) (m .job .given .starts) (m .job .given .items))
-    (m .job .forces))
-    (m .masses) (m .potential) (p .1)
+placed m p = motion (m .dt) (job (m .job .terms) (givenAt (m .job .given) (p .0)) (m .job .forces)) (m .masses) (m .potential) (p .1)
 
 -- lines 178 to 184: half a kick by the old forces, and the drift
 abbrev pub moved : Motion → Motion
@@ -171,3 +171,7 @@ StepSays t m r positions velocities pairs references starts items forces = shown
 -- The contract of `finish`, to which positions are lent to be read.
 abbrev pub FinishSays : Thermostat → Motion → Stepped → (velocities : List Float) → (pairs : List ℕ) → (references : List Float) → (starts items : List ℕ) → (forces : List Float) → Type 0
 FinishSays t m r velocities pairs references starts items forces = shown r (m .job .given .positions) velocities pairs references starts items forces ≡ finishedOf t m
+
+-- Demand 3 of a step or a finishing call that built the list anew, said of the lent pairs at exit, over the positions at exit: those of a step are the moved ones.
+abbrev pub StepLists : Motion → Stepped → (positions : List Float) → (pairs : List ℕ) → Type 0
+StepLists m r positions pairs = r .rebuilt ≡ true → Listed (givenAt (m .job .given) positions) (r .state) pairs

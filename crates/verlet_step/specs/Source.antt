@@ -4,10 +4,12 @@ use mathlib.Core.List.{List}
 use lib.Ieee.{Float}
 use lib.ListN.{length}
 use Rattle.lists.specs.Lists.{every}
+use Rattle.answer.specs.declared.Done.the-variants.{Answered}
+use Rattle.verlet.specs.declared.Thermostat.{Thermostat}
 use Rattle.verlet.specs.Parts.{kickedBy, movedBy, rescaledBy, coordinate, drifts}
 use Rattle.verlet.specs.Verlet.{kickedOf, movedOf, berendsenOf}
 use Rattle.evaluate.specs.Calls.{settledOf}
-use Rattle.verlet_step.specs.Calls.{Motion, unitsOf, placed}
+use Rattle.verlet_step.specs.Calls.{Motion, unitsOf, placed, motionAsked}
 
 pub record BySource (m : Motion) : Type 0 where
   -- lines 178 to 184
@@ -23,3 +25,7 @@ pub record BySource (m : Motion) : Type 0 where
   -- lines 203 to 219
   pub cools : (target tau : Float) (vs : List Float) → length vs ≡ length (m .velocities)
       → rescaledBy (unitsOf m) (m .dt) target tau (m .masses) vs ≡ berendsenOf (unitsOf m) (m .dt) target tau (m .masses) vs
+
+-- THEOREM. The limit of the velocities is a step's or a finishing call's
+abbrev pub StepsBySource : Motion → Type 0
+StepsBySource m = (limit : Float) (t : Thermostat) → motionAsked limit t m ≡ Answered → BySource m

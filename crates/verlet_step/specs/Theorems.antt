@@ -1,5 +1,5 @@
--- What is proved over the outcomes of calls that a 7 or 8 stopped: a finishing call with other rooms makes them whole. Statements, which nobody has to believe;
--- proofs/Resumed.antt proves them of every thermostat and every motion. Definitions only.
+-- THEOREMS over the outcomes of calls that a 7 or 8 stopped: a finishing call with other rooms makes them whole. This is what to read of it: it adds nothing to what the
+-- outcomes are, and proofs/Resumed.antt proves it of every thermostat and every motion. Definitions only.
 use Prim.Native.Nat.{ℕ, _*_, _≤_}
 use mathlib.Core.Path.{_≡_}
 use mathlib.Core.Bool.{true}
@@ -86,13 +86,13 @@ abbrev pub FinishResumes : Thermostat → Motion → Type 0
 FinishResumes t m = finishedOf t m .stopped ≡ true → Resumable t m (finishedOf t m) (λ r. finishedOf t (lentTo m r))
 
 -- The first said of the calls: after a `step` that answered a, stopped, and a `finish` that answered b, done, b and what they left fit the contract of `step`
--- with rooms r; proofs/Only.antt has that nothing else does
+-- with rooms r; proofs/Only.antt has that nothing else does. As above, where a has the state as it came (a 7) nothing is asked of r.
 abbrev pub CallsResume :
     Thermostat → Motion → Rooms → (a b : Stepped) (positions velocities velocities′ : List Float) (pairs pairs′ : List ℕ) (references references′ : List Float)
     (starts starts′ items items′ : List ℕ) (forces forces′ : List Float) → Type 0
 CallsResume t m r a b positions velocities velocities′ pairs pairs′ references references′ starts starts′ items items′ forces forces′ =
     StepSays t m a positions velocities pairs references starts items forces → a .stopped ≡ true
-    → Holds m (shown a positions velocities pairs references starts items forces) r
+    → (a .state ≡ m .job .given .state) ⊎ Holds m (shown a positions velocities pairs references starts items forces) r
     → FinishSays t (resumed m (shown a positions velocities pairs references starts items forces) r) b velocities′ pairs′ references′ starts′ items′ forces′
     → b .done ≡ Answered
     → StepSays t (lentTo m r) b positions velocities′ pairs′ references′ starts′ items′ forces′

@@ -1,4 +1,3 @@
-use borrow.Author.Needs.{needs}
 use Rattle.neighbor.proofs.asked.in_order.Statement.{statement}
 use Rattle.neighbor.proofs.asked.in_order.Tie as tie
 
