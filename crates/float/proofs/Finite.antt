@@ -1,12 +1,12 @@
 -- The fields of the bits of a finite f64 above zero, and the root by them; and the other cases of `root`. Assumes nothing.
 use mathlib.Core.Path.{_≡_, refl, sym, ap, _∙_, subst}
-use mathlib.Core.Logic.{inl, inr}
-use Prim.Native.Nat.{ℕ, zero, suc, _+_, _-_, _*_, _/_, _%_, _^_, _<_}
+use mathlib.Core.Logic.{_⊎_, inl, inr}
+use Prim.Native.Nat.{ℕ, zero, suc, _+_, _-_, _*_, _/_, _%_, _^_, _≤_, _<_}
 use native.Mathlib.Nat.{lt-irrefl, mul-one, zero-mul, mul-pos, zero-lt-suc, mul-assoc, mul-right-comm, mod-lt, mul-div-cancel, eq-zero-or-pos}
 use native.Mathlib.Omega.{arith}
 use mathlib.Core.Bool.{Bool, true, false, not, _&&_, _||_, cond, Bool·beq, false≢true, true≢false}
 use lib.IntN.{ℤ, pos}
-use lib.Dec.{T, leb, eqb, eqb→eq, ltb→lt, lt→ltb, not-T}
+use lib.Dec.{T, leb, eqb, eqb→eq, ltb→lt, lt→ltb, eqb·suc-zero, not-T}
 use lib.Pow.{pow-pos, pow-add, field}
 use lib.Ieee.{Float, nan, inf, fin, binary64, up, down, odd, lt, eq, fits, isNan, toBits, ofFields}
 use lib.Ieee.Bits.{ofBits-toBits, is-false}
@@ -118,6 +118,65 @@ module _ (x : Float) (p : T (positive x)) (g : T (fits binary64 x)) where
 
       one-less : (f : ℕ) → (f ≡ 0 → ⊥) → f ≡ suc (f - 1)
       one-less f h = omega arith
+
+-- the leading digit: 0 where the field is 0, else 1
+pub Lead : ℕ → ℕ → Type 0
+Lead f l = ((f ≡ 0) × (l ≡ 0)) ⊎ ((f ≡ 0 → ⊥) × (l ≡ 1))
+
+pub lead-of : (f l : ℕ) → l ≡ cond (eqb f 0) 0 1 → Lead f l
+unfolding Lead
+lead-of zero l e = inl (refl, e)
+lead-of (suc f) l e = inr (λ (z : suc f ≡ 0). never f z, e ∙ ap (λ (t : Bool). cond {A = ℕ} t 0 1) (eqb·suc-zero f))
+  where
+    never : (f : ℕ) → suc f ≡ 0 → ⊥
+    never f z = omega arith
+
+pub lead-le : (f l : ℕ) → Lead f l → (l ≤ 1) × (l ≤ f)
+unfolding Lead
+lead-le f l (inl z) = (omega arith, omega arith)
+lead-le f l (inr z) = (omega arith, one f l (z .0) (z .1))
+  where
+    one : (f l : ℕ) → (f ≡ 0 → ⊥) → l ≡ 1 → l ≤ f
+    one f l n e = omega arith
+
+module _ (x : Float) (p : T (positive x)) (g : T (fits binary64 x)) (l : ℕ) (L : Lead (fieldOf (bits x p g)) l) where
+  pub lead-in : (0 < digitsOf (bits x p g) + l * 2 ^ 52) × (digitsOf (bits x p g) + l * 2 ^ 52 < 2 ^ 53) × (fieldOf (bits x p g) - l < 2046)
+  unfolding Lead
+  lead-in = elim L [
+    | inl z ↦ (low (digitsOf (bits x p g)) l (low-pos x p g (z .0)), small (digitsOf (bits x p g)) l (mod-lt (bits x p g) (pow-pos 52)) (z .1), first (fieldOf (bits x p g)) l (z .0))
+    | inr z ↦ (high (digitsOf (bits x p g)) l (z .1), small' (digitsOf (bits x p g)) l (mod-lt (bits x p g) (pow-pos 52)) (z .1), later (fieldOf (bits x p g)) l (z .0) (z .1) (field-lt x p g))
+  ]
+    where
+      low : (t l : ℕ) → 0 < t → 0 < t + l * 2 ^ 52
+      low t l h = omega arith
+
+      high : (t l : ℕ) → l ≡ 1 → 0 < t + l * 2 ^ 52
+      high t l h = omega arith
+
+      small : (t l : ℕ) → t < 2 ^ 52 → l ≡ 0 → t + l * 2 ^ 52 < 2 ^ 53
+      small t l h e = omega arith
+
+      small' : (t l : ℕ) → t < 2 ^ 52 → l ≡ 1 → t + l * 2 ^ 52 < 2 ^ 53
+      small' t l h e = omega arith
+
+      first : (f l : ℕ) → f ≡ 0 → f - l < 2046
+      first f l e = omega arith
+
+      later : (f l : ℕ) → (f ≡ 0 → ⊥) → l ≡ 1 → f < 2047 → f - l < 2046
+      later f l n e h = omega arith
+
+  pub lead-root : rootScaled ((digitsOf (bits x p g) + l * 2 ^ 52) * 2 ^ (fieldOf (bits x p g) - l + 126)) ≡ rootOf x
+  unfolding Lead
+  lead-root = elim L [
+    | inl z ↦ ap rootScaled (cc (plain (digitsOf (bits x p g)) l (z .1), least (fieldOf (bits x p g)) l (z .0))) ∙ low-root x p g (z .0)
+    | inr z ↦ ap (λ (k : ℕ). rootScaled ((digitsOf (bits x p g) + k * 2 ^ 52) * 2 ^ (fieldOf (bits x p g) - k + 126))) (z .1) ∙ high-root x p g (z .0)
+  ]
+    where
+      plain : (t l : ℕ) → l ≡ 0 → t + l * 2 ^ 52 ≡ t
+      plain t l e = omega arith
+
+      least : (f l : ℕ) → f ≡ 0 → f - l + 126 ≡ 0 + 126
+      least f l e = omega arith
 
 -- x is a * 2 ^ q of the format's smallest values
 pub units-of : (x : Float) → T (positive x) → T (fits binary64 x) → (s : Bool) × (a : ℕ) × (q : ℕ) × HasValue x s (a * 2 ^ q) (2 ^ 1074) × (0 < a) × (a < 2 ^ 53) × (q < 2046)

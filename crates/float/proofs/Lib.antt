@@ -4,6 +4,7 @@ pub mod Branches
 pub mod Whole
 pub mod Casts
 pub mod Fold
+pub mod Table
 pub mod WholeRoots
 pub mod Nearness
 pub mod Patterns

@@ -1,6 +1,6 @@
 -- The leading digit of a significand brought to place 52 or 53 by the count of its leading zeros, so that the exponent is even. Assumes nothing.
 use mathlib.Core.Path.{_≡_, sym, ap, _∙_, subst}
-use Prim.Native.Nat.{ℕ, suc, _+_, _-_, _*_, _/_, _%_, _^_, _≤_, _<_}
+use Prim.Native.Nat.{ℕ, zero, suc, _+_, _-_, _*_, _/_, _%_, _^_, _≤_, _<_}
 use native.Mathlib.Nat.{le-trans, le-of-eq, lt-of-lt-of-le, lt-of-not-le, not-le-of-lt, mul-assoc, mul-le-mul-right, mul-lt-mul-of-pos-right, mod-eq-of-lt}
 use native.Mathlib.Omega.{arith}
 use lib.Pow.{pow-pos, pow-add, pow-mono}
@@ -45,43 +45,36 @@ normal m p h =
     most : (z j : ℕ) → z + j ≡ 52 → z ≤ 52
     most z j e = omega arith
 
--- ---- the two shifts: by z, and by one more
-module _ (m z : ℕ) (N : Norm m z) where
-  wide : m * 2 ^ z < 2 ^ 64
-  wide = lt-of-lt-of-le (N .high) (pow-mono le-lit)
+-- ---- the shift: by z, and by one more where d is 1
+module _ (m z d : ℕ) (N : Norm m z) (h : d < 2) where
+  shifted : m * 2 ^ (z + d) ≡ m * 2 ^ z * 2 ^ d
+  shifted = ap (λ (n : ℕ). m * n) (pow-add 2 z d) ∙ sym (mul-assoc m (2 ^ z) (2 ^ d))
+
+  shift-in : (2 ^ 52 ≤ m * 2 ^ (z + d)) × (m * 2 ^ (z + d) < 2 ^ 54)
+  shift-in = subst (λ (n : ℕ). (2 ^ 52 ≤ n) × (n < 2 ^ 54)) (sym shifted) (go d h)
     where
-      le-lit : 53 ≤ 64
-      le-lit = omega arith
+      same : (n : ℕ) → 2 ^ 52 ≤ n → n < 2 ^ 53 → (2 ^ 52 ≤ n * 1) × (n * 1 < 2 ^ 54)
+      same n l k = (omega arith, omega arith)
 
-  pub same-is : (m * 2 ^ z) % 2 ^ 64 ≡ m * 2 ^ z
-  same-is = mod-eq-of-lt wide
+      twice : (n : ℕ) → 2 ^ 52 ≤ n → n < 2 ^ 53 → (2 ^ 52 ≤ n * 2) × (n * 2 < 2 ^ 54)
+      twice n l k = (omega arith, omega arith)
 
-  pub same-in : (2 ^ 52 ≤ (m * 2 ^ z) % 2 ^ 64) × ((m * 2 ^ z) % 2 ^ 64 < 2 ^ 54)
-  same-in = subst (λ (n : ℕ). (2 ^ 52 ≤ n) × (n < 2 ^ 54)) (sym same-is) (N .low, twice (m * 2 ^ z) (N .high))
-    where
-      twice : (n : ℕ) → n < 2 ^ 53 → n < 2 ^ 54
-      twice n h = omega arith
+      never : (d : ℕ) → suc (suc d) < 2 → ⊥
+      never d h = omega arith
 
-  next-shift : m * 2 ^ (z + 1) ≡ m * 2 ^ z * 2
-  next-shift = ap (λ (n : ℕ). m * n) (pow-add 2 z 1) ∙ sym (mul-assoc m (2 ^ z) 2)
+      go : (d : ℕ) → d < 2 → (2 ^ 52 ≤ m * 2 ^ z * 2 ^ d) × (m * 2 ^ z * 2 ^ d < 2 ^ 54)
+      go zero h = same (m * 2 ^ z) (N .low) (N .high)
+      go (suc zero) h = twice (m * 2 ^ z) (N .low) (N .high)
+      go (suc (suc d)) h = absurd (never d h)
 
-  next-lt : m * 2 ^ (z + 1) < 2 ^ 54
-  next-lt = subst (λ (n : ℕ). n < 2 ^ 54) (sym next-shift) (twice (m * 2 ^ z) (N .high))
-    where
-      twice : (n : ℕ) → n < 2 ^ 53 → n * 2 < 2 ^ 54
-      twice n h = omega arith
-
-  pub next-is : (m * 2 ^ (z + 1)) % 2 ^ 64 ≡ m * 2 ^ (z + 1)
-  next-is = mod-eq-of-lt (lt-of-lt-of-le next-lt (pow-mono le-lit))
+  pub shift-is : (m * 2 ^ (z + d)) % 2 ^ 64 ≡ m * 2 ^ (z + d)
+  shift-is = mod-eq-of-lt (lt-of-lt-of-le (shift-in .1) (pow-mono le-lit))
     where
       le-lit : 54 ≤ 64
       le-lit = omega arith
 
-  pub next-in : (2 ^ 52 ≤ (m * 2 ^ (z + 1)) % 2 ^ 64) × ((m * 2 ^ (z + 1)) % 2 ^ 64 < 2 ^ 54)
-  next-in = subst (λ (n : ℕ). (2 ^ 52 ≤ n) × (n < 2 ^ 54)) (sym next-is) (subst (λ (n : ℕ). 2 ^ 52 ≤ n) (sym next-shift) (grow (m * 2 ^ z) (N .low)), next-lt)
-    where
-      grow : (n : ℕ) → 2 ^ 52 ≤ n → 2 ^ 52 ≤ n * 2
-      grow n h = omega arith
+  pub shift-within : (2 ^ 52 ≤ (m * 2 ^ (z + d)) % 2 ^ 64) × ((m * 2 ^ (z + d)) % 2 ^ 64 < 2 ^ 54)
+  shift-within = subst (λ (n : ℕ). (2 ^ 52 ≤ n) × (n < 2 ^ 54)) (sym shift-is) shift-in
 
 -- ---- what is shifted, with the halved exponent
 pub rescaled : (m s h q : ℕ) → s + 2 * h ≡ q + 54 → m * 2 ^ s * 4 ^ (h + 36) ≡ m * 2 ^ (q + 126)
@@ -97,6 +90,9 @@ even-sum z q h e = omega arith
 
 pub odd-sum : (z q : ℕ) → z ≤ 52 → ((q + 54 - z) % 2 ≡ 0 → ⊥) → z + 1 + 2 * ((q + 54 - z) / 2) ≡ q + 54
 odd-sum z q h e = omega arith
+
+pub all-sum : (z q : ℕ) → z ≤ 52 → z + (q + 54 - z) % 2 + 2 * ((q + 54 - z) / 2) ≡ q + 54
+all-sum z q h = omega arith
 
 pub half-le : (z q : ℕ) → q < 2046 → (q + 54 - z) / 2 ≤ 1049
 half-le z q h = omega arith

@@ -1,18 +1,28 @@
--- What the private functions say of themselves: the steps of the root's loop, and two small shapes. No public contract cites this file, so nobody has to believe it.
+-- What the private functions say of themselves: the root's table and its digits, and two small shapes. No public contract cites this file, so nobody has to believe it.
 use mathlib.Core.Path.{_≡_}
-use Prim.Native.Nat.{ℕ, _+_, _*_, _^_, _≤_, _<_}
+use Prim.Native.Nat.{ℕ, _+_, _-_, _*_, _^_, _≤_, _<_}
 use mathlib.Core.Bool.{false, cond}
+use mathlib.Core.List.{List}
+use lib.ListN.{getD}
 use lib.IntN.{pos, negsuc}
 use lib.Ieee.{Float, fin, binary64, neg, add, lt, eq}
 
--- The root's loop after i turns: r is the whole root of the 2 * i leading digits of v * 2 ^ 54, rem what is left of them, and rest holds v's digits to come,
--- moved up as far as they go.
-pub record Digits (v r rem rest i : ℕ) : Type 0 where
-  pub sum : (r * r + rem) * 2 ^ 54 + rest ≡ v * 4 ^ i
-  pub left : rem ≤ 2 * r
-  pub room : rest < 2 ^ 54
-  pub small : r < 2 ^ i
-  pub turns : i ≤ 54
+-- The whole root of n is r or one of the next k - 1 numbers; with k = 1 it is r.
+pub record Within (n r k : ℕ) : Type 0 where
+  pub low : r * r ≤ n
+  pub high : n < (r + k) * (r + k)
+
+-- The rule of the table of starting roots: for m from 256 to 1,023 the entry e at m - 256 has e ^ 2 ≤ 65,536 m < (e + 1) ^ 2.
+pub record Ruled (es : List ℕ) : Type 0 where
+  pub at : (m : ℕ) → 256 ≤ m → m < 1024 → Within (65536 * m) (getD es (m - 256) 0) 1
+
+-- The digits found of the whole root of v * 2 ^ 54, down to the place p: they are `root`, s is twice as much, and y is what is left, in units of p. The next
+-- digit has half the place.
+pub record Digits (v s y p : ℕ) : Type 0 where
+  pub root : ℕ
+  pub twice : s ≡ 2 * root
+  pub sum : p * y + root * root ≡ v * 2 ^ 54
+  pub left : y < s + p
   pub short : v < 2 ^ 54
 
 -- r with x's sign, for an r that is not negative, and x itself where x is a zero

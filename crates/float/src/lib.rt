@@ -1,13 +1,15 @@
 // What Rust's library gives on an `f64`, and IEEE 754's square root. Each contract is one equation with a definition of specs/Def.antt.
 ghost use mathlib.Core.Path.{_≡_};
-ghost use Prim.Native.Nat.{_+_, _*_, _^_, _≤_, _<_};
+ghost use Prim.Native.Nat.{_+_, _*_, _/_, _^_, _≤_, _<_};
 ghost use lib.Dec.{T};
 ghost use lib.Ieee.Positive.{positive};
 ghost use mathlib.Core.Bool.{true, false, cond};
 ghost use lib.IntN.{pos};
 ghost use lib.Ieee.{fin, inf, lt, binary64, toUnsigned, toSigned, ofBits, toBits};
 ghost use Rattle.float.specs.Def.{absOf, negative, maxOf, minOf, clampOf, remEuclidOf, truncOf, floorOf, roundOf, wholeRoot, rootScaled, rootOf};
-ghost use Rattle.float.specs.Steps.{signOf, halfUp, Digits};
+ghost use Rattle.float.specs.Steps.{signOf, halfUp, Within, Digits};
+
+mod roots;
 
 pub fn abs(x: f64) -> f64
     ensures { λ r. ⌜ r ≡ absOf x ⌝ }
@@ -158,36 +160,87 @@ pub fn to_i64(x: f64) -> i64
     }
 }
 
-// The rest of the digits of the whole root of v * 2^54, one binary digit a turn and two digits of v
-// a turn: (r * r + rem) * 2^54 + rest is v * 4^i.
-fn more_digits(v: u64, r0: u64, rem0: u64, rest0: u64, i0: u64) -> u64
-    requires { ⌜ Digits v r0 rem0 rest0 i0 ⌝ }
+// One of two numbers, without a branch.
+fn choose(test: bool, a: u64, b: u64) -> u64
+    ensures { λ r. ⌜ r ≡ cond test a b ⌝ }
+{
+    if test { a } else { b }
+}
+
+// r, raised by k where the square still is no more than w.
+fn raised(r: u64, k: u64, w: u64) -> u64
+    requires { ⌜ (Within w r (2 * k)) × (k ≤ 8) × (w < 2 ^ 26) ⌝ }
+    ensures { λ s. ⌜ Within w s k ⌝ }
+{
+    let next = r + k;
+    choose(w < next * next, r, next)
+}
+
+// The whole root of v's 26 leading digits. The table's entry knows the first ten of them; it is at
+// most 8 too small.
+fn leading_root(v: u64) -> u64
+    requires { ⌜ (2 ^ 52 ≤ v) × (v < 2 ^ 54) ⌝ }
+    ensures { λ r. ⌜ Within (v / 2 ^ 28) r 1 ⌝ }
+{
+    let w = v / 268435456;
+    let e = roots::entry(w / 65536);
+    let a = raised(e, 8, w);
+    let b = raised(a, 4, w);
+    let c = raised(b, 2, w);
+    raised(c, 1, w)
+}
+
+// Twice the digits found of a root, at their places, and what is left.
+struct Found {
+    s: u64,
+    y: u64,
+}
+
+// One digit more, at the place b: it is 1 where the trial is no more than what is left.
+fn digit(v: u64, s: u64, y: u64, b: u64) -> Found
+    requires { ⌜ (Digits v s y (2 * b)) × (b ≤ 2 ^ 40) ⌝ }
+    ensures { λ r. ⌜ Digits v (r .s) (r .y) b ⌝ }
+{
+    let left = y * 2;
+    let trial = s + b;
+    let none = left < trial;
+    Found {
+        s: choose(none, s, trial + b),
+        y: left - choose(none, 0, trial),
+    }
+}
+
+// The rest of the digits of the whole root of v * 2^54, from 13 on: one, then two a turn.
+fn more_digits(v: u64, s0: u64, y0: u64) -> u64
+    requires { ⌜ Digits v s0 y0 (2 ^ 41) ⌝ }
     ensures { λ r. ⌜ r ≡ wholeRoot 54 (v * 2 ^ 54) ⌝ }
 {
-    let mut r: u64 = r0;
-    let mut rem: u64 = rem0;
-    let mut rest: u64 = rest0;
-    let mut i: u64 = i0;
-    while i < 54 {
-        rem = rem * 4 + rest / 4503599627370496;
-        rest = rest % 4503599627370496 * 4;
-        let trial = r * 4 + 1;
-        r = r * 2;
-        if trial <= rem {
-            rem = rem - trial;
-            r = r + 1;
-        }
-        i += 1;
+    let first = digit(v, s0, y0, 1099511627776);
+    let mut s = first.s;
+    let mut y = first.y;
+    let mut b: u64 = 549755813888;
+    while 0 < b {
+        let one = digit(v, s, y, b);
+        let two = digit(v, one.s, one.y, b / 2);
+        s = two.s;
+        y = two.y;
+        b = b / 4;
     }
-    r
+    s / 2
 }
 
 // The whole root of v * 2^54.
 fn root_digits(v: u64) -> u64
-    requires { ⌜ v < 2 ^ 54 ⌝ }
+    requires { ⌜ (2 ^ 52 ≤ v) × (v < 2 ^ 54) ⌝ }
     ensures { λ r. ⌜ r ≡ wholeRoot 54 (v * 2 ^ 54) ⌝ }
 {
-    more_digits(v, 0, 0, v, 0)
+    let r = leading_root(v);
+    let over = v / 268435456 - r * r;
+    more_digits(
+        v,
+        r * 4398046511104,
+        over * 2199023255552 + v % 268435456 * 8192,
+    )
 }
 
 // The root of v * 4^(h + 36) / 4^600. A root's 54th digit says which way to round, for no root is a
@@ -208,11 +261,7 @@ fn root_scaled(m: u64, q: u64) -> f64
 {
     let z = (u64::leading_zeros(m) - 11) as u64;
     let p = q + 54 - z;
-    if p % 2 == 0 {
-        root_even(m << z, p / 2)
-    } else {
-        root_even(m << (z + 1), p / 2)
-    }
+    root_even(m << (z + p % 2), p / 2)
 }
 
 // The root of a finite number above zero, by its bits: digits * 2^(field - 1075), and without the
@@ -224,11 +273,8 @@ fn root_finite(x: f64) -> f64
     let bits = f64::to_bits(x);
     let field = bits / 4503599627370496 % 2048;
     let digits = bits % 4503599627370496;
-    if field == 0 {
-        root_scaled(digits, 0)
-    } else {
-        root_scaled(digits + 4503599627370496, field - 1)
-    }
+    let lead = choose(field == 0, 0, 1);
+    root_scaled(digits + lead * 4503599627370496, field - lead)
 }
 
 // IEEE 754's squareRoot.

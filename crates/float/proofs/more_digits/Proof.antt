@@ -1,60 +1,43 @@
--- `float::more_digits` meets its contract. The loop's invariant is `Digits` of `proofs/Sqrt.antt`, and a turn is `turn-one` or `turn-zero` there. Assumes nothing.
-use Prim.Native.Nat.{_-_}
+-- `float::more_digits` meets its contract. The loop's invariant is `Turn` of `proofs/WholeRoots.antt`: what is found, down to a place that is a power of 4. Assumes nothing.
+use Rattle.float.proofs.WholeRoots.{Turn, first-turn, in-turn, half-turn, next-turn, end-turn}
 use native.Mathlib.Omega.{arith}
-use mathlib.Core.Logic.{⊎-elim}
-use Rattle.float.specs.Steps.{Digits}
-use Rattle.float.proofs.WholeRoots.{r-lt, digit-le, turn-one, turn-zero, moved, finish}
 use Rattle.float.proofs.more_digits.Statement.{statement}
 use Rattle.float.proofs.more_digits.Tie as tie
 
 abbrev Inv-loop : tie.InvT-loop
-Inv-loop v r0 rem0 rest0 i0 r₀ rem₀ rest₀ i₀ r rem rest i = Digits v r rem rest i
+Inv-loop v s0 y0 s₀ y₀ b₀ s y b = Turn v s y b
 
 abbrev μ-loop : tie.MeasureT-loop
-μ-loop v r0 rem0 rest0 i0 r₀ rem₀ rest₀ i₀ r rem rest i = 54 - i
+μ-loop v s0 y0 s₀ y₀ b₀ s y b = b
+
+digit-requires : tie.Need-digit-requires Inv-loop μ-loop
+digit-requires c κs = (c .pre, omega arith)
 
 loop-holds : tie.Need-loop-holds Inv-loop μ-loop
-loop-holds c = c .pre
+loop-holds c = first-turn _ _ _ (c .digit .ensures)
 
-mul-rem : tie.Need-mul-rem Inv-loop μ-loop
-mul-rem c = omega (arith, r-lt _ _ (c .before .loop .inv .small) (c .loop-test .taken))
+digit-requires-2 : tie.Need-digit-requires-2 Inv-loop μ-loop
+digit-requires-2 c κs = (in-turn _ _ _ _ (c .before .loop .inv) (c .loop-test .taken), omega (arith, c .before .loop .inv .few))
 
-add-rem : tie.Need-add-rem Inv-loop μ-loop
-add-rem c = omega (arith, r-lt _ _ (c .before .loop .inv .small) (c .loop-test .taken), digit-le _ _ _ _ _ (c .before .loop .inv) (c .loop-test .taken))
-
-mul-rest : tie.Need-mul-rest Inv-loop μ-loop
-mul-rest c = omega arith
-
-mul-trial : tie.Need-mul-trial Inv-loop μ-loop
-mul-trial c = omega (arith, r-lt _ _ (c .before .loop .inv .small) (c .loop-test .taken))
-
-add-trial : tie.Need-add-trial Inv-loop μ-loop
-add-trial c = omega (arith, r-lt _ _ (c .before .loop .inv .small) (c .loop-test .taken))
-
-mul-r : tie.Need-mul-r Inv-loop μ-loop
-mul-r c = omega (arith, r-lt _ _ (c .before .loop .inv .small) (c .loop-test .taken))
-
-add-r : tie.Need-add-r Inv-loop μ-loop
-add-r c = omega (arith, r-lt _ _ (c .before .before .loop .inv .small) (c .before .loop-test .taken))
-
-add-i : tie.Need-add-i Inv-loop μ-loop
-add-i c = omega arith
-
-loop-less : tie.Need-loop-less Inv-loop μ-loop
-loop-less c = omega arith
+digit-requires-3 : tie.Need-digit-requires-3 Inv-loop μ-loop
+digit-requires-3 c κs = (half-turn _ _ _ _ (c .before .before .loop .inv) (c .before .loop-test .taken) _ _ (c .digit2 .ensures), omega (arith, c .before .before .loop .inv .few))
 
 loop-again : tie.Need-loop-again Inv-loop μ-loop
-loop-again c =
-    let at-loop = c .before .before in
-    ⊎-elim
-    (λ w. moved _ _ _ _ _ _ _ (w .1) (w .2) (turn-one _ _ _ _ _ (at-loop .loop .inv) (c .before .loop-test .taken) (w .0 .taken)))
-    (λ w. moved _ _ _ _ _ _ _ (w .1) (w .2) (turn-zero _ _ _ _ _ (at-loop .loop .inv) (c .before .loop-test .taken) (w .0 .left)))
-    (c .if1 .came)
+loop-again c = next-turn _ _ _ _ (c .before .before .before .loop .inv) (c .before .before .loop-test .taken) _ _ (c .digit3 .ensures)
 
 returns : tie.Need-returns Inv-loop μ-loop
-returns c = finish _ _ _ _ _ (c .before .loop .inv) (c .loop-test .left)
+returns c = end-turn _ _ _ _ (c .before .loop .inv) (c .loop-test .left)
 
 pub more-digits-spec : {M : Type 1} → statement M
 more-digits-spec =
     tie.close
-    (tie.spec Inv-loop μ-loop loop-holds mul-rem add-rem mul-rest mul-trial add-trial mul-r add-r add-i loop-less loop-again returns)
+    (tie.spec
+    Inv-loop
+    μ-loop
+    digit-requires
+    loop-holds
+    digit-requires-2
+    digit-requires-3
+    (λ c. omega arith)
+    loop-again
+    returns)

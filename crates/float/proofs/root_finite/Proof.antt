@@ -1,12 +1,10 @@
 -- `float::root_finite` meets its contract by the fields of x's bits, in `proofs/Finite.antt`. Assumes nothing.
 use Rattle.float.proofs.Branches.{yes}
-use Rattle.float.proofs.Finite.{positive-no-nan, low-pos, low-root, field-lt, high-root, bits}
+use Rattle.float.proofs.Finite.{positive-no-nan, lead-of, lead-le, lead-in, lead-root, bits, fieldOf}
 use borrow.Author.Needs.{needs}
 use lib.Dec.{T}
 use lib.Ieee.{fits, binary64}
-use lib.Pow.{pow-pos}
 use mathlib.Core.Path.{_∙_}
-use native.Mathlib.Nat.{mod-lt}
 use native.Mathlib.Omega.{arith}
 use Rattle.float.proofs.root_finite.Statement.{statement}
 use Rattle.float.proofs.root_finite.Tie as tie
@@ -17,26 +15,29 @@ held c = yes (c .good .0 .1)
 float-to-bits-bits : tie.Need-float-to-bits-bits
 float-to-bits-bits c = positive-no-nan _ (c .pre)
 
-root-scaled-requires : tie.Need-root-scaled-requires
-root-scaled-requires c κs = (low-pos _ (c .before .pre) (held (c .before)) (c .if1 .taken), omega (arith, mod-lt (bits _ (c .before .pre) (held (c .before))) (pow-pos 52)), omega arith)
+mul-root-scaled : tie.Need-mul-root-scaled
+mul-root-scaled c = omega (arith, lead-le _ _ (lead-of (fieldOf (bits _ (c .before .pre) (held (c .before)))) _ (c .choose .ensures)) .0)
 
-root-scaled-requires-2 : tie.Need-root-scaled-requires-2
-root-scaled-requires-2 c κs = (omega arith, omega (arith, mod-lt (bits _ (c .before .pre) (held (c .before))) (pow-pos 52)), omega (arith, field-lt _ (c .before .pre) (held (c .before))))
+add-root-scaled : tie.Need-add-root-scaled
+add-root-scaled c = omega (arith, lead-le _ _ (lead-of (fieldOf (bits _ (c .before .pre) (held (c .before)))) _ (c .choose .ensures)) .0)
+
+sub-root-scaled : tie.Need-sub-root-scaled
+sub-root-scaled c = lead-le _ _ (lead-of _ _ (c .choose .ensures)) .1
+
+root-scaled-requires : tie.Need-root-scaled-requires
+root-scaled-requires c κs = lead-in _ (c .before .pre) (held (c .before)) _ (lead-of _ _ (c .choose .ensures))
 
 returns : tie.Need-returns
-returns c = c .root-scaled .ensures ∙ low-root _ (c .before .before .pre) (held (c .before .before)) (c .before .if1 .taken)
-
-returns-2 : tie.Need-returns-2
-returns-2 c = c .root-scaled2 .ensures ∙ high-root _ (c .before .before .pre) (held (c .before .before)) (c .before .if1 .left)
+returns c = c .root-scaled .ensures ∙ lead-root _ (c .before .before .pre) (held (c .before .before)) _ (lead-of _ _ (c .before .choose .ensures))
 
 pub root-finite-spec : {M : Type 1} → statement M
 root-finite-spec =
     tie.close
     (tie.spec
     float-to-bits-bits
+    (λ c κs. search needs)
+    mul-root-scaled
+    add-root-scaled
+    sub-root-scaled
     root-scaled-requires
-    (λ c. search needs)
-    (λ c. search needs)
-    root-scaled-requires-2
-    returns
-    returns-2)
+    returns)
