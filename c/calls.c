@@ -134,6 +134,13 @@ static void whole_numbers(void)
     EXPECT(tyn_squared_distance(frame, (tyn_spot){0, 0, 0}, (tyn_spot){0, 0, 9}).value == 1);
     frame.pz = 0;
     EXPECT(tyn_squared_distance(frame, (tyn_spot){0, 0, 0}, (tyn_spot){0, 0, 9}).value == 81);
+    /* twice the radius may equal a periodic edge but not pass it */
+    frame.radius = 5;
+    EXPECT(tyn_squared_distance(frame, (tyn_spot){0, 0, 0}, (tyn_spot){5, 0, 0}).value == 25);
+    frame.radius = 6;
+    EXPECT(tyn_squared_distance(frame, (tyn_spot){0, 0, 0}, (tyn_spot){5, 0, 0}).done.number == 3);
+    frame.px = frame.py = 0;
+    EXPECT(tyn_squared_distance(frame, (tyn_spot){0, 0, 0}, (tyn_spot){5, 0, 0}).done.number == 0);
     tyn_whole length = tyn_solve((const uint8_t *)sheet, strlen(sheet), out, sizeof out);
     EXPECT(length.done.number == 0 && length.value == strlen(answer) && memcmp(out, answer, strlen(answer)) == 0);
 }

@@ -198,7 +198,7 @@ typedef struct {
     size_t length;
 } tyn_part;
 
-/* A whole-number frame: its edges, which axes are periodic (flags), and the radius. */
+/* A whole-number frame: its edges, which axes are periodic (flags), and the radius, at most half of each periodic edge. */
 typedef struct {
     uint32_t ex;
     uint32_t ey;

@@ -84,3 +84,10 @@ print(*[2,16385]*3,digest(halves([0.5]*49155)))
 # ---- the other calls that take atoms, one more than the most: zeros, merge, add_pair_force, pressure_tensor (velocities 0.25), lj_pairs, coulomb_pairs,
 # bonds_all, lj_all, coulomb_all, evaluate. Each is refused, and the forces, 0.5, stay
 for lent in [0.5]*3+[0.25]+[0.5]*6: print(2,16385,digest(halves([lent]*49155)))
+
+# ---- the whole-number frame past half its edge (02, No. 3): twice the radius is above a periodic edge. The atoms are counted first; nothing lent changes
+def past_half(n,edge=320,radius=161):
+    assert 2*radius>edge
+    print(*([2,n] if n>16384 else [3,0]),digest([M]*4),digest([M]*9),digest([M]*16390))
+past_half(16384)
+past_half(16385)

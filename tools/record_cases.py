@@ -1,5 +1,5 @@
 #!/usr/bin/env python3
-"""record_cases.py cell|virial|exclusions|neighbor|frame|potentials|verlet|step: hand-made edges of the calls 10 to 1a, 20 to 27, 30 to 37, 40 and 41, 50 to 54, and 60 to 64 for the fixed list of
+"""record_cases.py cell|virial|exclusions|neighbor|frame|half|potentials|verlet|step: hand-made edges of the calls 10 to 1a, 20 to 27, 30 to 37, 40 and 41, 50 to 54, and 60 to 64 for the fixed list of
 the program replay (crates/replay/stdin). The answers come from a judge, not from here."""
 import struct
 import sys
@@ -353,6 +353,75 @@ def distances():
 
 def frame():
     for group in (frame_shapes, frame_rooms, frame_limits, frame_refusals, frame_no_cases, distances):
+        yield from group()
+
+
+# ---- half the box (02, No. 3): twice the radius one below a periodic edge, at it, one above; the other edges are wide
+def half_axes():
+    for mask in range(8):
+        for k in range(3):
+            for edge, radius in ((11, 5), (10, 5), (9, 5)):
+                edges = [edge if i == k else 20 for i in range(3)]
+                # one pair at half the edge on this axis, a second at a place of its own, and one far off
+                atoms = [[0, 0, 0], [edge // 2 if i == k else 0 for i in range(3)], [edge - 1 if i == k else 10 for i in range(3)], [edge - 1 if i == k else 0 for i in range(3)]]
+                yield build(edges, mask, radius, atoms, 12, 40)
+                yield case('41', edges, MASKS[mask], radius, atoms[0], atoms[1])
+                yield case('41', edges, MASKS[mask], radius + 4, atoms[0], atoms[3])
+
+
+# the least and the largest; twice a radius that no u32 holds; three edges at once
+def half_ends():
+    two = [[0, 0, 0], [0, 0, 0]]
+    for mask in (0, 1, 2, 4, 7):
+        for edge, radii in ((1, (0, 1)), (2, (1, 2)), (3, (1, 2)), (MOST - 1, (MOST // 2 - 1, MOST // 2)), (MOST, (MOST // 2, MOST // 2 + 1, MOST)),
+                            (10, (0x7fffffff, 0x80000000, 0x80000001, 0xffffffff))):
+            for radius in radii:
+                yield build([edge] * 3, mask, radius, two, 4, 0)
+                yield case('41', [edge] * 3, MASKS[mask], radius, [0, 0, 0], [edge - 1] * 3)
+    for mask in range(8):
+        yield build([12, 14, 16], mask, 7, [[0, 0, 0], [6, 7, 8], [11, 13, 15]], 6, 9)
+
+
+# open axes keep any radius to 2^20: they fall back, or lay a grid over one that is periodic and long
+def half_open():
+    for k in range(3):
+        short = [5 if i == k else 24 for i in range(3)]
+        mask = 7 & ~(1 << k)
+        for radius in (4, 5, 8, 12, 13):
+            yield build(short, mask, radius, scattered(7, short, radius), 42, 40)
+    for radius in (10, 100, MOST - 1, MOST, MOST + 1):
+        yield build([10, 10, 10], 0, radius, CLUSTER, 12, 9)
+        yield build([3, 7, MOST], 0, radius, [[0, 0, 0], [2, 6, MOST - 1], [1, 1, 12]], 12, 9)
+
+
+# no atoms and one; room too short for what is never stored
+def half_few():
+    for radius in (5, 6):
+        for n in (0, 1, 2):
+            for mask in (0, 1, 6, 7):
+                yield build([10, 10, 10], mask, radius, CLUSTER[:n], 0, 0)
+
+
+# 3 with what is tested before it (1) and after it (5, 7, 8), and with the other ranges
+def half_refusals():
+    bad = dict(edges=[10, 20, 20], mask=1, radius=6, atoms=CLUSTER, pairs=20, starts=40, items=4, table_=[0, 1])
+    others = [dict(), dict(table_=[0]), dict(items=3), dict(table_=[1, 0]), dict(table_=[2, 2]), dict(starts=0), dict(starts=27), dict(pairs=0), dict(pairs=2),
+              dict(edges=[10, 0, 20]), dict(edges=[10, 20, MOST + 1]), dict(atoms=CLUSTER[:3] + [[10, 9, 9]]), dict(table_=[1, 0], starts=0, pairs=0)]
+    for other in others:
+        for radius in (5, 6):
+            yield build(**{**bad, **other, 'radius': radius})
+            yield build(**{**bad, **other, 'radius': radius, 'mask': 0})
+    # half an atom comes before it
+    for radius in (5, 6):
+        yield case('40', [10, 10, 10], MASKS[7], radius, table([1] * 4), table([]), table([7] * 4), table([8] * 28), table([9] * 3))
+    # a coordinate out of range besides, in either atom
+    for radius in (5, 6):
+        for a, b in (([9, 9, 9], [10, 0, 0]), ([0, 10, 0], [9, 9, 9]), ([9, 9, 9], [9, 9, 9])):
+            yield case('41', [10, 10, 10], MASKS[7], radius, a, b)
+
+
+def half():
+    for group in (half_axes, half_ends, half_open, half_few, half_refusals):
         yield from group()
 
 
@@ -1015,7 +1084,7 @@ def step():
 
 
 if __name__ == '__main__':
-    groups = {'cell': cell, 'virial': virial, 'exclusions': exclusions, 'neighbor': neighbor, 'frame': frame, 'potentials': potentials, 'verlet': verlet,
+    groups = {'cell': cell, 'virial': virial, 'exclusions': exclusions, 'neighbor': neighbor, 'frame': frame, 'half': half, 'potentials': potentials, 'verlet': verlet,
               'step': step}
     for line in groups[sys.argv[1]]():
         print(line)

@@ -110,6 +110,9 @@ def solve(data):
         top = 2 ** 20
         if not all(1 <= e <= top for e in edges) or radius > top or any(x >= e for p in places for x, e in zip(p, edges)):
             raise Refused(3)
+        # 02, No. 3
+        if any(p and 2 * radius > e for e, p in zip(edges, periodic)):
+            raise Refused(3)
         if count < 2:
             return b"81%08x%08x00\n" % (0, 0)
         pairs, fallback = candidates(count, edges, periodic, radius, places)
@@ -234,6 +237,22 @@ def table():
         out.append(join(lines + [exclusion(a, b) for a, b in pairs[:max(0, min(1024, len(pairs) - 8192 - (1 if spare == 63 else 0)))]]))
     # as long as a sheet may be
     out.append(sized(65536))
+    # 02, No. 3: twice the radius one below a periodic edge, at it, one above, on each axis; open axes fall back by any radius, and so does equality
+    for mask in range(8):
+        for edges in ((11, 40, 40), (10, 40, 40), (9, 40, 40), (40, 10, 40), (40, 9, 40), (40, 40, 10), (40, 40, 9)):
+            out.append(join([header(2, edges, mask, 5)] + two))
+    half = [atom(0, (0, 0, 0)), atom(1, (5, 0, 0)), atom(2, (5, 5, 5)), atom(3, (9, 9, 9))]
+    for radius in (4, 5, 6, 10, 2 ** 19, 2 ** 20, 2 ** 20 + 1, 2 ** 31, 2 ** 31 + 1, 0xffffffff):
+        for mask in (0, 7):
+            out.append(join(shuffled(rng, [header(4, radius=radius, mask=mask), exclusion(0, 2)] + half)))
+    for radius in (2 ** 19, 2 ** 19 + 1):
+        out.append(join([header(2, (2 ** 20,) * 3, 7, radius), atom(0, (0, 0, 0)), atom(1, (2 ** 19, 0, 0))]))
+    for count in (0, 1):
+        for radius in (5, 6):
+            for mask in (0, 7):
+                out.append(join([header(count, radius=radius, mask=mask)] + two[:count]))
+    # the absent atom comes before it; a stray one too
+    out += [join([header(3, radius=6)] + two), join([header(1, radius=6)] + two), join([header(2, radius=6), two[0], atom(1, (10, 0, 0))])]
     return out
 
 

@@ -8,13 +8,13 @@ use Rattle.bins.specs.Edge.{binsOn, binOn, gap, distance, axisOn}
 use Rattle.bins.specs.Stencil.{flatten, cells, sameCell, touching, halfStencil, offset, joined, reached}
 use Rattle.bins.specs.Traversal.{bin, met, visit, cellPairs, pairsOf}
 use Rattle.exclusions.specs.Table.{isTable, isRow}
-use Rattle.frame.specs.Distance.{spotOf, squaredOf, nearOf, edgeOk, frameOk, spotOk}
+use Rattle.frame.specs.Distance.{spotOf, squaredOf, nearOf, edgeOk, sideOk, frameOk, spotOk}
 use Rattle.frame.specs.Laying.{gridOf, cellOf, narrow, plainOf, crowded}
 use Rattle.frame.specs.Build.{sceneOf, candidates, nearPairs, beside, checksOf, lengthsBad, rangesOk, shownOf, runOf, afterOf, buildOf, frameAsked}
 use Rattle.cases.specs.Marked.{Marked}
 
 pub marked : Marked
-unfolding roundOf rootOf ofBits round numbers each keep howMany every some ordered withEach inside across rows follows touch stepped remEuclid within binsOn binOn gap distance axisOn flatten cells sameCell touching halfStencil offset joined reached bin met visit cellPairs pairsOf isTable isRow spotOf squaredOf nearOf edgeOk frameOk spotOk gridOf cellOf narrow plainOf crowded sceneOf candidates nearPairs beside checksOf lengthsBad rangesOk frameAsked shownOf runOf afterOf buildOf
+unfolding roundOf rootOf ofBits round numbers each keep howMany every some ordered withEach inside across rows follows touch stepped remEuclid within binsOn binOn gap distance axisOn flatten cells sameCell touching halfStencil offset joined reached bin met visit cellPairs pairsOf isTable isRow spotOf squaredOf nearOf edgeOk sideOk frameOk spotOk gridOf cellOf narrow plainOf crowded sceneOf candidates nearPairs beside checksOf lengthsBad rangesOk frameAsked shownOf runOf afterOf buildOf
 marked =
     record {
       round-half = refl;
@@ -29,5 +29,9 @@ marked =
       three-bins = refl;
       three-lays = refl;
       four-falls-back = refl;
+      five-accepted = refl;
+      six-refused = refl;
+      six-refused-empty = refl;
+      six-open = refl;
       ten-refused = refl;
     }

@@ -6,7 +6,7 @@ use lib.Ieee.{nan, fin}
 use Rattle.float.specs.Arith.{bits}
 use Rattle.float.specs.Def.{roundOf, rootOf}
 use Prim.Native.Nat.{ℕ}
-use mathlib.Core.List.{[], _∷_}
+use mathlib.Core.List.{List, [], _∷_}
 use lib.ListN.{replicate}
 use Rattle.answer.specs.Seen.{answered, refused}
 use Rattle.frame.specs.declared.Side.{Side}
@@ -15,24 +15,35 @@ use Rattle.frame.specs.Distance.{along}
 use Rattle.frame.specs.Laying.{gridOf}
 use Rattle.frame.specs.Build.{Given, buildOf}
 
--- a periodic axis of edge 10, and a frame of three of them
+-- a periodic axis of edge 10 and an open one, and a frame of three of them
 abbrev pub ten : Side
 ten = record { edge = 10; round = true }
+
+abbrev pub openTen : Side
+openTen = record { edge = 10; round = false }
 
 abbrev pub tens : ℕ → Frame
 tens radius = record { x = ten; y = ten; z = ten; radius = radius }
 
--- a build of two atoms, one at the corner and one at x on the first axis, with room for two pairs and for the starts of 27 cells
+-- the same with open axes
+abbrev pub openTens : ℕ → Frame
+openTens radius = record { x = openTen; y = openTen; z = openTen; radius = radius }
+
+-- a build with room for two pairs and for the starts of 27 cells
+abbrev pub buildAt : Frame → List ℕ → Given
+buildAt f coordinates =
+    record { frame = f; coordinates = coordinates; exclusions = []; pairs = replicate 4 7; starts = replicate 28 7; items = replicate 2 7 }
+
+-- of two atoms, one at the corner and one at x on the first axis
 abbrev pub pairAt : ℕ → ℕ → Given
-pairAt radius x =
-    record {
-      frame = tens radius;
-      coordinates = 0 ∷ 0 ∷ 0 ∷ x ∷ 0 ∷ 0 ∷ [];
-      exclusions = [];
-      pairs = replicate 4 7;
-      starts = replicate 28 7;
-      items = replicate 2 7;
-    }
+pairAt radius x = buildAt (tens radius) (0 ∷ 0 ∷ 0 ∷ x ∷ 0 ∷ 0 ∷ [])
+
+abbrev pub pairOpen : ℕ → ℕ → Given
+pairOpen radius x = buildAt (openTens radius) (0 ∷ 0 ∷ 0 ∷ x ∷ 0 ∷ 0 ∷ [])
+
+-- and of none
+abbrev pub emptyAt : ℕ → Given
+emptyAt radius = buildAt (tens radius) []
 
 pub record Marked : Type 0 where
   -- `round` 0.5 → 1; -0.5 → -1; 2.5 → 3; 0.49999999999999994 → 0
@@ -50,5 +61,10 @@ pub record Marked : Type 0 where
   pub three-bins : gridOf (tens 3) .x .size ≡ 3
   pub three-lays : buildOf (pairAt 3 9) .answer ≡ answered (record { pairs = 1; checks = 1; fallback = false })
   pub four-falls-back : buildOf (pairAt 4 9) .answer ≡ answered (record { pairs = 1; checks = 1; fallback = true })
+  -- 02, No. 3: radius 5, whose double is the edge, is accepted; radius 6 is refused 3, and so with no atoms; on open axes it falls back
+  pub five-accepted : buildOf (pairAt 5 5) .answer ≡ answered (record { pairs = 1; checks = 1; fallback = true })
+  pub six-refused : buildOf (pairAt 6 9) .answer ≡ refused 3 0
+  pub six-refused-empty : buildOf (emptyAt 6) .answer ≡ refused 3 0
+  pub six-open : buildOf (pairOpen 6 9) .answer ≡ answered (record { pairs = 0; checks = 1; fallback = true })
   -- coordinate 9 of edge 10 accepted (above), 10 refused 3
   pub ten-refused : buildOf (pairAt 3 10) .answer ≡ refused 3 0

@@ -98,7 +98,7 @@ pub struct FlatPace {
     pub thermostat: FlatThermostat,
 }
 
-// A whole-number frame: its edges, which axes are periodic (flags), and the radius.
+// A whole-number frame: its edges, which axes are periodic (flags), and the radius, at most half of each periodic edge.
 #[repr(C)]
 pub struct FlatFrame {
     pub ex: u32,

@@ -5,4 +5,5 @@ pub mod Tables
 pub mod Builds
 pub mod Nearby
 pub mod Outcomes
+pub mod Images
 pub mod Only

@@ -26,7 +26,7 @@ use Rattle.frame.specs.Steps.{Inside, Framed}
 use Rattle.frame.proofs.Tables.{placed}
 use Rattle.frame.proofs.Builds.{good-grid}
 
-root-le : (a r : ℕ) → squareOf a ≤ squareOf r → a ≤ r
+pub root-le : (a r : ℕ) → squareOf a ≤ squareOf r → a ≤ r
 root-le a r h =
     ⊎-elim
     (λ (l : r < a).

@@ -21,11 +21,12 @@ use Rattle.bins.proofs.Laid.{laid-rows, laid-length}
 use Rattle.exclusions.specs.Table.{isTable}
 use Rattle.frame.specs.declared.Frame.{Frame}
 use Rattle.frame.specs.declared.Built.{Built}
+use Rattle.frame.specs.Distance.{frameOk}
 use Rattle.frame.specs.Laying.{plainOf, crowded}
 use Rattle.frame.specs.Build.{Given, Counts, Outcome, stays, sceneOf, nearPairs, checksOf, lengthsBad, rangesOk, shownOf, runOf, startsLaid, itemsLaid, afterOf, buildOf, BuildSays, frameAsked}
 use Rattle.frame.specs.Listed.{Listed, BuildLists}
 use Rattle.frame.specs.Steps.{Framed}
-use Rattle.frame.proofs.Ranges.{ranges-framed}
+use Rattle.frame.proofs.Ranges.{ranges-accepted, ranges-framed}
 use Rattle.frame.proofs.Nearby.{near-exactly}
 
 -- ---- what it shows that a build's tests have passed
@@ -58,6 +59,9 @@ module _ (f : Frame) (xs table : List ℕ) (items : ℕ) (h : frameAsked f xs ta
   short : ltb items (length xs / 3) ≡ false
   unfolding lengthsBad
   short = or-neither (not (eqb (length xs % 3) 0) || not (eqb (length table % 2) 0)) (ltb items (length xs / 3)) (one .0) .1
+
+  pub asked-accepted : frameOk f ≡ true
+  asked-accepted = ranges-accepted f xs (not-false (rangesOk f xs) (three .0))
 
   pub asked-passed : Fine f xs table items
   asked-passed =

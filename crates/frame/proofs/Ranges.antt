@@ -1,11 +1,11 @@
 -- What the tests of a frame and of its atoms show, and the answer of `squared_distance` by its cases. Assumes nothing.
-use Prim.Native.Nat.{ℕ, _+_, _-_, _/_, _≤_, _<_}
+use Prim.Native.Nat.{ℕ, _+_, _*_, _-_, _/_, _≤_, _<_}
 use native.Mathlib.Nat.{sub-zero, zero-add}
 use native.Mathlib.Omega.{arith}
 use mathlib.Core.List.{List}
 use lib.ListN.{length}
 use mathlib.Core.Path.{_≡_, refl, sym, _∙_}
-use mathlib.Core.Bool.{Bool, true, false, not, _&&_}
+use mathlib.Core.Bool.{Bool, true, false, not, _&&_, _||_}
 use lib.Dec.{ltb, leb}
 use borrow.Author.Tests.{ltb-true, lt-ltb, le-ltb, leb-true, not-true, not-false}
 use Rattle.answer.specs.Seen.{answered, refused}
@@ -13,9 +13,10 @@ use Rattle.lists.specs.Lists.{numbers, upTo, every, rows}
 use Rattle.lists.proofs.Cases.{and-both}
 use Rattle.lists.proofs.Exactness.{numbers-at, length-upTo}
 use Rattle.lists.proofs.Walks.{numbers-next, numbers-end, every-at}
+use Rattle.frame.specs.declared.Side.{Side}
 use Rattle.frame.specs.declared.Frame.{Frame}
 use Rattle.frame.specs.declared.Spot.{Spot}
-use Rattle.frame.specs.Distance.{spotOf, edgeOk, frameOk, spotOk, squaredOf, squaredSeen}
+use Rattle.frame.specs.Distance.{spotOf, edgeOk, sideOk, frameOk, spotOk, squaredOf, squaredSeen}
 use Rattle.frame.specs.Build.{lengthsBad, rangesOk, frameAsked}
 use Rattle.exclusions.specs.Table.{isTable}
 use Rattle.answer.specs.declared.Done.the-variants.{Answered, Refused}
@@ -26,23 +27,34 @@ edge-some : (e : ℕ) → edgeOk e ≡ true → (0 < e) × (e ≤ 1048576)
 unfolding edgeOk
 edge-some e h = let p = and-both (ltb 0 e) (leb e 1048576) h in (ltb-true 0 e (p .0), leb-true e 1048576 (p .1))
 
+-- a side in range: its edge is, and where it is periodic twice the radius is within it
+pub side-some : (e : Side) (radius : ℕ) → sideOk e radius ≡ true → (0 < e .edge) × (e .edge ≤ 1048576) × (e .round ≡ true → 2 * radius ≤ e .edge)
+unfolding sideOk
+side-some e radius h =
+    let p = and-both (edgeOk (e .edge)) (not (e .round) || leb (2 * radius) (e .edge)) h in
+    let q = edge-some (e .edge) (p .0) in
+    (q .0, q .1, λ t. leb-true (2 * radius) (e .edge) (rw t at (p .1)))
+
 module _ (f : Frame) (h : frameOk f ≡ true) where
-  three : (edgeOk (f .x .edge) && edgeOk (f .y .edge) && edgeOk (f .z .edge) ≡ true) × (leb (f .radius) 1048576 ≡ true)
+  three : (sideOk (f .x) (f .radius) && sideOk (f .y) (f .radius) && sideOk (f .z) (f .radius) ≡ true) × (leb (f .radius) 1048576 ≡ true)
   unfolding frameOk
-  three = and-both (edgeOk (f .x .edge) && edgeOk (f .y .edge) && edgeOk (f .z .edge)) (leb (f .radius) 1048576) h
+  three = and-both (sideOk (f .x) (f .radius) && sideOk (f .y) (f .radius) && sideOk (f .z) (f .radius)) (leb (f .radius) 1048576) h
 
-  two : (edgeOk (f .x .edge) && edgeOk (f .y .edge) ≡ true) × (edgeOk (f .z .edge) ≡ true)
-  two = and-both (edgeOk (f .x .edge) && edgeOk (f .y .edge)) (edgeOk (f .z .edge)) (three .0)
+  two : (sideOk (f .x) (f .radius) && sideOk (f .y) (f .radius) ≡ true) × (sideOk (f .z) (f .radius) ≡ true)
+  two = and-both (sideOk (f .x) (f .radius) && sideOk (f .y) (f .radius)) (sideOk (f .z) (f .radius)) (three .0)
 
-  one : (edgeOk (f .x .edge) ≡ true) × (edgeOk (f .y .edge) ≡ true)
-  one = and-both (edgeOk (f .x .edge)) (edgeOk (f .y .edge)) (two .0)
+  one : (sideOk (f .x) (f .radius) ≡ true) × (sideOk (f .y) (f .radius) ≡ true)
+  one = and-both (sideOk (f .x) (f .radius)) (sideOk (f .y) (f .radius)) (two .0)
+
+  pub frame-sides : (sideOk (f .x) (f .radius) ≡ true) × (sideOk (f .y) (f .radius) ≡ true) × (sideOk (f .z) (f .radius) ≡ true)
+  frame-sides = (one .0, one .1, two .1)
 
   pub frame-sized : Sized f
   frame-sized =
       record {
-        x = edge-some _ (one .0) .1;
-        y = edge-some _ (one .1) .1;
-        z = edge-some _ (two .1) .1;
+        x = side-some _ _ (one .0) .1;
+        y = side-some _ _ (one .1) .1;
+        z = side-some _ _ (two .1) .1;
         radius = leb-true (f .radius) 1048576 (three .1);
       }
 
@@ -111,6 +123,10 @@ module _ (f : Frame) (xs : List ℕ) where
   pub ranges-rest : frameOk f ≡ true → {r : Bool} → r ≡ every (λ k. spotOk f (spotOf xs k)) (upTo (length xs / 3)) → r ≡ rangesOk f xs
   unfolding rangesOk
   ranges-rest h e = rw h e
+
+  pub ranges-accepted : rangesOk f xs ≡ true → frameOk f ≡ true
+  unfolding rangesOk
+  ranges-accepted h = and-both (frameOk f) (every (λ k. spotOk f (spotOf xs k)) (upTo (length xs / 3))) h .0
 
   pub ranges-framed : rangesOk f xs ≡ true → Framed f xs
   unfolding rangesOk

@@ -1,7 +1,7 @@
--- The exact distance of two atoms of a whole-number frame, and which numbers a frame takes: 01, "Whole-number frame". Definitions only.
+-- The exact distance of two atoms of a whole-number frame, and which numbers a frame takes: 01, "Whole-number frame", and 02, No. 3. Definitions only.
 use Prim.Native.Nat.{ℕ, _+_, _*_}
 use mathlib.Core.Path.{_≡_}
-use mathlib.Core.Bool.{Bool, cond, _&&_}
+use mathlib.Core.Bool.{Bool, cond, not, _&&_, _||_}
 use mathlib.Core.List.{List}
 use lib.ListN.{getD}
 use lib.Dec.{ltb, leb}
@@ -35,8 +35,13 @@ nearOf f a b = leb (squaredOf f a b) (squareOf (f .radius))
 unfoldable pub edgeOk : ℕ → Bool
 edgeOk e = ltb 0 e && leb e 1048576
 
+-- 02, No. 3: "Twice the radius may equal a periodic edge but not pass it. Open axes keep the old rule."
+unfoldable pub sideOk : Side → ℕ → Bool
+sideOk e radius = edgeOk (e .edge) && (not (e .round) || leb (2 * radius) (e .edge))
+
+-- what an accepted frame is
 unfoldable pub frameOk : Frame → Bool
-frameOk f = edgeOk (f .x .edge) && edgeOk (f .y .edge) && edgeOk (f .z .edge) && leb (f .radius) 1048576
+frameOk f = sideOk (f .x) (f .radius) && sideOk (f .y) (f .radius) && sideOk (f .z) (f .radius) && leb (f .radius) 1048576
 
 unfoldable pub spotOk : Frame → Spot → Bool
 spotOk f a = ltb (a .x) (f .x .edge) && ltb (a .y) (f .y .edge) && ltb (a .z) (f .z .edge)

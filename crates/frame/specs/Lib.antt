@@ -3,3 +3,4 @@ pub mod Laying
 pub mod Build
 pub mod Listed
 pub mod Steps
+pub mod Images

@@ -1,5 +1,6 @@
 // The tests of a frame, of its atoms and of what is lent.
 use crate::Frame;
+use crate::Side;
 use crate::Spot;
 use crate::laying::spot_at;
 use answer::Done;
@@ -8,7 +9,7 @@ ghost use mathlib.Core.Path.{_≡_};
 ghost use Prim.Native.Nat.{_/_};
 ghost use lib.ListN.{length};
 ghost use Rattle.lists.specs.Lists.{upTo, every};
-ghost use Rattle.frame.specs.Distance.{spotOf, edgeOk, frameOk, spotOk};
+ghost use Rattle.frame.specs.Distance.{spotOf, edgeOk, sideOk, frameOk, spotOk};
 ghost use Rattle.frame.specs.Build.{lengthsBad, rangesOk, frameAsked};
 
 fn edge_ok(e: u32) -> bool
@@ -17,11 +18,19 @@ fn edge_ok(e: u32) -> bool
     (0 < e) & (e <= 1048576)
 }
 
+// On a periodic axis twice the radius is at most the edge: past that a second image of an atom could be within the radius.
+fn side_ok(e: Side, radius: u32) -> bool
+    ensures { λ r. ⌜ r ≡ sideOk e radius ⌝ }
+{
+    let edge = e.edge;
+    edge_ok(edge) & (!e.round | (2 * (radius as u64) <= edge as u64))
+}
+
 pub(crate) fn frame_ok(f: Frame) -> bool
     ensures { λ r. ⌜ r ≡ frameOk f ⌝ }
 {
     let radius = f.radius;
-    edge_ok(f.x.edge) & edge_ok(f.y.edge) & edge_ok(f.z.edge) & (radius <= 1048576)
+    side_ok(f.x, radius) & side_ok(f.y, radius) & side_ok(f.z, radius) & (radius <= 1048576)
 }
 
 pub(crate) fn spot_ok(f: Frame, a: Spot) -> bool

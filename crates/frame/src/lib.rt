@@ -1,5 +1,6 @@
 // The whole-number frame: atoms at whole coordinates in a box whose axes are periodic or open. The exact nearest-image distance, and the list of
-// all pairs within a radius. specs/Build.antt says what a build answers and leaves in what is lent, specs/Listed.antt what that means.
+// all pairs within a radius. specs/Build.antt says what a build answers and leaves in what is lent, specs/Listed.antt what that means, specs/Images.antt
+// that no second image of an atom hides behind a listed pair.
 use answer::Done;
 use answer::Refusal;
 use answer::Whole;
@@ -21,6 +22,7 @@ pub struct Side {
     pub round: bool,
 }
 
+// Edges and radius to 2^20; twice the radius may equal a periodic edge but not pass it.
 pub struct Frame {
     pub x: Side,
     pub y: Side,

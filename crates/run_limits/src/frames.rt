@@ -59,7 +59,7 @@ pub(crate) fn digest(xs: &[u32]) -> u64 {
     h
 }
 
-fn put_built(b: Built) {
+pub(crate) fn put_built(b: Built) {
     match b {
         Built::Answered {
             pairs,
@@ -88,7 +88,7 @@ fn build(f: Frame, xs: &[u32], starts: &mut [u32]) {
     show::end(digest(&items));
 }
 
-fn boxed(x: u32, y: u32, z: u32, radius: u32) -> Frame {
+pub(crate) fn boxed(x: u32, y: u32, z: u32, radius: u32) -> Frame {
     Frame {
         x: Side {
             edge: x,

@@ -5,7 +5,7 @@ use Rattle.frame.proofs.asked.frame_ok.Tie as tie
 
 returns : tie.Need-returns
 unfolding frameOk
-returns c = simp (c .before .before .edge-ok .ensures, c .before .edge-ok2 .ensures, c .edge-ok3 .ensures)
+returns c = simp (c .before .before .side-ok .ensures, c .before .side-ok2 .ensures, c .side-ok3 .ensures)
 
 pub frame-ok-spec : {M : Type 1} → statement M
 frame-ok-spec =
