@@ -91,3 +91,16 @@ def past_half(n,edge=320,radius=161):
     print(*([2,n] if n>16384 else [3,0]),digest([M]*4),digest([M]*9),digest([M]*16390))
 past_half(16384)
 past_half(16385)
+
+# ---- calls that no line of the replay asks for: of_bits, argon, listed, atoms_in
+NAN=0x7ff8000000000000
+def is_nan(w): return w%2**63>0x7ff0000000000000
+print(*[NAN if is_nan(w) else w for w in [2**63,1,bits(1.0),bits(-1.0),2**64-2**52,0x7ff0000000000001,NAN+1,2**64-1]])
+print(bits(0.0103),bits(3.4),bits(2.5*3.4),1,'')
+def part(number,xs): print(number,0,len(xs),digest(xs))
+rows=[0,1,0,2,1,2,7]
+for count in [2,3,4]: part(*((6,[]) if count>len(rows)//2 else (0,rows[:2*count])))
+for cell,last in [(0,3),(1,3),(2,3),(3,3),(2,1),(2,4)]:
+    starts,items=[0,2,2,last],[5,6,7]
+    held=cell+1<len(starts) and starts[cell]<=starts[cell+1]<=len(items)
+    part(*((0,items[starts[cell]:starts[cell+1]]) if held else (1,[])))
