@@ -1,4 +1,4 @@
-// The tests of a frame, of its atoms and of what is lent.
+// The tests of a frame, of its atoms and of what is lent: total, for `build` and for the crates above.
 use crate::Frame;
 use crate::Side;
 use crate::Spot;
@@ -26,14 +26,14 @@ fn side_ok(e: Side, radius: u32) -> bool
     edge_ok(edge) & (!e.round | (2 * (radius as u64) <= edge as u64))
 }
 
-pub(crate) fn frame_ok(f: Frame) -> bool
+pub fn frame_ok(f: Frame) -> bool
     ensures { λ r. ⌜ r ≡ frameOk f ⌝ }
 {
     let radius = f.radius;
     side_ok(f.x, radius) & side_ok(f.y, radius) & side_ok(f.z, radius) & (radius <= 1048576)
 }
 
-pub(crate) fn spot_ok(f: Frame, a: Spot) -> bool
+pub fn spot_ok(f: Frame, a: Spot) -> bool
     ensures { λ r. ⌜ r ≡ spotOk f a ⌝ }
 {
     (a.x < f.x.edge) & (a.y < f.y.edge) & (a.z < f.z.edge)
@@ -53,7 +53,7 @@ fn spots_ok(f: Frame, xs: &[u32]) -> bool
     true
 }
 
-fn ranges_ok(f: Frame, xs: &[u32]) -> bool
+pub fn ranges_ok(f: Frame, xs: &[u32]) -> bool
     ensures { λ r. ⌜ r ≡ rangesOk f (now (xs .entry)) ⌝ }
 {
     if !frame_ok(f) {
@@ -69,7 +69,7 @@ fn lengths_bad(xs: usize, table: usize, items: usize) -> bool
 }
 
 // Whether a build may go on: refusals 1, 2, 3, 5.
-pub(crate) fn asked(f: Frame, xs: &[u32], table: &[u32], items: usize) -> Done
+pub fn asked(f: Frame, xs: &[u32], table: &[u32], items: usize) -> Done
     ensures { λ r. ⌜ r ≡ frameAsked f (now (xs .entry)) (now (table .entry)) items ⌝ }
 {
     if lengths_bad(xs.len(), table.len(), items) {

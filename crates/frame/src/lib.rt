@@ -5,7 +5,7 @@ use answer::Done;
 use answer::Refusal;
 use answer::Whole;
 
-mod asked;
+pub mod asked;
 mod building;
 mod distance;
 mod laying;
