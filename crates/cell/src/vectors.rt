@@ -58,7 +58,7 @@ pub fn norm2(a: Vec3) -> f64
 pub fn norm(a: Vec3) -> f64
     ensures { λ r. ⌜ r ≡ normOf a ⌝ }
 {
-    float::root(norm2(a))
+    float::quick_root(norm2(a))
 }
 
 pub fn cross(a: Vec3, b: Vec3) -> Vec3

@@ -6,6 +6,7 @@ pub mod Casts
 pub mod Fold
 pub mod Table
 pub mod WholeRoots
+pub mod Certificate
 pub mod Nearness
 pub mod Patterns
 pub mod Normal

@@ -1,11 +1,12 @@
 -- What the private functions say of themselves: the root's table and its digits, and two small shapes. No public contract cites this file, so nobody has to believe it.
 use mathlib.Core.Path.{_≡_}
-use Prim.Native.Nat.{ℕ, _+_, _-_, _*_, _^_, _≤_, _<_}
+use Prim.Native.Nat.{ℕ, _+_, _-_, _*_, _/_, _^_, _≤_, _<_}
 use mathlib.Core.Bool.{false, cond}
 use mathlib.Core.List.{List}
 use lib.ListN.{getD}
 use lib.IntN.{pos, negsuc}
 use lib.Ieee.{Float, fin, binary64, neg, add, lt, eq}
+use Rattle.float.specs.Def.{wholeRoot, rootScaled, rootOf}
 
 -- The whole root of n is r or one of the next k - 1 numbers; with k = 1 it is r.
 pub record Within (n r k : ℕ) : Type 0 where
@@ -24,6 +25,24 @@ pub record Digits (v s y p : ℕ) : Type 0 where
   pub sum : p * y + root * root ≡ v * 2 ^ 54
   pub left : y < s + p
   pub short : v < 2 ^ 54
+
+-- n is v * 4 ^ (h + 36), with 53 or 54 digits in v
+pub record Evened (n v h : ℕ) : Type 0 where
+  pub low : 2 ^ 52 ≤ v
+  pub high : v < 2 ^ 54
+  pub few : h ≤ 1049
+  pub whole : v * 4 ^ (h + 36) ≡ n
+
+-- the root of x is that of v * 4 ^ (h + 36) / 4 ^ 600
+pub record EvenOf (x : Float) (v h : ℕ) : Type 0 where
+  pub low : 2 ^ 52 ≤ v
+  pub high : v < 2 ^ 54
+  pub few : h ≤ 1049
+  pub same : rootScaled (v * 4 ^ (h + 36)) ≡ rootOf x
+
+-- r is 0, or the whole number nearest to the root of v * 2 ^ 52: half of the whole root of v * 2 ^ 54, rounded up.
+pub record Confirmed (v r : ℕ) : Type 0 where
+  pub nearest : 0 < r → (wholeRoot 54 (v * 2 ^ 54) + 1) / 2 ≡ r
 
 -- r with x's sign, for an r that is not negative, and x itself where x is a zero
 unfoldable pub signOf : Float → Float → Float

@@ -7,8 +7,9 @@ ghost use mathlib.Core.Bool.{true, false, cond};
 ghost use lib.IntN.{pos};
 ghost use lib.Ieee.{fin, inf, lt, binary64, toUnsigned, toSigned, ofBits, toBits};
 ghost use Rattle.float.specs.Def.{absOf, negative, maxOf, minOf, clampOf, remEuclidOf, truncOf, floorOf, roundOf, wholeRoot, rootScaled, rootOf};
-ghost use Rattle.float.specs.Steps.{signOf, halfUp, Within, Digits};
+ghost use Rattle.float.specs.Steps.{signOf, halfUp, Within, Digits, Evened, EvenOf};
 
+mod quick;
 mod roots;
 
 pub fn abs(x: f64) -> f64
@@ -253,28 +254,45 @@ fn root_even(v: u64, h: u64) -> f64
     f64::from_bits((h + 484) * 4503599627370496 + (r + 1) / 2)
 }
 
-// The root of m * 2^(q + 126) / 4^600: m's leading digit is brought to place 52 or 53, so that the
-// exponent is even.
-fn root_scaled(m: u64, q: u64) -> f64
+// A number v * 4^(h + 36) / 4^600 with 53 or 54 digits in v, so that its root's digits are those of v's.
+struct Even {
+    v: u64,
+    h: u64,
+}
+
+// m * 2^(q + 126) so: m's leading digit is brought to place 52 or 53, so that the exponent is even.
+fn evened(m: u64, q: u64) -> Even
     requires { ⌜ (0 < m) × (m < 2 ^ 53) × (q < 2046) ⌝ }
-    ensures { λ r. ⌜ r ≡ rootScaled (m * 2 ^ (q + 126)) ⌝ }
+    ensures { λ r. ⌜ Evened (m * 2 ^ (q + 126)) (r .v) (r .h) ⌝ }
 {
     let z = (u64::leading_zeros(m) - 11) as u64;
     let p = q + 54 - z;
-    root_even(m << (z + p % 2), p / 2)
+    Even {
+        v: m << (z + p % 2),
+        h: p / 2,
+    }
 }
 
-// The root of a finite number above zero, by its bits: digits * 2^(field - 1075), and without the
-// leading digit where the field is 0.
-fn root_finite(x: f64) -> f64
+// A finite number above zero so, by its bits: digits * 2^(field - 1075), and without the leading
+// digit where the field is 0.
+fn even_of(x: f64) -> Even
     requires { ⌜ T (positive x) ⌝ }
-    ensures { λ r. ⌜ r ≡ rootOf x ⌝ }
+    ensures { λ r. ⌜ EvenOf x (r .v) (r .h) ⌝ }
 {
     let bits = f64::to_bits(x);
     let field = bits / 4503599627370496 % 2048;
     let digits = bits % 4503599627370496;
     let lead = choose(field == 0, 0, 1);
-    root_scaled(digits + lead * 4503599627370496, field - lead)
+    evened(digits + lead * 4503599627370496, field - lead)
+}
+
+// The root of a finite number above zero.
+fn root_finite(x: f64) -> f64
+    requires { ⌜ T (positive x) ⌝ }
+    ensures { λ r. ⌜ r ≡ rootOf x ⌝ }
+{
+    let e = even_of(x);
+    root_even(e.v, e.h)
 }
 
 // IEEE 754's squareRoot.
@@ -283,6 +301,41 @@ pub fn root(x: f64) -> f64
 {
     if x > 0.0 {
         if x < 1.0 / 0.0 { root_finite(x) } else { x }
+    } else if x == 0.0 {
+        x
+    } else {
+        0.0 / 0.0
+    }
+}
+
+// The root of v * 4^(h + 36) / 4^600 from a guess at its digits.
+fn quick_even(v: u64, h: u64, s: u64) -> f64
+    requires { ⌜ (2 ^ 52 ≤ v) × (v < 2 ^ 54) × (h ≤ 1049) ⌝ }
+    requires { ⌜ (2 ^ 52 ≤ s) × (s < 2 ^ 53) ⌝ }
+    ensures { λ r. ⌜ r ≡ rootScaled (v * 4 ^ (h + 36)) ⌝ }
+{
+    let r = quick::confirmed(v, s);
+    if 0 < r {
+        f64::from_bits((h + 484) * 4503599627370496 + r)
+    } else {
+        root_even(v, h)
+    }
+}
+
+fn quick_finite(x: f64) -> f64
+    requires { ⌜ T (positive x) ⌝ }
+    ensures { λ r. ⌜ r ≡ rootOf x ⌝ }
+{
+    let e = even_of(x);
+    quick_even(e.v, e.h, quick::guess(x))
+}
+
+// The same root for inner loops: estimated, and confirmed in whole numbers.
+pub fn quick_root(x: f64) -> f64
+    ensures { λ r. ⌜ r ≡ rootOf x ⌝ }
+{
+    if x > 0.0 {
+        if x < 1.0 / 0.0 { quick_finite(x) } else { x }
     } else if x == 0.0 {
         x
     } else {

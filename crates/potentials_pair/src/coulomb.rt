@@ -14,7 +14,7 @@ pub fn is_neutral(p: f64, q: f64) -> bool
 fn near(qq: f64, d: Vec3, r2: f64) -> Pull
     ensures { λ r. ⌜ r ≡ coulombNear qq d r2 ⌝ }
 {
-    let r = float::root(r2);
+    let r = float::quick_root(r2);
     Pull::Add {
         energy: qq / r,
         d: d,

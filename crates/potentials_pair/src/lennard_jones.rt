@@ -13,7 +13,7 @@ pub fn mix(a: Mixed, b: Mixed) -> Mixed
     ensures { λ r. ⌜ r ≡ mixOf a b ⌝ }
 {
     Mixed {
-        epsilon: float::root(a.epsilon * b.epsilon),
+        epsilon: float::quick_root(a.epsilon * b.epsilon),
         sigma: 0.5 * (a.sigma + b.sigma),
     }
 }

@@ -1,43 +1,23 @@
--- `float::root_finite` meets its contract by the fields of x's bits, in `proofs/Finite.antt`. Assumes nothing.
-use Rattle.float.proofs.Branches.{yes}
-use Rattle.float.proofs.Finite.{positive-no-nan, lead-of, lead-le, lead-in, lead-root, bits, fieldOf}
 use borrow.Author.Needs.{needs}
-use lib.Dec.{T}
-use lib.Ieee.{fits, binary64}
 use mathlib.Core.Path.{_∙_}
-use native.Mathlib.Omega.{arith}
 use Rattle.float.proofs.root_finite.Statement.{statement}
 use Rattle.float.proofs.root_finite.Tie as tie
+use Rattle.float.proofs.root_finite.Reads as reads
+use Rattle.float.proofs.root_finite.Lts as lts
+use Rattle.float.proofs.even_of.Reads as even-of-reads
+use Rattle.float.proofs.root_even.Reads as root-even-reads
 
-held : (c : tie.Start) → T (fits binary64 (c .args .x))
-held c = yes (c .good .0 .1)
+-- src/lib.rt:294:9
+even-of-requires : tie.Need-even-of-requires
+even-of-requires c κs = search needs
 
-float-to-bits-bits : tie.Need-float-to-bits-bits
-float-to-bits-bits c = positive-no-nan _ (c .pre)
+-- src/lib.rt:295:5
+root-even-requires : tie.Need-root-even-requires
+root-even-requires c κs = (c .even-of .ensures .low, c .even-of .ensures .high, c .even-of .ensures .few)
 
-mul-root-scaled : tie.Need-mul-root-scaled
-mul-root-scaled c = omega (arith, lead-le _ _ (lead-of (fieldOf (bits _ (c .before .pre) (held (c .before)))) _ (c .choose .ensures)) .0)
-
-add-root-scaled : tie.Need-add-root-scaled
-add-root-scaled c = omega (arith, lead-le _ _ (lead-of (fieldOf (bits _ (c .before .pre) (held (c .before)))) _ (c .choose .ensures)) .0)
-
-sub-root-scaled : tie.Need-sub-root-scaled
-sub-root-scaled c = lead-le _ _ (lead-of _ _ (c .choose .ensures)) .1
-
-root-scaled-requires : tie.Need-root-scaled-requires
-root-scaled-requires c κs = lead-in _ (c .before .pre) (held (c .before)) _ (lead-of _ _ (c .choose .ensures))
-
+-- src/lib.rt:290:1
 returns : tie.Need-returns
-returns c = c .root-scaled .ensures ∙ lead-root _ (c .before .before .pre) (held (c .before .before)) _ (lead-of _ _ (c .before .choose .ensures))
+returns c = c .root-even .ensures ∙ c .before .even-of .ensures .same
 
 pub root-finite-spec : {M : Type 1} → statement M
-root-finite-spec =
-    tie.close
-    (tie.spec
-    float-to-bits-bits
-    (λ c κs. search needs)
-    mul-root-scaled
-    add-root-scaled
-    sub-root-scaled
-    root-scaled-requires
-    returns)
+root-finite-spec = tie.close (tie.spec even-of-requires root-even-requires returns)
