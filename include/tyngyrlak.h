@@ -487,6 +487,13 @@ tyn_sheet tyn_read(const uint8_t *input, size_t input_len, uint32_t *coordinates
 /* The printed answer of a job sheet at the front of out (at least 90133 bytes); the value is its length. Refusal 1. */
 tyn_whole tyn_solve(const uint8_t *input, size_t input_len, uint8_t *out, size_t out_len);
 
+/* ---- How long the list of a whole-number frame may be kept. */
+
+/* Whether each atom has moved, by nearest image, so that four times its squared displacement is at most the squared skin: then a list that was built
+ * over the old coordinates with the radius cutoff + skin has every pair of the moved ones that is within the cutoff. f.radius is the cutoff. Refusals
+ * 1, 2, 3. */
+tyn_yes_no tyn_within_skin(tyn_frame f, uint32_t skin, const uint32_t *old, size_t old_len, const uint32_t *moved, size_t moved_len);
+
 /* ---- The terms over pairs (potentials.rs), and the evaluator. */
 
 /* Lennard-Jones numbers of a single species, shifted. Refusal 3. */

@@ -38,6 +38,7 @@
 
 mod error;
 pub mod field;
+pub mod frame;
 #[allow(unsafe_code, missing_docs)]
 mod raw;
 

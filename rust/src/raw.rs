@@ -31,6 +31,8 @@ structs! {
     /// What an evaluation goes by besides its tables.
     Setting { lj: LjTerm, coulomb: CoulombTerm, bond: BondTerm, units: Units, cell: Cell }
     Pace { dt: f64, thermostat: Thermostat }
+    Frame { ex: u32, ey: u32, ez: u32, px: u32, py: u32, pz: u32, radius: u32 }
+    Spot { x: u32, y: u32, z: u32 }
 
     YesNo { done: Done, value: u32 }
     RowsAnswer { done: Done, rows: Rows }
@@ -42,6 +44,7 @@ structs! {
     StateAnswer { done: Done, state: State }
     Whole { done: Done, value: u64 }
     Updated { done: Done, rebuilt: u32, state: State }
+    Built { done: Done, pairs: u32, checks: u32, fallback: u32 }
     Evaluated { done: Done, rebuilt: u32, state: State, sum: Sum }
     Stepped { done: Done, stopped: u32, rebuilt: u32, state: State, potential: f64 }
 }
@@ -114,6 +117,10 @@ calls! {
     fn tyn_evaluate(setting: Setting, s: State, ids: &[u32], params: &[f64], species: &[u32], charges: &[f64], bonds: &[u32], lengths: &[f64], ks: &[f64],
         positions: &[f64], exclusions: &[u32], pairs: &mut [u32], references: &mut [f64], starts: &mut [u32], items: &mut [u32],
         forces: &mut [f64]) -> Evaluated;
+
+    fn tyn_squared_distance(f: Frame, p: Spot, q: Spot) -> Whole;
+    fn tyn_frame_build(f: Frame, coordinates: &[u32], exclusions: &[u32], pairs: &mut [u32], starts: &mut [u32], items: &mut [u32]) -> Built;
+    fn tyn_within_skin(f: Frame, skin: u32, old: &[u32], moved: &[u32]) -> YesNo;
 
     fn tyn_kinetic_energy(units: Units, velocities: &[f64], masses: &[f64]) -> Number;
     fn tyn_temperature(units: Units, dof: f64, velocities: &[f64], masses: &[f64]) -> Number;

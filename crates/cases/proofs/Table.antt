@@ -11,10 +11,11 @@ use Rattle.exclusions.specs.Table.{isTable, isRow}
 use Rattle.frame.specs.Distance.{spotOf, squaredOf, nearOf, edgeOk, sideOk, frameOk, spotOk}
 use Rattle.frame.specs.Laying.{gridOf, cellOf, narrow, plainOf, crowded}
 use Rattle.frame.specs.Build.{sceneOf, candidates, nearPairs, beside, checksOf, lengthsBad, rangesOk, shownOf, runOf, afterOf, buildOf, frameAsked}
+use Rattle.skin.specs.Skin.{movedLittle, allMovedLittle, countsDiffer, skinSeen}
 use Rattle.cases.specs.Marked.{Marked}
 
 pub marked : Marked
-unfolding roundOf rootOf ofBits round numbers each keep howMany every some ordered withEach inside across rows follows touch stepped remEuclid within binsOn binOn gap distance axisOn flatten cells sameCell touching halfStencil offset joined reached bin met visit cellPairs pairsOf isTable isRow spotOf squaredOf nearOf edgeOk sideOk frameOk spotOk gridOf cellOf narrow plainOf crowded sceneOf candidates nearPairs beside checksOf lengthsBad rangesOk frameAsked shownOf runOf afterOf buildOf
+unfolding roundOf rootOf ofBits round numbers each keep howMany every some ordered withEach inside across rows follows touch stepped remEuclid within binsOn binOn gap distance axisOn flatten cells sameCell touching halfStencil offset joined reached bin met visit cellPairs pairsOf isTable isRow spotOf squaredOf nearOf edgeOk sideOk frameOk spotOk gridOf cellOf narrow plainOf crowded sceneOf candidates nearPairs beside checksOf lengthsBad rangesOk frameAsked shownOf runOf afterOf buildOf movedLittle allMovedLittle countsDiffer skinSeen
 marked =
     record {
       round-half = refl;
@@ -33,5 +34,12 @@ marked =
       six-refused = refl;
       six-refused-empty = refl;
       six-open = refl;
+      skin-two = refl;
+      skin-one = refl;
+      skin-one-past = refl;
+      skin-one-misses = refl;
+      now-within = refl;
+      skin-none-still = refl;
+      skin-none-moved = refl;
       ten-refused = refl;
     }

@@ -5,15 +5,16 @@ use lib.IntN.{pos, negsuc}
 use lib.Ieee.{nan, fin}
 use Rattle.float.specs.Arith.{bits}
 use Rattle.float.specs.Def.{roundOf, rootOf}
-use Prim.Native.Nat.{ℕ}
+use Prim.Native.Nat.{ℕ, _+_, _*_}
 use mathlib.Core.List.{List, [], _∷_}
 use lib.ListN.{replicate}
 use Rattle.answer.specs.Seen.{answered, refused}
 use Rattle.frame.specs.declared.Side.{Side}
 use Rattle.frame.specs.declared.Frame.{Frame}
-use Rattle.frame.specs.Distance.{along}
+use Rattle.frame.specs.Distance.{along, spotOf, squaredOf}
 use Rattle.frame.specs.Laying.{gridOf}
 use Rattle.frame.specs.Build.{Given, buildOf}
+use Rattle.skin.specs.Skin.{skinSeen}
 
 -- a periodic axis of edge 10 and an open one, and a frame of three of them
 abbrev pub ten : Side
@@ -45,6 +46,13 @@ pairOpen radius x = buildAt (openTens radius) (0 ∷ 0 ∷ 0 ∷ x ∷ 0 ∷ 0 �
 abbrev pub emptyAt : ℕ → Given
 emptyAt radius = buildAt (tens radius) []
 
+-- two atoms, and where they are after a move of 1 each
+abbrev pub apartFive : List ℕ
+apartFive = 0 ∷ 0 ∷ 0 ∷ 5 ∷ 0 ∷ 0 ∷ []
+
+abbrev pub apartThree : List ℕ
+apartThree = 1 ∷ 0 ∷ 0 ∷ 4 ∷ 0 ∷ 0 ∷ []
+
 pub record Marked : Type 0 where
   -- `round` 0.5 → 1; -0.5 → -1; 2.5 → 3; 0.49999999999999994 → 0
   pub round-half : roundOf (fin false 1 (negsuc 0)) ≡ fin false 1 (pos 0)
@@ -66,5 +74,14 @@ pub record Marked : Type 0 where
   pub six-refused : buildOf (pairAt 6 9) .answer ≡ refused 3 0
   pub six-refused-empty : buildOf (emptyAt 6) .answer ≡ refused 3 0
   pub six-open : buildOf (pairOpen 6 9) .answer ≡ answered (record { pairs = 0; checks = 1; fallback = true })
+  -- 02, No. 14: atoms 5 apart move 1 each and are 3 apart, within the cutoff 3. Skin 2 says yes, and the list at 5 (above) has the pair. Skin 1 says no:
+  -- four times the squared displacement is past the squared skin by 3, the least that there is, and the list at 4 misses the pair. Skin 0 bears no move.
+  pub skin-two : skinSeen (tens 3) 2 apartFive apartThree ≡ answered true
+  pub skin-one : skinSeen (tens 3) 1 apartFive apartThree ≡ answered false
+  pub skin-one-past : 4 * squaredOf (tens 3) (spotOf apartFive 1) (spotOf apartThree 1) ≡ 1 * 1 + 3
+  pub skin-one-misses : buildOf (pairAt 4 5) .answer ≡ answered (record { pairs = 0; checks = 1; fallback = true })
+  pub now-within : buildOf (buildAt (tens 3) apartThree) .answer ≡ answered (record { pairs = 1; checks = 1; fallback = false })
+  pub skin-none-still : skinSeen (tens 3) 0 apartThree apartThree ≡ answered true
+  pub skin-none-moved : skinSeen (tens 3) 0 apartFive apartThree ≡ answered false
   -- coordinate 9 of edge 10 accepted (above), 10 refused 3
   pub ten-refused : buildOf (pairAt 3 10) .answer ≡ refused 3 0

@@ -14,6 +14,7 @@ use Rattle.evaluate.proofs.Only.{evaluate-only}
 use Rattle.verlet.proofs.Only.{kinetic-energy-only, temperature-only, berendsen-only}
 use Rattle.verlet_step.proofs.Only.{step-only, finish-only}
 use Rattle.frame.proofs.Only.{squared-distance-only, build-only}
+use Rattle.skin.proofs.Only.{within-skin-only}
 use Rattle.sheet.proofs.Only.{read-only}
 use Rattle.sheet_answer.proofs.Only.{solve-only}
 use Rattle.field_structs.proofs.Only.{shown-only, shown-alone}
@@ -65,6 +66,7 @@ use Rattle.field.proofs.parts.tyn_excluded_rows as excluded-rows
 use Rattle.field.proofs.parts.tyn_atoms_in as atoms-in
 use Rattle.field.proofs.frames.tyn_squared_distance as squared-distance
 use Rattle.field.proofs.frames.tyn_frame_build as frame-build
+use Rattle.field.proofs.skins.tyn_within_skin as within-skin
 use Rattle.field.proofs.frames.tyn_read as read
 use Rattle.field.proofs.frames.tyn_solve as solve
 use Rattle.field.proofs.forces.tyn_monatomic as monatomic
@@ -231,6 +233,9 @@ tyn-squared-distance-only l a r s m n p q = (shown-alone p q (squared-distance-o
 
 pub tyn-frame-build-only : OneOutcome frame-build.ended frame-build.Reads.Post
 tyn-frame-build-only l a r s m n p q = shown-only p q (λ u v h k. let b = build-only _ u v _ _ _ _ _ _ (h .0) (k .0) in (b .0, λ i. (tt, (tt, (tt, (b .1 i, (b .2 i, (b .3 i, tt))))))))
+
+pub tyn-within-skin-only : OneOutcome within-skin.ended within-skin.Reads.Post
+tyn-within-skin-only l a r s m n p q = (shown-alone p q (within-skin-only _ _ _ _), refl)
 
 pub tyn-read-only : OneOutcome read.ended read.Reads.Post
 tyn-read-only l a r s m n p q = shown-only p q (λ u v h k. let b = read-only _ _ _ u v _ _ _ _ h k in (b .0, λ i. (tt, (b .1 i, (b .2 i, tt)))))

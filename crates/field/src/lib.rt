@@ -8,5 +8,6 @@ pub mod frames;
 pub mod motion;
 pub mod pairs;
 pub mod parts;
+pub mod skins;
 pub mod speeds;
 pub mod virials;

@@ -8,6 +8,7 @@ use crate::floats;
 use crate::forces;
 use crate::frames;
 use crate::neighbors;
+use crate::skins;
 use crate::steps;
 use crate::velocities;
 use crate::virials;
@@ -28,6 +29,9 @@ pub(crate) fn answer(call: u64, ws: &[u64], out: &mut [u64; 8208]) -> usize {
     }
     if call < 64 {
         return neighbors::answer(call, ws, out);
+    }
+    if call == 70 {
+        return skins::answer(ws, out);
     }
     if call < 80 {
         return frames::answer(call, ws, out);

@@ -7,9 +7,9 @@ use frame::Side;
 use frame::Spot;
 
 // An argument, and the place after it; past the end where a word is missing or is no such argument.
-struct FrameArg {
-    value: Frame,
-    next: usize,
+pub(crate) struct FrameArg {
+    pub(crate) value: Frame,
+    pub(crate) next: usize,
 }
 
 struct SpotArg {
@@ -18,7 +18,7 @@ struct SpotArg {
 }
 
 // Three edges, three flags, the radius.
-fn take_frame(ws: &[u64], at: usize) -> FrameArg {
+pub(crate) fn take_frame(ws: &[u64], at: usize) -> FrameArg {
     let ex = replay_words::take_u32(ws, at);
     let ey = replay_words::take_u32(ws, ex.next);
     let ez = replay_words::take_u32(ws, ey.next);

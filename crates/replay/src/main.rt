@@ -13,6 +13,7 @@ mod frames;
 mod lines;
 mod neighbors;
 mod records;
+mod skins;
 mod steps;
 mod tables;
 mod velocities;

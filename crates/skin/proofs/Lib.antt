@@ -1,0 +1,4 @@
+pub mod Lengths
+pub mod Skin
+pub mod Theorems
+pub mod Only

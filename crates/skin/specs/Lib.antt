@@ -1,0 +1,3 @@
+pub mod Skin
+pub mod Lengths
+pub mod Theorems
