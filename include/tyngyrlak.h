@@ -161,7 +161,8 @@ typedef struct {
     double ev_per_a3_to_gpa;
 } tyn_units;
 
-/* The settings of a pair list and what it claims of the lent memory; fallback is a flag. What a call hands back goes into the next one. */
+/* The settings of a pair list and what it claims of the lent memory; fallback is a flag. built_in is the cell of its last answered build, not present
+ * where there is none. What a call hands back goes into the next one. */
 typedef struct {
     double cutoff;
     double skin;
@@ -170,6 +171,7 @@ typedef struct {
     uint32_t checks;
     uint32_t fallback;
     uint32_t builds;
+    tyn_cell built_in;
 } tyn_state;
 
 /* A new list's state. */
@@ -429,7 +431,7 @@ tyn_number tyn_to_gpa(tyn_units units, double pressure);
 
 /* ---- The pair list of a float frame (neighbor.rs), and exclusion tables. */
 
-/* A list with the given cutoff and skin: no pairs, references, checks, fallback, builds. Refusal 3. */
+/* A list with the given cutoff and skin: no pairs, references, checks, fallback, builds, and no cell that it was built in. Refusal 3. */
 tyn_state_answer tyn_new(double cutoff, double skin);
 
 /* The search radius, cutoff + skin. Refusal 3. */
@@ -458,6 +460,12 @@ tyn_updated tyn_build(tyn_state s, tyn_cell cell, const double *positions, size_
 tyn_updated tyn_maybe_build(tyn_state s, tyn_cell cell, const double *positions, size_t positions_len, const uint32_t *exclusions,
     size_t exclusions_len, uint32_t *pairs, size_t pairs_len, double *references, size_t references_len, uint32_t *starts, size_t starts_len,
     uint32_t *items, size_t items_len);
+
+/* ---- Whether a list still stands in the cell that it was built in. */
+
+/* Whether the list must be built anew for these positions in this cell: as tyn_needs_rebuild says, or the cell differs from the one that it was built
+ * in, in a bit of its nine numbers, in a flag, or in being present. Refusals 1, 2, 6, 3. */
+tyn_yes_no tyn_outdated(tyn_state s, tyn_cell cell, const double *positions, size_t positions_len, const double *references, size_t references_len);
 
 /* ---- Parts of lent tables, told by their first element and length. */
 

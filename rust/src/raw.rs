@@ -21,7 +21,7 @@ structs! {
     /// Energy, and the virial row by row.
     Sum { energy: f64, virial: [f64; 9] }
     Units { force_to_accel: f64, kb_ev_per_k: f64, ke_coulomb: f64, ev_per_a3_to_gpa: f64 }
-    State { cutoff: f64, skin: f64, pairs: u32, references: u32, checks: u32, fallback: u32, builds: u32 }
+    State { cutoff: f64, skin: f64, pairs: u32, references: u32, checks: u32, fallback: u32, builds: u32, built_in: Cell }
     Lj { epsilon: f64, sigma: f64, cutoff: f64, shift: u32 }
     Bond { k: f64, r0: f64 }
     LjTerm { present: u32, lj: Lj }
@@ -104,6 +104,7 @@ calls! {
     fn tyn_exclude(count: u32, i: u32, j: u32, table: &mut [u32]) -> Whole;
     fn tyn_set_exclusions(raw: &[u32], table: &mut [u32]) -> Whole;
     fn tyn_needs_rebuild(s: State, cell: Cell, positions: &[f64], references: &[f64]) -> YesNo;
+    fn tyn_outdated(s: State, cell: Cell, positions: &[f64], references: &[f64]) -> YesNo;
     fn tyn_build(s: State, cell: Cell, positions: &[f64], exclusions: &[u32], pairs: &mut [u32], references: &mut [f64], starts: &mut [u32],
         items: &mut [u32]) -> Updated;
     fn tyn_maybe_build(s: State, cell: Cell, positions: &[f64], exclusions: &[u32], pairs: &mut [u32], references: &mut [f64], starts: &mut [u32],

@@ -1,4 +1,5 @@
 pub mod Folding
 pub mod Settling
+pub mod Box
 pub mod Lists
 pub mod Only

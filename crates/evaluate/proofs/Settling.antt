@@ -27,6 +27,7 @@ use Rattle.potentials_pair.proofs.Lookup.{looks-all}
 use Rattle.potentials.specs.declared.LjTerm.{LjTerm}
 use Rattle.potentials.specs.declared.LjTerm.the-variants.{Absent, Present}
 use Rattle.potentials.specs.Terms.{ljOver}
+use Rattle.neighbor.specs.declared.Question.the-variants.{Outdated}
 use Rattle.neighbor.specs.declared.State.{State}
 use Rattle.neighbor.specs.declared.Updated.{Updated}
 use Rattle.neighbor.specs.Update.{Given, updateOf, listedOf, firstOf, tableAsked}
@@ -67,7 +68,7 @@ module _ (j : Job) where
   after-is Answered o = refl
   after-is (Refused r) o = refl
 
-  pub settled-by : {u : Updated} {pairs : List ℕ} {references : List Float} {starts items : List ℕ} → Update.shown u pairs references starts items ≡ updateOf true (j .given)
+  pub settled-by : {u : Updated} {pairs : List ℕ} {references : List Float} {starts items : List ℕ} → Update.shown u pairs references starts items ≡ updateOf Outdated (j .given)
       → {r : Evaluated} {forces : List Float} → held (r .sum) forces ≡ totalAfter (j .terms) (j .given .cell) (j .given .positions) pairs (j .forces) (u .done) (u .state)
       → r ≡ evaluatedFrom u (r .sum) → shown r pairs references starts items forces ≡ settledIn j
   unfolding settledBy
@@ -181,7 +182,7 @@ module _ (look : List ℕ → List Float → Lj → ℕ → Mixed) (room : ℕ) 
   after-list (answered u) o = refl
   after-list (refused n p) o = refl
 
-  pub settled-list : settledBy look room j .list ≡ updateOf true (j .given)
+  pub settled-list : settledBy look room j .list ≡ updateOf Outdated (j .given)
   unfolding settledBy
   settled-list = after-list _ _
 

@@ -1,7 +1,7 @@
 -- What an evaluation answers and leaves in everything lent: one outcome, made from the entry values alone. Definitions only.
 use Prim.Native.Nat.{ℕ}
 use mathlib.Core.Path.{_≡_}
-use mathlib.Core.Bool.{Bool, true}
+use mathlib.Core.Bool.{Bool, true, false}
 use mathlib.Core.List.{List}
 use lib.Ieee.{Float}
 use lib.ListN.{length}
@@ -15,10 +15,12 @@ use Rattle.potentials_pair.specs.declared.Lj.{Lj}
 use Rattle.potentials_pair.specs.declared.Mixed.{Mixed}
 use Rattle.potentials_pair.specs.Pull.{Total}
 use Rattle.potentials_pair.specs.Species.{lookOf}
+use Rattle.neighbor.specs.declared.Question.the-variants.{Outdated}
 use Rattle.neighbor.specs.declared.State.{State}
 use Rattle.neighbor.specs.Update.{Given, given, updateOf, listedOf, stays}
 use Rattle.neighbor.specs.Update as Update
 use Rattle.neighbor.specs.Listed.{Listed}
+use Rattle.neighbor.specs.Box.{SameBits}
 use Rattle.evaluate.specs.declared.Evaluated.{Evaluated}
 use Rattle.evaluate.specs.declared.Setting.{Setting}
 use Rattle.evaluate.specs.Terms.{Terms, terms, contributions, mergedAll}
@@ -55,13 +57,13 @@ unfoldable pub totalOf : (look : List ℕ → List Float → Lj → ℕ → Mixe
 totalOf look room j o =
     mergedAll (length (j .forces)) (contributions look (j .terms) (j .given .cell) (j .given .positions) room (rows (listedOf (o .state) (o .pairs))))
 
--- "The pair list is brought up to date first"; where that is refused (7, 8) the forces stay
+-- "The pair list is brought up to date first", by the second question (02, No. 6: "the evaluator asks the second one"); where that is refused (7, 8) the forces stay
 unfoldable pub afterList : (look : List ℕ → List Float → Lj → ℕ → Mixed) → (room : ℕ) → Job → Seen (Unit {0}) → Update.Outcome → Outcome
 afterList look room j (answered u) o = record { list = o; total = totalOf look room j o }
 afterList look room j (refused n p) o = without j o
 
 unfoldable pub settledBy : (look : List ℕ → List Float → Lj → ℕ → Mixed) → (room : ℕ) → Job → Outcome
-settledBy look room j = afterList look room j (updateOf true (j .given) .answer) (updateOf true (j .given))
+settledBy look room j = afterList look room j (updateOf Outdated (j .given) .answer) (updateOf Outdated (j .given))
 
 -- an evaluation after its tests
 abbrev pub settledOf : Job → Outcome
@@ -97,3 +99,7 @@ EvaluateSays j r pairs references starts items forces = shown r pairs references
 -- Demand 3 of an evaluation that built the list anew, said of the lent pairs at exit.
 abbrev pub EvaluateLists : Job → Evaluated → (pairs : List ℕ) → Type 0
 EvaluateLists j r pairs = r .rebuilt ≡ true → Listed (j .given) (r .state) pairs
+
+-- 02, No. 6, of an evaluation that kept the list: the cell is, bit for bit, the one that it was built in. It follows from what the call says (proofs/Box.antt).
+abbrev pub EvaluateKeeps : Job → Evaluated → Type 0
+EvaluateKeeps j r = r .done ≡ Done·cases.Answered → r .rebuilt ≡ false → SameBits (j .given .state .«built_in») (j .given .cell)

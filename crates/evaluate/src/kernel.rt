@@ -3,6 +3,7 @@ use crate::Evaluated;
 use crate::Setting;
 use crate::merging;
 use answer::Done;
+use neighbor::Question;
 use neighbor::State;
 use neighbor::Updated;
 use virial::Sum;
@@ -131,7 +132,7 @@ pub fn settle(
 {
     let cell = setting.cell;
     let u = neighbor::kernel::update(
-        true,
+        Question::Outdated,
         s,
         cell,
         positions,

@@ -1,14 +1,14 @@
 -- For each export: no second struct and no second contents of everything lent fits its `ensures`. The call's own law shows it. Assumes nothing.
 use Prim.Native.Nat.{ℕ}
 use mathlib.Core.Path.{_≡_, refl, sym, _∙_}
-use mathlib.Core.Bool.{true, false}
 use mathlib.Core.List.{List}
 use Rattle.answer.specs.declared.Done.{Done}
 use Rattle.cell.proofs.Only.{orthorhombic-only, cubic-only, is-orthorhombic-only, matrix-only, volume-only, inverse-only, to-fractional-only, to-cartesian-only, wrap-only, perp-widths-only, min-image-only}
 use Rattle.virial.proofs.Only.{zeros-only, merge-only, add-pair-force-only, virial-from-pair-only, scalar-virial-only, pressure-only, pressure-tensor-only, to-gpa-only}
 use Rattle.exclusions.proofs.Only.{exclude-only, set-only, asked-only as rows-asked-only}
 use Rattle.bins.proofs.Only.{asked-only as atoms-asked-only}
-use Rattle.neighbor.proofs.Only.{new-only, search-radius-only, needs-rebuild-only, update-only, listed-asked-only}
+use Rattle.neighbor.proofs.Only.{new-only, search-radius-only, needs-rebuild-only, outdated-only, update-only, listed-asked-only}
+use Rattle.neighbor.specs.declared.Question.the-variants.{Unasked, NeedsRebuild}
 use Rattle.potentials.proofs.Only.{monatomic-only, uniform-only, lj-pairs-only, lj-all-only, coulomb-pairs-only, coulomb-all-only, bonds-all-only}
 use Rattle.evaluate.proofs.Only.{evaluate-only}
 use Rattle.verlet.proofs.Only.{kinetic-energy-only, temperature-only, berendsen-only}
@@ -59,6 +59,7 @@ use Rattle.field.proofs.pairs.tyn_builds_since as builds-since
 use Rattle.field.proofs.pairs.tyn_exclude as exclude
 use Rattle.field.proofs.pairs.tyn_set_exclusions as set-exclusions
 use Rattle.field.proofs.pairs.tyn_needs_rebuild as needs-rebuild
+use Rattle.field.proofs.boxes.tyn_outdated as outdated
 use Rattle.field.proofs.pairs.tyn_build as build
 use Rattle.field.proofs.pairs.tyn_maybe_build as maybe-build
 use Rattle.field.proofs.parts.tyn_listed as listed
@@ -211,11 +212,14 @@ tyn-set-exclusions-only l a r s m n p q = shown-only p q (λ u v h k. let b = se
 pub tyn-needs-rebuild-only : OneOutcome needs-rebuild.ended needs-rebuild.Reads.Post
 tyn-needs-rebuild-only l a r s m n p q = (shown-alone p q (needs-rebuild-only _ _ _ _), refl)
 
+pub tyn-outdated-only : OneOutcome outdated.ended outdated.Reads.Post
+tyn-outdated-only l a r s m n p q = (shown-alone p q (outdated-only _ _ _ _), refl)
+
 pub tyn-build-only : OneOutcome build.ended build.Reads.Post
-tyn-build-only l a r s m n p q = shown-only p q (λ u v h k. let b = update-only false _ u v _ _ _ _ _ _ _ _ (h .0) (k .0) in (b .0, λ i. (tt, (tt, (tt, (tt, (b .1 i, (b .2 i, (b .3 i, (b .4 i, tt))))))))))
+tyn-build-only l a r s m n p q = shown-only p q (λ u v h k. let b = update-only Unasked _ u v _ _ _ _ _ _ _ _ (h .0) (k .0) in (b .0, λ i. (tt, (tt, (tt, (tt, (b .1 i, (b .2 i, (b .3 i, (b .4 i, tt))))))))))
 
 pub tyn-maybe-build-only : OneOutcome maybe-build.ended maybe-build.Reads.Post
-tyn-maybe-build-only l a r s m n p q = shown-only p q (λ u v h k. let b = update-only true _ u v _ _ _ _ _ _ _ _ (h .0) (k .0) in (b .0, λ i. (tt, (tt, (tt, (tt, (b .1 i, (b .2 i, (b .3 i, (b .4 i, tt))))))))))
+tyn-maybe-build-only l a r s m n p q = shown-only p q (λ u v h k. let b = update-only NeedsRebuild _ u v _ _ _ _ _ _ _ _ (h .0) (k .0) in (b .0, λ i. (tt, (tt, (tt, (tt, (b .1 i, (b .2 i, (b .3 i, (b .4 i, tt))))))))))
 
 -- ---- parts of lent tables
 pub tyn-listed-only : OneOutcome listed.ended listed.Reads.Post

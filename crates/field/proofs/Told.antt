@@ -15,6 +15,7 @@ use Rattle.bins.specs.Sort.{heldOf, partOf, atomsIn, atomsAsked}
 use Rattle.exclusions.specs.Calls.{excludedRows}
 use Rattle.exclusions.specs.Table.{room}
 use Rattle.neighbor.specs.declared.State.{State}
+use Rattle.neighbor.specs.Rebuild.{claimsMore}
 use Rattle.neighbor.specs.Update.{listedOf}
 use Rattle.field_structs.specs.Flat.{flatDone}
 use Rattle.field_structs.specs.declared.FlatDone.{FlatDone}
@@ -35,7 +36,7 @@ later-part false n k xs = refl
 
 pub listed-told : (s : State) (pairs : List ℕ) → take (length (listedOf s pairs)) (drop 0 pairs) ≡ listedOf s pairs
 unfolding listedOf
-listed-told s pairs = first-part (ltb (length pairs / 2) (s .pairs)) (2 * s .pairs) pairs
+listed-told s pairs = first-part (claimsMore (s .«built_in») (s .pairs) (length pairs / 2) 0 0) (2 * s .pairs) pairs
 
 pub excluded-told : (count : ℕ) (table : List ℕ) → take (length (excludedRows count table)) (drop 0 table) ≡ excludedRows count table
 unfolding excludedRows

@@ -16,10 +16,10 @@ ghost use Rattle.neighbor.specs.Listed.{UpdateLists};
 ghost use Rattle.neighbor.specs.Rebuild.{NeedsSays};
 ghost use Rattle.neighbor.specs.State.{NewSays, RadiusSays, sinceOf};
 ghost use Rattle.neighbor.specs.Update.{UpdateSays, given};
-ghost use mathlib.Core.Bool.{false, true};
+ghost use Rattle.neighbor.specs.declared.Question.the-variants.{NeedsRebuild, Unasked};
 ghost use mathlib.Core.Path.{_≡_};
 
-// A list with the given cutoff and skin: no pairs, references, checks, fallback, builds. Refusal 3.
+// A list with the given cutoff and skin: no pairs, references, checks, fallback, builds, and no cell that it was built in. Refusal 3.
 #[no_mangle]
 pub extern "C" fn tyn_new(cutoff: f64, skin: f64) -> FlatStateAnswer
     ensures { λ r. ⌜ Shown flatStateAnswer (NewSays cutoff skin) r ⌝ }
@@ -85,7 +85,7 @@ pub extern "C" fn tyn_build(
     starts: &mut [u32],
     items: &mut [u32],
 ) -> FlatUpdated
-    ensures { λ r. ⌜ (let i = given (stateOf s) (cellOf cell) (now (positions .entry)) (now (exclusions .entry)) (now (pairs .entry)) (now (references .entry)) (now (starts .entry)) (now (items .entry)) in Shown flatUpdated (λ a. UpdateSays false i a (now (pairs .exit)) (now (references .exit)) (now (starts .exit)) (now (items .exit)) × UpdateLists i a (now (pairs .exit))) r) ⌝ }
+    ensures { λ r. ⌜ (let i = given (stateOf s) (cellOf cell) (now (positions .entry)) (now (exclusions .entry)) (now (pairs .entry)) (now (references .entry)) (now (starts .entry)) (now (items .entry)) in Shown flatUpdated (λ a. UpdateSays Unasked i a (now (pairs .exit)) (now (references .exit)) (now (starts .exit)) (now (items .exit)) × UpdateLists i a (now (pairs .exit))) r) ⌝ }
 {
     give::updated(neighbor::build(
         take::state(s),
@@ -111,7 +111,7 @@ pub extern "C" fn tyn_maybe_build(
     starts: &mut [u32],
     items: &mut [u32],
 ) -> FlatUpdated
-    ensures { λ r. ⌜ (let i = given (stateOf s) (cellOf cell) (now (positions .entry)) (now (exclusions .entry)) (now (pairs .entry)) (now (references .entry)) (now (starts .entry)) (now (items .entry)) in Shown flatUpdated (λ a. UpdateSays true i a (now (pairs .exit)) (now (references .exit)) (now (starts .exit)) (now (items .exit)) × UpdateLists i a (now (pairs .exit))) r) ⌝ }
+    ensures { λ r. ⌜ (let i = given (stateOf s) (cellOf cell) (now (positions .entry)) (now (exclusions .entry)) (now (pairs .entry)) (now (references .entry)) (now (starts .entry)) (now (items .entry)) in Shown flatUpdated (λ a. UpdateSays NeedsRebuild i a (now (pairs .exit)) (now (references .exit)) (now (starts .exit)) (now (items .exit)) × UpdateLists i a (now (pairs .exit))) r) ⌝ }
 {
     give::updated(neighbor::maybe_build(
         take::state(s),

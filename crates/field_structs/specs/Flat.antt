@@ -14,6 +14,8 @@ use Rattle.answer.specs.declared.YesNo.the-variants as YesNo·cases
 use Rattle.answer.specs.declared.Whole.{Whole}
 use Rattle.answer.specs.declared.Whole.the-variants as Whole·cases
 use Rattle.cell.specs.declared.Lattice.{Lattice}
+use Rattle.cell.specs.declared.Cell.{Cell}
+use Rattle.cell.specs.declared.Cell.the-variants as Cell·cases
 use Rattle.cell.specs.declared.Vector.{Vector}
 use Rattle.cell.specs.declared.Vector.the-variants as Vector·cases
 use Rattle.cell.specs.declared.LatticeAnswer.{LatticeAnswer}
@@ -47,6 +49,7 @@ use Rattle.field_structs.specs.declared.FlatNumber.{FlatNumber}
 use Rattle.field_structs.specs.declared.FlatYesNo.{FlatYesNo}
 use Rattle.field_structs.specs.declared.FlatWhole.{FlatWhole}
 use Rattle.field_structs.specs.declared.FlatVector.{FlatVector}
+use Rattle.field_structs.specs.declared.FlatCell.{FlatCell}
 use Rattle.field_structs.specs.declared.FlatLattice.{FlatLattice}
 use Rattle.field_structs.specs.declared.FlatLatticeAnswer.{FlatLatticeAnswer}
 use Rattle.field_structs.specs.declared.FlatImageAnswer.{FlatImageAnswer}
@@ -107,6 +110,11 @@ flatLattice l = record { a = l .a; b = l .b; c = l .c; px = flag (l .px); py = f
 abbrev pub zeroLattice : FlatLattice
 zeroLattice = record { a = zeroVec; b = zeroVec; c = zeroVec; px = 0; py = 0; pz = 0 }
 
+-- no cell: not present, and zeros
+unfoldable pub flatCell : Cell → FlatCell
+flatCell Cell·cases.Absent = record { present = 0; lattice = zeroLattice }
+flatCell (Cell·cases.Present l) = record { present = 1; lattice = flatLattice l }
+
 unfoldable pub flatLatticeAnswer : LatticeAnswer → FlatLatticeAnswer
 flatLatticeAnswer (LatticeAnswer·cases.Answered l) = record { done = wellDone; lattice = flatLattice l }
 flatLatticeAnswer (LatticeAnswer·cases.Refused r) = record { done = flatRefusal r; lattice = zeroLattice }
@@ -139,10 +147,21 @@ flatState s =
       checks = s .checks;
       fallback = flag (s .fallback);
       builds = s .builds;
+      «built_in» = flatCell (s .«built_in»);
     }
 
 abbrev pub zeroState : FlatState
-zeroState = record { cutoff = bits 0; skin = bits 0; pairs = 0; references = 0; checks = 0; fallback = 0; builds = 0 }
+zeroState =
+    record {
+      cutoff = bits 0;
+      skin = bits 0;
+      pairs = 0;
+      references = 0;
+      checks = 0;
+      fallback = 0;
+      builds = 0;
+      «built_in» = record { present = 0; lattice = zeroLattice };
+    }
 
 unfoldable pub flatStateAnswer : StateAnswer → FlatStateAnswer
 flatStateAnswer (StateAnswer·cases.Answered s) = record { done = wellDone; state = flatState s }

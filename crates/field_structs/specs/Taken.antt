@@ -53,6 +53,7 @@ stateOf s =
       checks = s .checks;
       fallback = isSet (s .fallback);
       builds = s .builds;
+      «built_in» = cellOf (s .«built_in»);
     }
 
 unfoldable pub ljOf : FlatLj → Lj

@@ -1,6 +1,7 @@
 // The struct that an answer is handed over as.
 use crate::FlatBondAnswer;
 use crate::FlatBuilt;
+use crate::FlatCell;
 use crate::FlatDone;
 use crate::FlatEvaluated;
 use crate::FlatImageAnswer;
@@ -26,6 +27,7 @@ use answer::Number;
 use answer::Refusal;
 use answer::Whole;
 use answer::YesNo;
+use cell::Cell;
 use cell::Image;
 use cell::ImageAnswer;
 use cell::InverseAnswer;
@@ -49,7 +51,7 @@ use verlet_step::Stepped;
 use virial::Summed;
 ghost use mathlib.Core.Path.{_≡_};
 ghost use Rattle.cell.specs.Vec.{zeroVec};
-ghost use Rattle.field_structs.specs.Flat.{flag, wellDone, flatRefusal, flatDone, flatNumber, flatYesNo, flatWhole, flatVector, flatLattice, zeroLattice, flatLatticeAnswer, flatImage, flatRows, flatInverse, flatSummed, flatState, zeroState, flatStateAnswer, flatUpdated, flatBuilt, flatLj, zeroLj, flatLjAnswer, zeroBond, flatBondAnswer, flatEvaluated, flatStepped, flatJob, zeroJob, flatSheet};
+ghost use Rattle.field_structs.specs.Flat.{flag, wellDone, flatRefusal, flatDone, flatNumber, flatYesNo, flatWhole, flatVector, flatLattice, zeroLattice, flatCell, flatLatticeAnswer, flatImage, flatRows, flatInverse, flatSummed, flatState, zeroState, flatStateAnswer, flatUpdated, flatBuilt, flatLj, zeroLj, flatLjAnswer, zeroBond, flatBondAnswer, flatEvaluated, flatStepped, flatJob, zeroJob, flatSheet};
 
 // 1 where it is set.
 pub fn flag_of(b: bool) -> u32
@@ -267,9 +269,26 @@ pub fn summed(a: Summed) -> FlatSummed
 
 // ---- the pair list
 
+// A cell, or none: not present, and zeros.
+fn cell(cell: Cell) -> FlatCell
+    ensures { λ r. ⌜ r ≡ flatCell cell ⌝ }
+{
+    match cell {
+        Cell::Absent => FlatCell {
+            present: 0,
+            lattice: zero_lattice(),
+        },
+        Cell::Present(l) => FlatCell {
+            present: 1,
+            lattice: lattice(l),
+        },
+    }
+}
+
 pub fn state(s: State) -> FlatState
     ensures { λ r. ⌜ r ≡ flatState s ⌝ }
 {
+    let remembered = s.built_in;
     FlatState {
         cutoff: s.cutoff,
         skin: s.skin,
@@ -278,6 +297,7 @@ pub fn state(s: State) -> FlatState
         checks: s.checks,
         fallback: flag_of(s.fallback),
         builds: s.builds,
+        built_in: cell(remembered),
     }
 }
 
@@ -292,6 +312,10 @@ fn zero_state() -> FlatState
         checks: 0,
         fallback: 0,
         builds: 0,
+        built_in: FlatCell {
+            present: 0,
+            lattice: zero_lattice(),
+        },
     }
 }
 

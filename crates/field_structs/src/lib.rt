@@ -31,7 +31,8 @@ pub struct FlatCell {
     pub lattice: FlatLattice,
 }
 
-// The settings of a pair list and what it claims of the lent memory; fallback is a flag. What a call hands back goes into the next one.
+// The settings of a pair list and what it claims of the lent memory; fallback is a flag. built_in is the cell of its last answered build, not present where
+// there is none. What a call hands back goes into the next one.
 #[repr(C)]
 pub struct FlatState {
     pub cutoff: f64,
@@ -41,6 +42,7 @@ pub struct FlatState {
     pub checks: u32,
     pub fallback: u32,
     pub builds: u32,
+    pub built_in: FlatCell,
 }
 
 // Lennard-Jones numbers; epsilon and sigma are those of a species that the table lacks, shift is a flag.

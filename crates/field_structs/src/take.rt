@@ -55,6 +55,7 @@ pub fn cell(cell: FlatCell) -> Cell
 pub fn state(s: FlatState) -> State
     ensures { λ r. ⌜ r ≡ stateOf s ⌝ }
 {
+    let remembered = s.built_in;
     State {
         cutoff: s.cutoff,
         skin: s.skin,
@@ -63,6 +64,7 @@ pub fn state(s: FlatState) -> State
         checks: s.checks,
         fallback: s.fallback != 0,
         builds: s.builds,
+        built_in: cell(remembered),
     }
 }
 

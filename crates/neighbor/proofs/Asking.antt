@@ -34,7 +34,7 @@ use Rattle.exclusions.specs.Table.{isTable}
 use Rattle.neighbor.specs.declared.State.{State}
 use Rattle.neighbor.specs.State.{settingsOk, skinOf}
 use Rattle.neighbor.specs.Steps.{strayed}
-use Rattle.neighbor.specs.Rebuild.{allowance, needsOf, referencesOk, rangesOk, questionOf, needsSeen, strayedOf}
+use Rattle.neighbor.specs.Rebuild.{allowance, needsOf, sameBox, outdatedOf, claimsMore, referencesOk, rangesOk, questionOf, needsSeen, outdatedSeen, strayedOf}
 use Rattle.neighbor.specs.Update.{listedOf, firstOf, misnamed, keptAsked, tableAsked, andThen, listAsked}
 
 -- ---- a search of the numbers below n, one after the other: what is left decides
@@ -146,6 +146,16 @@ module _ (s : State) (cell : Cell) (xs refs : List Float) {b : Bool} (ib : b ≡
     unfolding needsOf
     needs-moved e ip q = rw (← ib, not-false b h, ← is, e) (q ∙ (λ i. some (λ k. moved-at ip k i) (upTo (length xs / 3))))
 
+-- ---- the second question
+module _ (s : State) (cell : Cell) (xs refs : List Float) {b : Bool} (ib : b ≡ sameBox (s .«built_in») cell) where
+  pub outdated-box : not b ≡ true → true ≡ outdatedOf s cell xs refs
+  unfolding outdatedOf
+  outdated-box h = rw (← ib, h)
+
+  pub outdated-moved : not b ≡ false → {r : Bool} → r ≡ needsOf s cell xs refs → r ≡ outdatedOf s cell xs refs
+  unfolding outdatedOf
+  outdated-moved h e = rw (← ib, h) e
+
 -- ---- what is lent is long enough where the tests have passed
 pub question-room : (s : State) (cell : Cell) (xs refs : List Float) → questionOf s cell xs refs ≡ Answered → length xs ≤ length refs
 unfolding questionOf
@@ -162,14 +172,43 @@ module _ (s : State) (cell : Cell) (xs refs : List Float) {d : Done} (is : d ≡
   unfolding needsSeen
   needs-answered e q = rw (← is, e, q)
 
--- ---- the listed part
-pub listed-none : (s : State) (pairs : List ℕ) → length pairs / 2 < s .pairs → [] ≡ listedOf s pairs
-unfolding listedOf
-listed-none s pairs h = rw (lt-ltb (length pairs / 2) (s .pairs) h)
+  pub outdated-refused : {r : Refusal} → d ≡ Refused r → refusedBy r ≡ outdatedSeen s cell xs refs (questionOf s cell xs refs)
+  unfolding outdatedSeen
+  outdated-refused e = rw (← is, e)
 
-pub listed-some : (s : State) (pairs : List ℕ) → s .pairs ≤ length pairs / 2 → take (2 * s .pairs) pairs ≡ listedOf s pairs
-unfolding listedOf
-listed-some s pairs h = rw (le-ltb (length pairs / 2) (s .pairs) h)
+  pub outdated-answered : d ≡ Answered → {b : Bool} → b ≡ outdatedOf s cell xs refs → answered b ≡ outdatedSeen s cell xs refs (questionOf s cell xs refs)
+  unfolding outdatedSeen
+  outdated-answered e q = rw (← is, e, q)
+
+-- ---- what a state claims
+module _ (remembered : Cell) (a b c d : ℕ) where
+  pub claims-told : claimsMore remembered a b c d ≡ false → (a ≤ b) × (c ≤ d) × (cellInRange remembered ≡ true)
+  unfolding claimsMore
+  claims-told e =
+      let p = or-neither (ltb b a || ltb d c) (not (cellInRange remembered)) e in
+      let q = or-neither (ltb b a) (ltb d c) (p .0) in
+      (ltb-false b a (q .0), ltb-false d c (q .1), not-false (cellInRange remembered) (p .1))
+
+  pub claims-made : a ≤ b → c ≤ d → cellInRange remembered ≡ true → claimsMore remembered a b c d ≡ false
+  unfolding claimsMore
+  claims-made h k r = rw (le-ltb b a h, le-ltb d c k, r)
+
+-- ---- the listed part
+module _ (s : State) (pairs : List ℕ) where
+  module _ {b : Bool} (is : b ≡ claimsMore (s .«built_in») (s .pairs) (length pairs / 2) 0 0) where
+    pub listed-none : b ≡ true → [] ≡ listedOf s pairs
+    unfolding listedOf
+    listed-none h = rw (← is, h)
+
+    pub listed-part : b ≡ false → take (2 * s .pairs) pairs ≡ listedOf s pairs
+    unfolding listedOf
+    listed-part h = rw (← is, h)
+
+    pub listed-room : b ≡ false → s .pairs ≤ length pairs / 2
+    listed-room h = claims-told (s .«built_in») (s .pairs) (length pairs / 2) 0 0 (sym is ∙ h) .0
+
+  pub listed-some : s .pairs ≤ length pairs / 2 → cellInRange (s .«built_in») ≡ true → take (2 * s .pairs) pairs ≡ listedOf s pairs
+  listed-some h r = listed-part refl (claims-made (s .«built_in») (s .pairs) (length pairs / 2) 0 0 h (omega arith) r)
 
 -- ---- the part that is tested
 pub first-all : (p : Float → Bool) (m : ℕ) (refs : List Float) {r : Bool} → length refs < m → r ≡ every p refs → r ≡ every p (take m refs)

@@ -1,7 +1,7 @@
 -- What an answered build lists, said of the exit memory: demand 3. Assumes nothing.
 use Prim.Native.Nat.{ℕ, _/_, _≤_, _<_}
 use mathlib.Core.Path.{_≡_, refl, sym, ap, _∙_}
-use mathlib.Core.Bool.{Bool, true, false, cond, not, _&&_, false≢true}
+use mathlib.Core.Bool.{Bool, true, false, cond, false≢true}
 use mathlib.Core.List.{List, List·Memᴰ·not-nil}
 use mathlib.Core.Logic.{⊎-elim}
 use native.Mathlib.Omega.{arith}
@@ -30,10 +30,10 @@ use Rattle.neighbor_grid.proofs.Layouts.{good-grid, placed}
 use Rattle.neighbor_listing.specs.declared.Listed.the-variants.{Found, Full, Crowded, Unfit}
 use Rattle.neighbor_listing.specs.Found.{nearOf, sceneOf, candidates, nearPairs, beside, checksOf}
 use Rattle.neighbor_listing.specs.Listed.{Outcome as Found·outcome, outcome, shownOf, runOf, unlisted, listingOf}
+use Rattle.neighbor.specs.declared.Question.{Question}
 use Rattle.neighbor.specs.declared.Updated.{Updated}
 use Rattle.neighbor.specs.State.{radiusOf, builtOf}
-use Rattle.neighbor.specs.Rebuild.{needsOf}
-use Rattle.neighbor.specs.Update.{Given, Outcome, stays, keptAll, builtAll, fullAll, listedAll, listedBy, rebuiltAll, unfit, updateOf, askedBy, afterOf, updatedOf, UpdateSays}
+use Rattle.neighbor.specs.Update.{Given, Outcome, stays, keptAll, builtAll, fullAll, listedAll, listedBy, rebuiltAll, unfit, keepsOf, updateOf, askedBy, afterOf, mayKeep, updatedOf, UpdateSays}
 use Rattle.neighbor.specs.Listed.{Listed, UpdateLists}
 
 -- ---- the listed pairs, of any frame
@@ -134,22 +134,22 @@ module _ (i : Given) where
       (λ e. few-lists i (ltb-true (atomsOf (i .positions)) 2 e))
       (λ _. list-lists)
 
-  pub update-lists : (question : Bool) → Says i (updateOf question i)
+  pub update-lists : (question : Question) → Says i (updateOf question i)
   unfolding updateOf keptAll
   update-lists question =
-      let asked = question && not (needsOf (i .state) (i .cell) (i .positions) (i .references)) in
+      let asked = keepsOf question (i .state) (i .cell) (i .positions) (i .references) in
       by-test (λ t. Says i (cond t (stays i Lengths) (cond asked (keptAll i) (rebuiltAll i)))) (unfit (length (i .positions)) (length (i .references))) (λ _ q. never q)
       (λ _. by-test (λ t. Says i (cond t (keptAll i) (rebuiltAll i))) asked (λ _ q. never q) (λ _. rebuilt-lists))
 
-  asked-lists : (question : Bool) (d : Done) → Says i (afterOf question i d)
+  asked-lists : (question : Question) (d : Done) → Says i (afterOf question i d)
   unfolding afterOf
   asked-lists question (Refused r) q = never q
   asked-lists question Answered q = update-lists question q
 
 -- DEMAND 3. What the outcome's equation says of an answered build.
-pub says-lists : (question : Bool) (i : Given) (r : Updated) (pairs : List ℕ) (references : List Float) (starts items : List ℕ) → UpdateSays question i r pairs references starts items → UpdateLists i r pairs
+pub says-lists : (question : Question) (i : Given) (r : Updated) (pairs : List ℕ) (references : List Float) (starts items : List ℕ) → UpdateSays question i r pairs references starts items → UpdateLists i r pairs
 unfolding updatedOf
 says-lists question i r pairs references starts items h q =
-    let o = afterOf question i (askedBy question i) in
+    let o = afterOf question i (askedBy (mayKeep question) i) in
     let rebuilt : o .rebuilt ≡ true = sym (ap (λ (z : Outcome). z .rebuilt) h) ∙ q in
-    rw (ap (λ (z : Outcome). z .pairs) h, ap (λ (z : Outcome). z .state) h) (asked-lists i question (askedBy question i) rebuilt)
+    rw (ap (λ (z : Outcome). z .pairs) h, ap (λ (z : Outcome). z .state) h) (asked-lists i question (askedBy (mayKeep question) i) rebuilt)

@@ -1,7 +1,6 @@
 -- No second answer and no second memory fits a public call's contract. Assumes nothing.
 use Prim.Native.Nat.{ℕ}
 use mathlib.Core.Path.{_≡_, refl, sym, ap, _∙_}
-use mathlib.Core.Bool.{Bool}
 use mathlib.Core.List.{List}
 use lib.Ieee.{Float}
 use Rattle.answer.specs.declared.Done.{Done}
@@ -9,12 +8,13 @@ use Rattle.answer.specs.declared.Number.{Number}
 use Rattle.answer.specs.declared.YesNo.{YesNo}
 use Rattle.answer.proofs.Only.{told-back, made, seen-only, done-only, number-only, yes-no-only}
 use Rattle.cell.specs.declared.Cell.{Cell}
+use Rattle.neighbor.specs.declared.Question.{Question}
 use Rattle.neighbor.specs.declared.State.{State}
 use Rattle.neighbor.specs.declared.StateAnswer.{StateAnswer}
 use Rattle.neighbor.specs.declared.StateAnswer.the-variants.{Answered, Refused}
 use Rattle.neighbor.specs.declared.Updated.{Updated}
 use Rattle.neighbor.specs.State.{seenState, NewSays, RadiusSays}
-use Rattle.neighbor.specs.Rebuild.{NeedsSays}
+use Rattle.neighbor.specs.Rebuild.{NeedsSays, OutdatedSays}
 use Rattle.neighbor.specs.Update.{Given, Outcome, shown, UpdateSays, ListedSays}
 
 state-made : (x : StateAnswer) → made Answered Refused seenState (seenState x) ≡ x
@@ -33,11 +33,14 @@ search-radius-only t r s p q = number-only r s (p ∙ sym q)
 pub needs-rebuild-only : (t : State) (cell : Cell) (xs refs : List Float) (r s : YesNo) → NeedsSays t cell xs refs r → NeedsSays t cell xs refs s → r ≡ s
 needs-rebuild-only t cell xs refs r s p q = yes-no-only r s (p ∙ sym q)
 
+pub outdated-only : (t : State) (cell : Cell) (xs refs : List Float) (r s : YesNo) → OutdatedSays t cell xs refs r → OutdatedSays t cell xs refs s → r ≡ s
+outdated-only t cell xs refs r s p q = yes-no-only r s (p ∙ sym q)
+
 pub listed-asked-only : (t : State) (pairs : List ℕ) (r s : Done) → ListedSays t pairs r → ListedSays t pairs s → r ≡ s
 listed-asked-only t pairs r s p q = done-only r s (p ∙ sym q)
 
 -- `build` and `maybe_build`
-module _ (question : Bool) (i : Given) (r r′ : Updated) (pairs pairs′ : List ℕ) (references references′ : List Float) (starts starts′ items items′ : List ℕ)
+module _ (question : Question) (i : Given) (r r′ : Updated) (pairs pairs′ : List ℕ) (references references′ : List Float) (starts starts′ items items′ : List ℕ)
     (h : UpdateSays question i r pairs references starts items) (k : UpdateSays question i r′ pairs′ references′ starts′ items′) where
   same : shown r pairs references starts items ≡ shown r′ pairs′ references′ starts′ items′
   same = h ∙ sym k

@@ -1,7 +1,7 @@
 -- What passed tests show, test by test; and that after them a build is the Rust's own, with no case of which nothing is made. Assumes nothing.
 use Prim.Native.Nat.{ℕ, _/_, _%_}
 use mathlib.Core.Path.{_≡_, refl}
-use mathlib.Core.Bool.{Bool, true, false, cond, not, _&&_, _||_}
+use mathlib.Core.Bool.{Bool, true, false, cond, not, _||_}
 use mathlib.Core.Logic.{_⊎_, inl, inr}
 use mathlib.Core.List.{List}
 use lib.ListN.{length}
@@ -25,10 +25,11 @@ use Rattle.neighbor_grid.specs.Layout.{unfitOf, startsLaid, itemsLaid}
 use Rattle.neighbor_listing.specs.declared.Listed.the-variants.{Found, Full, Crowded}
 use Rattle.neighbor_listing.specs.Found.{nearPairs, checksOf}
 use Rattle.neighbor_listing.specs.Listed as Listing
+use Rattle.neighbor.specs.declared.Question.{Question}
 use Rattle.neighbor.specs.declared.State.{State}
 use Rattle.neighbor.specs.State.{radiusOf}
-use Rattle.neighbor.specs.Rebuild.{needsOf, claimsMore, rangesOk}
-use Rattle.neighbor.specs.Update.{Given, Outcome, keptAll, builtAll, fullAll, listedAll, listedBy, rebuiltAll, unfit, updateOf, lengthsBad, firstOf, tableAsked, andThen, listAsked, askedBy, afterOf, updatedOf}
+use Rattle.neighbor.specs.Rebuild.{claimsMore, rangesOk}
+use Rattle.neighbor.specs.Update.{Given, Outcome, keptAll, builtAll, fullAll, listedAll, listedBy, rebuiltAll, unfit, keepsOf, updateOf, lengthsBad, firstOf, tableAsked, andThen, listAsked, askedBy, afterOf, mayKeep, updatedOf}
 use Rattle.neighbor.specs.Source.{UpdatesBySource}
 
 -- ---- tests in turn
@@ -42,12 +43,12 @@ both-passed Answered b e = (refl, e)
 both-passed (Refused r) b e = impossible (cc)
 
 pub first-told : (s : State) (cell : Cell) (xs : List Float) (table pairs refs items : ℕ) → firstOf s cell xs table pairs refs items ≡ Answered
-    → (lengthsBad (length xs) table refs items ≡ false) × (ltb 16384 (atomsOf xs) ≡ false) × (claimsMore (s .pairs) (pairs / 2) (s .references) (refs / 3) ≡ false) × (rangesOk s cell xs ≡ true)
+    → (lengthsBad (length xs) table refs items ≡ false) × (ltb 16384 (atomsOf xs) ≡ false) × (claimsMore (s .«built_in») (s .pairs) (pairs / 2) (s .references) (refs / 3) ≡ false) × (rangesOk s cell xs ≡ true)
 unfolding firstOf
 first-told s cell xs table pairs refs items e =
     let p = pass (lengthsBad (length xs) table refs items) Lengths _ e in
     let q = pass (ltb 16384 (atomsOf xs)) (TooMany (atomsOf xs)) _ (p .1) in
-    let r = pass (claimsMore (s .pairs) (pairs / 2) (s .references) (refs / 3)) Claims _ (q .1) in
+    let r = pass (claimsMore (s .«built_in») (s .pairs) (pairs / 2) (s .references) (refs / 3)) Claims _ (q .1) in
     let u = pass (not (rangesOk s cell xs)) Range _ (r .1) in
     (p .0, q .0, r .0, not-false (rangesOk s cell xs) (u .0))
 
@@ -121,7 +122,7 @@ module _ (i : Given) where
         (λ _. list-ends)
 
 -- ---- the calls
-module _ (question : Bool) (i : Given) (e : askedBy question i ≡ Answered) where
+module _ (question : Question) (i : Given) (e : askedBy (mayKeep question) i ≡ Answered) where
   first : firstOf (i .state) (i .cell) (i .positions) (length (i .exclusions)) (length (i .pairs)) (length (i .references)) (length (i .items)) ≡ Answered
   unfolding listAsked
   first = both-passed _ _ e .0
@@ -134,7 +135,7 @@ module _ (question : Bool) (i : Given) (e : askedBy question i ≡ Answered) whe
   able = let f = first-told _ _ _ _ _ _ _ first in build-able i (f .0) (f .1) table
 
   abbrev keeps : Bool
-  keeps = question && not (needsOf (i .state) (i .cell) (i .positions) (i .references))
+  keeps = keepsOf question (i .state) (i .cell) (i .positions) (i .references)
 
   updates : updatedOf question i ≡ cond keeps (keptAll i) (rebuiltAll i)
   unfolding updatedOf afterOf updateOf
@@ -144,5 +145,5 @@ module _ (question : Bool) (i : Given) (e : askedBy question i ≡ Answered) whe
   unfolding keptAll
   ends = by-test (λ t. Ends i (cond t (keptAll i) (rebuiltAll i))) keeps (λ _ n p h. impossible (cc)) (λ _. rebuilt-ends i able)
 
-pub by-source : (question : Bool) (i : Given) → UpdatesBySource question i
+pub by-source : (question : Question) (i : Given) → UpdatesBySource question i
 by-source question i e = record { updates = updates question i e; lists = lists i (able question i e); refuses = rw (updates question i e) (ends question i e) }

@@ -1,7 +1,7 @@
 -- The outcome of a build and of the calls by their cases, as the code takes them. Assumes nothing.
 use Prim.Native.Nat.{ℕ, _/_, _≤_, _<_}
 use mathlib.Core.Path.{_≡_, sym, _∙_}
-use mathlib.Core.Bool.{Bool, true, false, not, _&&_}
+use mathlib.Core.Bool.{Bool, true, false}
 use mathlib.Core.List.{List}
 use lib.ListN.{length}
 use lib.Dec.{ltb}
@@ -17,26 +17,27 @@ use Rattle.lists.proofs.Cases.{or-neither}
 use Rattle.neighbor_listing.specs.declared.Listed.{Listed}
 use Rattle.neighbor_listing.specs.declared.Listed.the-variants.{Found, Full, Crowded, Unfit}
 use Rattle.neighbor_listing.specs.Listed.{outcome, listingOf}
+use Rattle.cell.specs.declared.Cell.{Cell}
+use Rattle.neighbor.specs.declared.Question.{Question}
 use Rattle.neighbor.specs.declared.State.{State}
 use Rattle.neighbor.specs.declared.Updated.{Updated}
 use Rattle.neighbor.specs.State.{radiusOf, keptOf, builtOf, emptiedOf}
-use Rattle.neighbor.specs.Rebuild.{needsOf}
-use Rattle.neighbor.specs.Update.{Given, Outcome, shown, keptAll, builtAll, fullAll, listedAll, rebuiltAll, unfit, updateOf, askedBy, afterOf, updatedOf}
+use Rattle.neighbor.specs.Update.{Given, Outcome, shown, keptAll, builtAll, fullAll, listedAll, rebuiltAll, unfit, keepsOf, updateOf, askedBy, afterOf, mayKeep, updatedOf}
 
 -- the references after a build
 abbrev pub referred : Given → List Float
 referred i = partAt (λ k _. at (i .positions) k) (length (i .positions)) (i .references)
 
 -- what a build answers where it is answered, and where it is not
-abbrev pub answeredBy : State → ℕ → ℕ → ℕ → Bool → Updated
-answeredBy s n count checks fallback = record { done = Answered; rebuilt = true; state = builtOf s n count checks fallback }
+abbrev pub answeredBy : State → Cell → ℕ → ℕ → ℕ → Bool → Updated
+answeredBy s cell n count checks fallback = record { done = Answered; rebuilt = true; state = builtOf s cell n count checks fallback }
 
 abbrev pub refusedBy : State → Refusal → Updated
 refusedBy s r = record { done = Refused r; rebuilt = false; state = s }
 
 -- ---- a build
 module _ (i : Given) where
-  pub rebuilt-few : length (i .positions) / 3 < 2 → {r : Updated} {refs : List Float} → r ≡ answeredBy (i .state) (length (i .positions) / 3) 0 0 false → refs ≡ referred i
+  pub rebuilt-few : length (i .positions) / 3 < 2 → {r : Updated} {refs : List Float} → r ≡ answeredBy (i .state) (i .cell) (length (i .positions) / 3) 0 0 false → refs ≡ referred i
       → shown r (i .pairs) refs (i .starts) (i .items) ≡ rebuiltAll i
   unfolding rebuiltAll builtAll
   rebuilt-few h e q = rw (lt-ltb (length (i .positions) / 3) 2 h, e, q)
@@ -44,7 +45,7 @@ module _ (i : Given) where
   module _ (many : 2 ≤ length (i .positions) / 3) {found : Listed} {radius : Float} (er : radius ≡ radiusOf (i .state)) {p s t : List ℕ}
       (is : outcome found p s t ≡ listingOf (i .cell) radius (i .positions) (i .exclusions) (i .pairs) (i .starts) (i .items)) where
     pub rebuilt-found : {count checks : ℕ} {fallback : Bool} → found ≡ Found count checks fallback → {r : Updated} {refs : List Float}
-        → r ≡ answeredBy (i .state) (length (i .positions) / 3) count checks fallback → refs ≡ referred i → shown r p refs s t ≡ rebuiltAll i
+        → r ≡ answeredBy (i .state) (i .cell) (length (i .positions) / 3) count checks fallback → refs ≡ referred i → shown r p refs s t ≡ rebuiltAll i
     unfolding rebuiltAll listedAll builtAll
     rebuilt-found f e q = rw (le-ltb (length (i .positions) / 3) 2 many, ← er, ← is, f, e, q)
 
@@ -61,7 +62,7 @@ module _ (i : Given) where
     rebuilt-unfit f e = rw (le-ltb (length (i .positions) / 3) 2 many, ← er, ← is, f, e)
 
 -- ---- the list brought up to date
-module _ (question : Bool) (i : Given) {u : Bool} (iu : u ≡ unfit (length (i .positions)) (length (i .references))) where
+module _ (question : Question) (i : Given) {u : Bool} (iu : u ≡ unfit (length (i .positions)) (length (i .references))) where
   pub update-unfit : u ≡ true → {r : Updated} → r ≡ refusedBy (i .state) Lengths → shown r (i .pairs) (i .references) (i .starts) (i .items) ≡ updateOf question i
   unfolding updateOf
   update-unfit h e = rw (← iu, h, e)
@@ -77,17 +78,17 @@ module _ (question : Bool) (i : Given) {u : Bool} (iu : u ≡ unfit (length (i .
     pub update-few : length (i .positions) / 3 ≤ 16384
     update-few = ltb-false 16384 (length (i .positions) / 3) (fit .1)
 
-    pub update-kept : {q : Bool} → q ≡ question && not (needsOf (i .state) (i .cell) (i .positions) (i .references)) → q ≡ true → {s : State} → s ≡ keptOf (i .state)
+    pub update-kept : {q : Bool} → q ≡ keepsOf question (i .state) (i .cell) (i .positions) (i .references) → q ≡ true → {s : State} → s ≡ keptOf (i .state)
         → shown (record { done = Answered; rebuilt = false; state = s }) (i .pairs) (i .references) (i .starts) (i .items) ≡ updateOf question i
     unfolding updateOf keptAll
     update-kept iq k e = rw (← iu, h, ← iq, k, e)
 
-    pub update-built : {q : Bool} → q ≡ question && not (needsOf (i .state) (i .cell) (i .positions) (i .references)) → q ≡ false → {o : Outcome} → o ≡ rebuiltAll i → o ≡ updateOf question i
+    pub update-built : {q : Bool} → q ≡ keepsOf question (i .state) (i .cell) (i .positions) (i .references) → q ≡ false → {o : Outcome} → o ≡ rebuiltAll i → o ≡ updateOf question i
     unfolding updateOf
     update-built iq k e = rw (← iu, h, ← iq, k) e
 
 -- ---- the calls
-module _ (question : Bool) (i : Given) {d : Done} (is : d ≡ askedBy question i) where
+module _ (question : Question) (i : Given) {d : Done} (is : d ≡ askedBy (mayKeep question) i) where
   pub updated-refused : {why : Refusal} → d ≡ Refused why → {r : Updated} → r ≡ refusedBy (i .state) why → shown r (i .pairs) (i .references) (i .starts) (i .items) ≡ updatedOf question i
   unfolding updatedOf afterOf
   updated-refused h e = rw (← is, h, e)

@@ -2,5 +2,6 @@ pub mod State
 pub mod Rebuild
 pub mod Update
 pub mod Listed
+pub mod Box
 pub mod Steps
 pub mod Source

@@ -2,7 +2,7 @@
 -- Definitions only.
 use Prim.Native.Nat.{ℕ}
 use mathlib.Core.Path.{_≡_}
-use mathlib.Core.Bool.{Bool, true, false, cond, not, _&&_}
+use mathlib.Core.Bool.{true, false, cond}
 use mathlib.Core.Logic.{_⊎_}
 use lib.ListN.{length}
 use Rattle.answer.specs.declared.Done.the-variants.{Answered}
@@ -12,13 +12,13 @@ use Rattle.neighbor_grid.specs.Layout.{startsLaid, itemsLaid}
 use Rattle.neighbor_listing.specs.declared.Listed.the-variants.{Crowded}
 use Rattle.neighbor_listing.specs.Found.{nearPairs}
 use Rattle.neighbor_listing.specs.Listed as List·specs
+use Rattle.neighbor.specs.declared.Question.{Question}
 use Rattle.neighbor.specs.State.{radiusOf}
-use Rattle.neighbor.specs.Rebuild.{needsOf}
-use Rattle.neighbor.specs.Update.{Given, keptAll, rebuiltAll, askedBy, updatedOf}
+use Rattle.neighbor.specs.Update.{Given, keptAll, rebuiltAll, keepsOf, askedBy, mayKeep, updatedOf}
 
-pub record SourceUpdate (question : Bool) (i : Given) : Type 0 where
-  -- lines 149 to 154 (`maybe_build`); without the question `build`
-  pub updates : updatedOf question i ≡ cond (question && not (needsOf (i .state) (i .cell) (i .positions) (i .references))) (keptAll i) (rebuiltAll i)
+pub record SourceUpdate (question : Question) (i : Given) : Type 0 where
+  -- lines 149 to 154 (`maybe_build`); without a question `build`
+  pub updates : updatedOf question i ≡ cond (keepsOf question (i .state) (i .cell) (i .positions) (i .references)) (keptAll i) (rebuiltAll i)
   -- lines 173 to 182: all pairs, or a grid; 7 where it has too many cells
   pub lists : List·specs.listingOf (i .cell) (radiusOf (i .state)) (i .positions) (i .exclusions) (i .pairs) (i .starts) (i .items)
       ≡ cond (plainOf (i .cell) (radiusOf (i .state)) (i .positions))
@@ -33,5 +33,5 @@ pub record SourceUpdate (question : Bool) (i : Given) : Type 0 where
   pub refuses : (n p : ℕ) → updatedOf question i .answer ≡ refused n p
       → ((n ≡ 7) × (p ≡ 0)) ⊎ ((n ≡ 8) × (p ≡ length (nearPairs (i .cell) (radiusOf (i .state)) (i .positions) (i .exclusions))))
 
-abbrev pub UpdatesBySource : Bool → Given → Type 0
-UpdatesBySource question i = askedBy question i ≡ Answered → SourceUpdate question i
+abbrev pub UpdatesBySource : Question → Given → Type 0
+UpdatesBySource question i = askedBy (mayKeep question) i ≡ Answered → SourceUpdate question i

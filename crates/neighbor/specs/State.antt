@@ -8,6 +8,8 @@ use Rattle.float.specs.Arith.{_⊕_, bits}
 use Rattle.float.specs.Def.{maxOf}
 use Rattle.ranges.specs.Ranged.{within, between}
 use Rattle.cell.specs.Ranged.{entryLimit}
+use Rattle.cell.specs.declared.Cell.{Cell}
+use Rattle.cell.specs.declared.Cell.the-variants as Cell·cases
 use Rattle.answer.specs.Seen.{Seen, answered, refused, refusedBy, seenNumber}
 use Rattle.answer.specs.declared.Number.{Number}
 use Rattle.neighbor.specs.declared.State.{State}
@@ -21,7 +23,16 @@ settingsOk cutoff skin = between (bits 0) entryLimit cutoff && within entryLimit
 -- `new`: "a negative one becoming 0" (63-69)
 unfoldable pub freshOf : Float → Float → State
 freshOf cutoff skin =
-    record { cutoff = cutoff; skin = maxOf skin (bits 0); pairs = 0; references = 0; checks = 0; fallback = false; builds = 0 }
+    record {
+      cutoff = cutoff;
+      skin = maxOf skin (bits 0);
+      pairs = 0;
+      references = 0;
+      checks = 0;
+      fallback = false;
+      builds = 0;
+      «built_in» = Cell·cases.Absent;
+    }
 
 -- every call reads the skin so
 unfoldable pub skinOf : State → Float
@@ -42,11 +53,12 @@ keptOf s =
       checks = s .checks;
       fallback = s .fallback;
       builds = s .builds;
+      «built_in» = s .«built_in»;
     }
 
--- after an answered build: "comes round to zero after 2^32 - 1"
-unfoldable pub builtOf : State → ℕ → ℕ → ℕ → Bool → State
-builtOf s atoms pairs checks fallback =
+-- after an answered build: "comes round to zero after 2^32 - 1"; 02, No. 6: "remember the nine cell numbers and three flags, or none, of its last answered build"
+unfoldable pub builtOf : State → Cell → ℕ → ℕ → ℕ → Bool → State
+builtOf s cell atoms pairs checks fallback =
     record {
       cutoff = s .cutoff;
       skin = skinOf s;
@@ -55,12 +67,22 @@ builtOf s atoms pairs checks fallback =
       checks = checks;
       fallback = fallback;
       builds = (s .builds + 1) % 4294967296;
+      «built_in» = cell;
     }
 
--- after an 8: "no pairs, no references, no checks, no fallback and the old build count"
+-- after an 8: "no pairs, no references, no checks, no fallback and the old build count"; 02, No. 6: "An 8 from a build leaves no remembered cell"
 unfoldable pub emptiedOf : State → State
 emptiedOf s =
-    record { cutoff = s .cutoff; skin = skinOf s; pairs = 0; references = 0; checks = 0; fallback = false; builds = s .builds }
+    record {
+      cutoff = s .cutoff;
+      skin = skinOf s;
+      pairs = 0;
+      references = 0;
+      checks = 0;
+      fallback = false;
+      builds = s .builds;
+      «built_in» = Cell·cases.Absent;
+    }
 
 -- "the span since an earlier reading is a wrapped difference"
 unfoldable pub sinceOf : State → ℕ → ℕ

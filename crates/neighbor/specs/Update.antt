@@ -22,10 +22,12 @@ use Rattle.exclusions.specs.Table.{isTable}
 use Rattle.neighbor_listing.specs.declared.Listed.{Listed}
 use Rattle.neighbor_listing.specs.declared.Listed.the-variants as Listed·cases
 use Rattle.neighbor_listing.specs.Listed as List·specs
+use Rattle.neighbor.specs.declared.Question.{Question}
+use Rattle.neighbor.specs.declared.Question.the-variants as Question·cases
 use Rattle.neighbor.specs.declared.State.{State}
 use Rattle.neighbor.specs.declared.Updated.{Updated}
 use Rattle.neighbor.specs.State.{radiusOf, keptOf, builtOf, emptiedOf}
-use Rattle.neighbor.specs.Rebuild.{needsOf, claimsMore, referencesOk, rangesOk, inOrder}
+use Rattle.neighbor.specs.Rebuild.{needsOf, outdatedOf, claimsMore, referencesOk, rangesOk, inOrder}
 
 -- everything that a build is given; the last four are lent to be written
 pub record Given : Type 0 where
@@ -96,7 +98,7 @@ builtAll i count checks fallback pairs starts items =
     record {
       answer = answered tt;
       rebuilt = true;
-      state = builtOf (i .state) (atomsOf (i .positions)) count checks fallback;
+      state = builtOf (i .state) (i .cell) (atomsOf (i .positions)) count checks fallback;
       pairs = pairs;
       references = partAt (λ k _. at (i .positions) k) (length (i .positions)) (i .references);
       starts = starts;
@@ -137,11 +139,17 @@ rebuiltAll i =
 unfoldable pub unfit : ℕ → ℕ → Bool
 unfit positions references = ltb references positions || ltb mostAtoms (positions / 3)
 
--- The list brought up to date, after the tests: with the question (neighbor.rs, `maybe_build`) or without it (`build`)
-unfoldable pub updateOf : Bool → Given → Outcome
+-- whether the list is kept: a question was asked, and its answer was no
+unfoldable pub keepsOf : Question → State → Cell → List Float → List Float → Bool
+keepsOf Question·cases.Unasked s cell xs refs = false
+keepsOf Question·cases.NeedsRebuild s cell xs refs = not (needsOf s cell xs refs)
+keepsOf Question·cases.Outdated s cell xs refs = not (outdatedOf s cell xs refs)
+
+-- The list brought up to date, after the tests: without a question (neighbor.rs, `build`), with the Rust's (`maybe_build`), or with the second one (the evaluator)
+unfoldable pub updateOf : Question → Given → Outcome
 updateOf question i =
     cond (unfit (length (i .positions)) (length (i .references))) (stays i Lengths)
-    (cond (question && not (needsOf (i .state) (i .cell) (i .positions) (i .references))) (keptAll i) (rebuiltAll i))
+    (cond (keepsOf question (i .state) (i .cell) (i .positions) (i .references)) (keptAll i) (rebuiltAll i))
 
 -- ---- the tests
 -- 1: "positions no multiple of 3; exclusions half a row; references shorter than 3n; items shorter than n"
@@ -149,15 +157,15 @@ unfoldable pub lengthsBad : ℕ → ℕ → ℕ → ℕ → Bool
 lengthsBad positions exclusions references items =
     not (eqb (positions % 3) 0) || not (eqb (exclusions % 2) 0) || ltb references positions || ltb items (positions / 3)
 
--- `listed`: the pairs that the state claims, none where it claims more than are lent
+-- `listed`: the pairs that the state claims, none where it is refused (6)
 unfoldable pub listedOf : State → List ℕ → List ℕ
-listedOf s pairs = cond (ltb (length pairs / 2) (s .pairs)) [] (take (2 * s .pairs) pairs)
+listedOf s pairs = cond (claimsMore (s .«built_in») (s .pairs) (length pairs / 2) 0 0) [] (take (2 * s .pairs) pairs)
 
 -- 1, 2, 6, 3 of every build; `table`, `pairs`, `refs` and `items` are lengths
 unfoldable pub firstOf : State → Cell → List Float → ℕ → ℕ → ℕ → ℕ → Done
 firstOf s cell xs table pairs refs items =
     inOrder (lengthsBad (length xs) table refs items) (ltb mostAtoms (atomsOf xs)) (atomsOf xs)
-    (claimsMore (s .pairs) (pairs / 2) (s .references) (refs / 3))
+    (claimsMore (s .«built_in») (s .pairs) (pairs / 2) (s .references) (refs / 3))
     (not (rangesOk s cell xs))
 
 -- 4: an old listed pair names an atom not there, "only where the state's references equal n"
@@ -189,12 +197,18 @@ abbrev pub askedBy : Bool → Given → Done
 askedBy may i = listAsked may (i .state) (i .cell) (i .positions) (i .exclusions) (i .pairs) (i .references) (length (i .items))
 
 -- ---- the calls
-unfoldable pub afterOf : Bool → Given → Done → Outcome
+unfoldable pub afterOf : Question → Given → Done → Outcome
 afterOf question i (Done·cases.Refused r) = stays i r
 afterOf question i Done·cases.Answered = updateOf question i
 
-unfoldable pub updatedOf : Bool → Given → Outcome
-updatedOf question i = afterOf question i (askedBy question i)
+-- the list may be kept where a question is asked
+abbrev pub mayKeep : Question → Bool
+mayKeep Question·cases.Unasked = false
+mayKeep Question·cases.NeedsRebuild = true
+mayKeep Question·cases.Outdated = true
+
+unfoldable pub updatedOf : Question → Given → Outcome
+updatedOf question i = afterOf question i (askedBy (mayKeep question) i)
 
 abbrev pub shown : Updated → List ℕ → List Float → List ℕ → List ℕ → Outcome
 shown r pairs references starts items =
@@ -208,13 +222,13 @@ shown r pairs references starts items =
       items = items;
     }
 
--- The contract of `build` (no question) and of `maybe_build`: what the answer shows, and what everything lent holds at exit.
-abbrev pub UpdateSays : Bool → Given → Updated → List ℕ → List Float → List ℕ → List ℕ → Type 0
+-- The contract of `build` (no question) and of `maybe_build` (the Rust's): what the answer shows, and what everything lent holds at exit.
+abbrev pub UpdateSays : Question → Given → Updated → List ℕ → List Float → List ℕ → List ℕ → Type 0
 UpdateSays question i r pairs references starts items = shown r pairs references starts items ≡ updatedOf question i
 
 -- `listed_asked`
 unfoldable pub listedSeen : State → List ℕ → Seen (Unit {0})
-listedSeen s pairs = cond (ltb (length pairs / 2) (s .pairs)) (refusedBy Claims) (answered tt)
+listedSeen s pairs = cond (claimsMore (s .«built_in») (s .pairs) (length pairs / 2) 0 0) (refusedBy Claims) (answered tt)
 
 abbrev pub ListedSays : State → List ℕ → Done → Type 0
 ListedSays s pairs r = seenDone r ≡ listedSeen s pairs

@@ -32,10 +32,16 @@ fn lengths_bad(positions: usize, exclusions: usize, references: usize, items: us
         | (items < positions / 3)
 }
 
-fn claims_more(pairs: u32, rows: usize, references: u32, spots: usize) -> bool
-    ensures { λ r. ⌜ r ≡ claimsMore pairs rows references spots ⌝ }
+pub(crate) fn claims_more(
+    remembered: Cell,
+    pairs: u32,
+    rows: usize,
+    references: u32,
+    spots: usize,
+) -> bool
+    ensures { λ r. ⌜ r ≡ claimsMore remembered pairs rows references spots ⌝ }
 {
-    (rows < pairs as usize) | (spots < references as usize)
+    (rows < pairs as usize) | (spots < references as usize) | !ranged::cell_in_range(remembered)
 }
 
 fn ranges_ok(s: State, cell: Cell, xs: &[f64]) -> bool
@@ -93,12 +99,13 @@ fn in_order(lengths: bool, many: bool, atoms: usize, claims: bool, range: bool) 
     Done::Answered
 }
 
-// Refusals 1, 2, 6, 3 of `needs_rebuild`.
+// Refusals 1, 2, 6, 3 of `needs_rebuild` and `outdated`.
 pub(crate) fn question(s: State, cell: Cell, xs: &[f64], refs: &[f64]) -> Done
     ensures { λ r. ⌜ r ≡ questionOf s cell (now (xs .entry)) (now (refs .entry)) ⌝ }
 {
     let n = xs.len() / 3;
-    let claims = claims_more(0, 0, s.references, refs.len() / 3);
+    let remembered = s.built_in;
+    let claims = claims_more(remembered, 0, 0, s.references, refs.len() / 3);
     let inside = ranges_ok(s, cell, xs) & references_ok(s, n, refs);
     in_order(
         (xs.len() % 3 != 0) | (refs.len() < xs.len()),
@@ -123,7 +130,8 @@ pub fn asked_first(
 {
     let n = xs.len() / 3;
     let lengths = lengths_bad(xs.len(), table, refs, items);
-    let claims = claims_more(s.pairs, pairs / 2, s.references, refs / 3);
+    let remembered = s.built_in;
+    let claims = claims_more(remembered, s.pairs, pairs / 2, s.references, refs / 3);
     let inside = ranges_ok(s, cell, xs);
     in_order(lengths, 16384 < n, n, claims, !inside)
 }

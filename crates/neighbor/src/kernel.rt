@@ -1,4 +1,5 @@
 // The list brought up to date without tests, for the crates above. No public call: what does not fit is answered 1 with everything as it came.
+use crate::Question;
 use crate::State;
 use crate::Updated;
 use crate::rebuild;
@@ -10,17 +11,17 @@ use neighbor_listing::Listed;
 ghost use mathlib.Core.Path.{_≡_};
 ghost use Prim.Native.Nat.{_/_, _≤_};
 ghost use lib.ListN.{length};
-ghost use mathlib.Core.Bool.{true, not, _&&_};
-ghost use Rattle.neighbor.specs.Rebuild.{needsOf};
+ghost use mathlib.Core.Bool.{true};
 ghost use Rattle.answer.specs.declared.Done.the-variants.{Answered};
 ghost use Rattle.float.specs.Arith.{at};
 ghost use Rattle.lists.specs.Loops.{partAt};
 ghost use Rattle.neighbor.specs.State.{builtOf};
-ghost use Rattle.neighbor.specs.Update.{given, shown, unfit, rebuiltAll, updateOf};
+ghost use Rattle.neighbor.specs.Update.{given, shown, unfit, keepsOf, rebuiltAll, updateOf};
 
 // An answered build: the positions become the references.
 fn answer(
     s: State,
+    cell: Cell,
     xs: &[f64],
     refs: &mut [f64],
     pairs: u32,
@@ -28,7 +29,7 @@ fn answer(
     fallback: bool,
 ) -> Updated
     requires { ⌜ (length (now xs) ≤ length (now refs)) × (length (now xs) / 3 ≤ 16384) ⌝ }
-    ensures { λ r. ⌜ r ≡ record { done = Answered; rebuilt = true; state = builtOf s (length (now (xs .entry)) / 3) pairs checks fallback } ⌝ }
+    ensures { λ r. ⌜ r ≡ record { done = Answered; rebuilt = true; state = builtOf s cell (length (now (xs .entry)) / 3) pairs checks fallback } ⌝ }
     ensures { λ _. ⌜ now (refs .exit) ≡ partAt (λ k _. at (now (xs .entry)) k) (length (now (xs .entry))) (now (refs .entry)) ⌝ }
 {
     rebuild::refer(xs, refs);
@@ -36,7 +37,7 @@ fn answer(
     Updated {
         done: Done::Answered,
         rebuilt: true,
-        state: states::built(s, n, pairs, checks, fallback),
+        state: states::built(s, cell, n, pairs, checks, fallback),
     }
 }
 
@@ -55,7 +56,7 @@ fn build(
     ensures { λ r. ⌜ shown r (now (pairs .exit)) (now (refs .exit)) (now (starts .exit)) (now (items .exit)) ≡ rebuiltAll (given s cell (now (xs .entry)) (now (table .entry)) (now (pairs .entry)) (now (refs .entry)) (now (starts .entry)) (now (items .entry))) ⌝ }
 {
     if xs.len() / 3 < 2 {
-        return answer(s, xs, refs, 0, 0, false);
+        return answer(s, cell, xs, refs, 0, 0, false);
     }
     let found = neighbor_listing::list(cell, states::radius(s), xs, table, pairs, starts, items);
     match found {
@@ -63,7 +64,7 @@ fn build(
             pairs: count,
             checks,
             fallback,
-        } => answer(s, xs, refs, count, checks, fallback),
+        } => answer(s, cell, xs, refs, count, checks, fallback),
         Listed::Full { pairs: count } => states::full(s, count),
         Listed::Crowded => states::refused(s, Refusal::Cells),
         Listed::Unfit => states::refused(s, Refusal::Lengths),
@@ -76,20 +77,21 @@ fn is_unfit(xs: usize, refs: usize) -> bool
     (refs < xs) | (16384 < xs / 3)
 }
 
-// Whether the question is asked and the list need not be built anew.
-fn is_kept(question: bool, s: State, cell: Cell, xs: &[f64], refs: &[f64]) -> bool
+// Whether a question is asked and the list need not be built anew.
+fn is_kept(question: Question, s: State, cell: Cell, xs: &[f64], refs: &[f64]) -> bool
     requires { ⌜ length (now xs) ≤ length (now refs) ⌝ }
-    ensures { λ r. ⌜ r ≡ question && not (needsOf s cell (now (xs .entry)) (now (refs .entry))) ⌝ }
+    ensures { λ r. ⌜ r ≡ keepsOf question s cell (now (xs .entry)) (now (refs .entry)) ⌝ }
 {
-    if !question {
-        return false;
+    match question {
+        Question::Unasked => false,
+        Question::NeedsRebuild => !rebuild::needs(s, cell, xs, refs),
+        Question::Outdated => !rebuild::outdated(s, cell, xs, refs),
     }
-    !rebuild::needs(s, cell, xs, refs)
 }
 
-// The list brought up to date: with the question whether it must be built anew, or without it.
+// The list brought up to date: with a question whether it must be built anew, or without one.
 pub fn update(
-    question: bool,
+    question: Question,
     s: State,
     cell: Cell,
     positions: &[f64],

@@ -7,19 +7,21 @@ use answer::YesNo;
 use cell::Cell;
 
 pub mod asked;
+mod boxes;
 pub mod kernel;
 mod rebuild;
 mod states;
 
 ghost use mathlib.Core.Path.{_≡_};
-ghost use mathlib.Core.Bool.{true, false};
+ghost use Rattle.neighbor.specs.declared.Question.the-variants.{Unasked, NeedsRebuild};
 ghost use Rattle.neighbor.specs.State.{NewSays, RadiusSays, sinceOf};
-ghost use Rattle.neighbor.specs.Rebuild.{NeedsSays};
+ghost use Rattle.neighbor.specs.Rebuild.{NeedsSays, OutdatedSays};
 ghost use Rattle.neighbor.specs.Update.{given, UpdateSays, listedOf, ListedSays};
 ghost use Rattle.neighbor.specs.Listed.{UpdateLists};
 
 // The settings of a list and what it claims of the lent memory: the pairs and references that stand there, the distances that the last build evaluated,
-// whether it laid no grid, and how many builds there were. The counter comes round to zero.
+// whether it laid no grid, how many builds there were, and the cell of the last answered one, none where there is none and after pairs that did not fit. The
+// counter comes round to zero.
 pub struct State {
     pub cutoff: f64,
     pub skin: f64,
@@ -28,6 +30,15 @@ pub struct State {
     pub checks: u32,
     pub fallback: bool,
     pub builds: u32,
+    pub built_in: Cell,
+}
+
+// Which question is asked before a list is built: none, so that it is built (`build`); the Rust's (`maybe_build`); or also whether the cell is the one that it
+// was built in (the evaluator).
+pub enum Question {
+    Unasked,
+    NeedsRebuild,
+    Outdated,
 }
 
 pub enum StateAnswer {
@@ -80,6 +91,17 @@ pub fn needs_rebuild(s: State, cell: Cell, positions: &[f64], references: &[f64]
     YesNo::Answered(rebuild::needs(s, cell, positions, references))
 }
 
+// Whether the list must be built anew for these positions in this cell, also where the cell is not, bit for bit, the one that it was built in; refusals 1, 2, 6, 3.
+pub fn outdated(s: State, cell: Cell, positions: &[f64], references: &[f64]) -> YesNo
+    ensures { λ r. ⌜ OutdatedSays s cell (now (positions .entry)) (now (references .entry)) r ⌝ }
+{
+    let a = asked::question(s, cell, positions, references);
+    if let Done::Refused(why) = a {
+        return YesNo::Refused(why);
+    }
+    YesNo::Answered(rebuild::outdated(s, cell, positions, references))
+}
+
 // The list built anew; refusals 1, 2, 6, 3, 5, 7, 8.
 pub fn build(
     s: State,
@@ -91,7 +113,7 @@ pub fn build(
     starts: &mut [u32],
     items: &mut [u32],
 ) -> Updated
-    ensures says { λ r. ⌜ UpdateSays false (given s cell (now (positions .entry)) (now (exclusions .entry)) (now (pairs .entry)) (now (references .entry)) (now (starts .entry)) (now (items .entry))) r (now (pairs .exit)) (now (references .exit)) (now (starts .exit)) (now (items .exit)) ⌝ }
+    ensures says { λ r. ⌜ UpdateSays Unasked (given s cell (now (positions .entry)) (now (exclusions .entry)) (now (pairs .entry)) (now (references .entry)) (now (starts .entry)) (now (items .entry))) r (now (pairs .exit)) (now (references .exit)) (now (starts .exit)) (now (items .exit)) ⌝ }
     ensures lists { λ r. ⌜ UpdateLists (given s cell (now (positions .entry)) (now (exclusions .entry)) (now (pairs .entry)) (now (references .entry)) (now (starts .entry)) (now (items .entry))) r (now (pairs .exit)) ⌝ }
 {
     let a = asked::asked(
@@ -108,7 +130,7 @@ pub fn build(
         return states::refused(s, why);
     }
     kernel::update(
-        false,
+        Question::Unasked,
         s,
         cell,
         positions,
@@ -131,7 +153,7 @@ pub fn maybe_build(
     starts: &mut [u32],
     items: &mut [u32],
 ) -> Updated
-    ensures says { λ r. ⌜ UpdateSays true (given s cell (now (positions .entry)) (now (exclusions .entry)) (now (pairs .entry)) (now (references .entry)) (now (starts .entry)) (now (items .entry))) r (now (pairs .exit)) (now (references .exit)) (now (starts .exit)) (now (items .exit)) ⌝ }
+    ensures says { λ r. ⌜ UpdateSays NeedsRebuild (given s cell (now (positions .entry)) (now (exclusions .entry)) (now (pairs .entry)) (now (references .entry)) (now (starts .entry)) (now (items .entry))) r (now (pairs .exit)) (now (references .exit)) (now (starts .exit)) (now (items .exit)) ⌝ }
     ensures lists { λ r. ⌜ UpdateLists (given s cell (now (positions .entry)) (now (exclusions .entry)) (now (pairs .entry)) (now (references .entry)) (now (starts .entry)) (now (items .entry))) r (now (pairs .exit)) ⌝ }
 {
     let a = asked::asked(
@@ -148,7 +170,7 @@ pub fn maybe_build(
         return states::refused(s, why);
     }
     kernel::update(
-        true,
+        Question::NeedsRebuild,
         s,
         cell,
         positions,
@@ -164,19 +186,19 @@ pub fn maybe_build(
 pub fn listed<'a>(s: State, pairs: &'a [u32]) -> &'a [u32]
     ensures { λ r. ⌜ now r ≡ listedOf s (now (pairs .entry)) ⌝ }
 {
-    let count = s.pairs as usize;
-    if pairs.len() / 2 < count {
+    let remembered = s.built_in;
+    if asked::claims_more(remembered, s.pairs, pairs.len() / 2, 0, 0) {
         return &pairs[0..0];
     }
-    &pairs[..2 * count]
+    &pairs[..2 * (s.pairs as usize)]
 }
 
-// Refusal 6 where the state claims more pairs than are lent.
+// Refusal 6 where the state claims more pairs than are lent, or remembers a cell out of range.
 pub fn listed_asked(s: State, pairs: &[u32]) -> Done
     ensures { λ r. ⌜ ListedSays s (now (pairs .entry)) r ⌝ }
 {
-    let count = s.pairs as usize;
-    if pairs.len() / 2 < count {
+    let remembered = s.built_in;
+    if asked::claims_more(remembered, s.pairs, pairs.len() / 2, 0, 0) {
         return Done::Refused(Refusal::Claims);
     }
     Done::Answered

@@ -1,6 +1,7 @@
 // Whether a list must be built anew, and the references that a build leaves.
 use crate::State;
 use crate::asked;
+use crate::boxes;
 use crate::states;
 use cell::Cell;
 use cell::Vec3;
@@ -13,7 +14,7 @@ ghost use Rattle.cell.specs.Vec.{positionAt};
 ghost use Rattle.float.specs.Arith.{at};
 ghost use Rattle.lists.specs.Lists.{some, upTo};
 ghost use Rattle.lists.specs.Loops.{partAt};
-ghost use Rattle.neighbor.specs.Rebuild.{needsOf};
+ghost use Rattle.neighbor.specs.Rebuild.{needsOf, outdatedOf};
 ghost use Rattle.neighbor.specs.Steps.{strayed};
 
 fn spot_at(xs: &[f64], i: usize) -> Vec3
@@ -65,6 +66,18 @@ pub(crate) fn needs(s: State, cell: Cell, xs: &[f64], refs: &[f64]) -> bool
     }
     let limit = 0.5 * skin;
     some_far(cell_prepared::prepare(cell), limit * limit, xs, refs)
+}
+
+// `outdated` after its tests.
+pub(crate) fn outdated(s: State, cell: Cell, xs: &[f64], refs: &[f64]) -> bool
+    requires { ⌜ length (now xs) ≤ length (now refs) ⌝ }
+    ensures { λ r. ⌜ r ≡ outdatedOf s cell (now (xs .entry)) (now (refs .entry)) ⌝ }
+{
+    let remembered = s.built_in;
+    if !boxes::is_same(remembered, cell) {
+        return true;
+    }
+    needs(s, cell, xs, refs)
 }
 
 // The positions, into the references.

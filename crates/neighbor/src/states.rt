@@ -3,6 +3,7 @@ use crate::State;
 use crate::Updated;
 use answer::Done;
 use answer::Refusal;
+use cell::Cell;
 ghost use mathlib.Core.Path.{_≡_};
 ghost use mathlib.Core.Bool.{false};
 ghost use Rattle.answer.specs.declared.Done.the-variants.{Refused};
@@ -20,6 +21,7 @@ pub(crate) fn fresh(cutoff: f64, skin: f64) -> State
         checks: 0,
         fallback: false,
         builds: 0,
+        built_in: Cell::Absent,
     }
 }
 
@@ -44,8 +46,15 @@ pub(crate) fn kept(s: State) -> State
     t
 }
 
-pub(crate) fn built(s: State, atoms: u32, pairs: u32, checks: u32, fallback: bool) -> State
-    ensures { λ r. ⌜ r ≡ builtOf s atoms pairs checks fallback ⌝ }
+pub(crate) fn built(
+    s: State,
+    cell: Cell,
+    atoms: u32,
+    pairs: u32,
+    checks: u32,
+    fallback: bool,
+) -> State
+    ensures { λ r. ⌜ r ≡ builtOf s cell atoms pairs checks fallback ⌝ }
 {
     State {
         cutoff: s.cutoff,
@@ -55,6 +64,7 @@ pub(crate) fn built(s: State, atoms: u32, pairs: u32, checks: u32, fallback: boo
         checks,
         fallback,
         builds: std::num::wrapping_add_u32(s.builds, 1),
+        built_in: cell,
     }
 }
 
@@ -69,6 +79,7 @@ pub(crate) fn emptied(s: State) -> State
         checks: 0,
         fallback: false,
         builds: s.builds,
+        built_in: Cell::Absent,
     }
 }
 

@@ -4,6 +4,7 @@ use answer::Number;
 use answer::Refusal;
 use answer::Whole;
 use answer::YesNo;
+use cell::Cell;
 use cell::Lattice;
 use cell::Rows;
 use cell::RowsAnswer;
@@ -142,4 +143,24 @@ pub(crate) fn put_state(out: &mut [u64; 8208], at: usize, s: State) -> usize {
     let fallback = replay_words::flag_word(s.fallback);
     let builds = s.builds as u64;
     replay_words::put_words(out, next, &[pairs, references, checks, fallback, builds])
+}
+
+fn put_cell(out: &mut [u64; 8208], at: usize, cell: Cell) -> usize {
+    match cell {
+        Cell::Absent => replay_words::put_word(out, at, 0),
+        Cell::Present(l) => {
+            let next = replay_words::put_word(out, at, 1);
+            put_lattice(out, next, l)
+        }
+    }
+}
+
+// The same, with the remembered cell at its end where it stands in the line.
+pub(crate) fn put_state_and(cell: bool, out: &mut [u64; 8208], at: usize, s: State) -> usize {
+    let next = put_state(out, at, s);
+    if cell {
+        let remembered = s.built_in;
+        return put_cell(out, next, remembered);
+    }
+    next
 }

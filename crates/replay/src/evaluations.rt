@@ -1,5 +1,7 @@
-// The call of `evaluate`, 55.
+// The call of `evaluate`: 55, and 57 with a mask.
 use crate::answers;
+use crate::masks;
+use crate::masks::Parts;
 use crate::records;
 use crate::records::SettingsArg;
 use crate::tables;
@@ -85,18 +87,18 @@ fn tell_sum(out: &mut [u64; 8208], at: usize, answer: Done, sum: Sum) -> usize {
     }
 }
 
-fn tell_values(out: &mut [u64; 8208], r: Evaluated) -> usize {
+fn tell_values(out: &mut [u64; 8208], parts: Parts, r: Evaluated) -> usize {
     let done = r.done;
     let state = r.state;
     let sum = r.sum;
     let head = answers::put_done(out, done);
     let asked = replay_words::put_word(out, head, replay_words::flag_word(r.rebuilt));
-    let at = answers::put_state(out, asked, state);
+    let at = answers::put_state_and(parts.cell, out, asked, state);
     tell_sum(out, at, done, sum)
 }
 
-fn evaluate_case(ws: &[u64], out: &mut [u64; 8208]) -> usize {
-    let settings = records::take_settings(ws, 0);
+fn evaluate_case(parts: Parts, from: usize, ws: &[u64], out: &mut [u64; 8208]) -> usize {
+    let settings = records::take_settings(parts, ws, from);
     let t = take_tables(ws, settings.next);
     let after = t.exclusions;
     let a = replay_words::take_u32s(ws, after.next);
@@ -125,7 +127,7 @@ fn evaluate_case(ws: &[u64], out: &mut [u64; 8208]) -> usize {
         tables::room_u32(&mut items, d),
         tables::room(&mut forces, e),
     );
-    let told = tell_values(out, r);
+    let told = tell_values(out, parts, r);
     let listed = replay_words::put_u32s(out, told, tables::part_u32(&pairs, a));
     let referred = replay_words::put_floats(out, listed, tables::part(&references, b));
     let laid = replay_words::put_u32s(out, referred, tables::part_u32(&starts, c));
@@ -133,9 +135,18 @@ fn evaluate_case(ws: &[u64], out: &mut [u64; 8208]) -> usize {
     replay_words::put_floats(out, sorted, tables::part(&forces, e))
 }
 
+fn masked_case(ws: &[u64], out: &mut [u64; 8208]) -> usize {
+    let m = masks::take_mask(ws);
+    if !m.known {
+        return 0;
+    }
+    evaluate_case(m.parts, m.next, ws, out)
+}
+
 pub(crate) fn answer(call: u64, ws: &[u64], out: &mut [u64; 8208]) -> usize {
     match call {
-        85 => evaluate_case(ws, out),
+        85 => evaluate_case(masks::none(), 0, ws, out),
+        87 => masked_case(ws, out),
         _ => 0,
     }
 }

@@ -11,6 +11,7 @@ mod floats;
 mod forces;
 mod frames;
 mod lines;
+mod masks;
 mod neighbors;
 mod records;
 mod skins;

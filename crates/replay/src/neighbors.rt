@@ -1,7 +1,8 @@
-// The calls of `neighbor`, 30, 31 and 34 to 37.
+// The calls of `neighbor`, 30, 31, 34 to 37, and 38 to 3a, which are the second question and 35, 36 with the remembered cell in State.
 use crate::answers;
 use crate::records;
 use crate::tables;
+use answer::YesNo;
 use cell::Cell;
 use neighbor::State;
 use neighbor::StateAnswer;
@@ -45,8 +46,16 @@ fn builds_since_case(ws: &[u64], out: &mut [u64; 8208]) -> usize {
     replay_words::put_words(out, 0, &[0, 0, w])
 }
 
-fn needs_rebuild_case(ws: &[u64], out: &mut [u64; 8208]) -> usize {
-    let s = records::take_state(ws, 0);
+// The Rust's question, or the second one.
+fn asked(second: bool, s: State, cell: Cell, positions: &[f64], references: &[f64]) -> YesNo {
+    if second {
+        return neighbor::outdated(s, cell, positions, references);
+    }
+    neighbor::needs_rebuild(s, cell, positions, references)
+}
+
+fn question_case(second: bool, ws: &[u64], out: &mut [u64; 8208]) -> usize {
+    let s = records::take_state_and(second, ws, 0);
     let c = records::take_cell(ws, s.next);
     let x = replay_words::take_floats(ws, c.next);
     let r = replay_words::take_floats(ws, x.next);
@@ -58,7 +67,13 @@ fn needs_rebuild_case(ws: &[u64], out: &mut [u64; 8208]) -> usize {
     let fs = tables::floats(ws);
     answers::put_yes_no(
         out,
-        neighbor::needs_rebuild(state, cell, tables::part(&fs, x), tables::part(&fs, r)),
+        asked(
+            second,
+            state,
+            cell,
+            tables::part(&fs, x),
+            tables::part(&fs, r),
+        ),
     )
 }
 
@@ -99,19 +114,19 @@ fn brought(
 }
 
 // The refusal or 0, whether the list was built anew, where the call may keep it, and the state, also with a refusal.
-fn tell_updated(out: &mut [u64; 8208], question: bool, r: Updated) -> usize {
+fn tell_updated(out: &mut [u64; 8208], question: bool, remembers: bool, r: Updated) -> usize {
     let done = r.done;
     let state = r.state;
     let at = answers::put_done(out, done);
     if question {
         let asked = replay_words::put_word(out, at, replay_words::flag_word(r.rebuilt));
-        return answers::put_state(out, asked, state);
+        return answers::put_state_and(remembers, out, asked, state);
     }
-    answers::put_state(out, at, state)
+    answers::put_state_and(remembers, out, at, state)
 }
 
-fn build_case(question: bool, ws: &[u64], out: &mut [u64; 8208]) -> usize {
-    let s = records::take_state(ws, 0);
+fn build_case(question: bool, remembers: bool, ws: &[u64], out: &mut [u64; 8208]) -> usize {
+    let s = records::take_state_and(remembers, ws, 0);
     let c = records::take_cell(ws, s.next);
     let x = replay_words::take_floats(ws, c.next);
     let e = replay_words::take_u32s(ws, x.next);
@@ -141,7 +156,7 @@ fn build_case(question: bool, ws: &[u64], out: &mut [u64; 8208]) -> usize {
         tables::room_u32(&mut starts, t),
         tables::room_u32(&mut items, i),
     );
-    let told = tell_updated(out, question, updated);
+    let told = tell_updated(out, question, remembers, updated);
     let listed = replay_words::put_u32s(out, told, tables::part_u32(&pairs, p));
     let referred = replay_words::put_floats(out, listed, tables::part(&references, r));
     let laid = replay_words::put_u32s(out, referred, tables::part_u32(&starts, t));
@@ -152,10 +167,13 @@ pub(crate) fn answer(call: u64, ws: &[u64], out: &mut [u64; 8208]) -> usize {
     match call {
         48 => new_case(ws, out),
         49 => search_radius_case(ws, out),
-        52 => needs_rebuild_case(ws, out),
-        53 => build_case(false, ws, out),
-        54 => build_case(true, ws, out),
+        52 => question_case(false, ws, out),
+        53 => build_case(false, false, ws, out),
+        54 => build_case(true, false, ws, out),
         55 => builds_since_case(ws, out),
+        56 => question_case(true, ws, out),
+        57 => build_case(false, true, ws, out),
+        58 => build_case(true, true, ws, out),
         _ => 0,
     }
 }

@@ -1,4 +1,5 @@
 // The library's records taken out of a case's words, one after the other.
+use crate::masks::Parts;
 use cell::Cell;
 use cell::Lattice;
 use cell::Vec3;
@@ -67,6 +68,7 @@ pub(crate) struct BondTermArg {
 pub(crate) struct SettingsArg {
     pub(crate) setting: Setting,
     pub(crate) state: State,
+    pub(crate) parts: Parts,
     pub(crate) next: usize,
 }
 
@@ -202,9 +204,53 @@ pub(crate) fn take_state(ws: &[u64], at: usize) -> StateArg {
             checks: checks.value,
             fallback: fallback.value,
             builds: builds.value,
+            built_in: Cell::Absent,
         },
         next: builds.next,
     }
+}
+
+// The same, with the remembered cell at its end where it stands in the line.
+pub(crate) fn take_state_and(cell: bool, ws: &[u64], at: usize) -> StateArg {
+    let s = take_state(ws, at);
+    if !cell {
+        return s;
+    }
+    let c = take_cell(ws, s.next);
+    let value = s.value;
+    let remembered = c.value;
+    StateArg {
+        value: remembering(value, remembered),
+        next: c.next,
+    }
+}
+
+fn remembering(s: State, cell: Cell) -> State {
+    State {
+        cutoff: s.cutoff,
+        skin: s.skin,
+        pairs: s.pairs,
+        references: s.references,
+        checks: s.checks,
+        fallback: s.fallback,
+        builds: s.builds,
+        built_in: cell,
+    }
+}
+
+// What a State without its cell stands for: built in the case's own cell, where that is in range.
+fn in_own(s: State, cell: Cell) -> State {
+    if cell::ranged::cell_in_range(cell) {
+        return remembering(s, cell);
+    }
+    s
+}
+
+fn remembered(parts: Parts, s: State, cell: Cell) -> State {
+    if parts.cell {
+        return s;
+    }
+    in_own(s, cell)
 }
 
 fn take_lj_term(ws: &[u64], at: usize) -> LjTermArg {
@@ -259,12 +305,12 @@ fn take_bond_term(ws: &[u64], at: usize) -> BondTermArg {
     }
 }
 
-pub(crate) fn take_settings(ws: &[u64], at: usize) -> SettingsArg {
+pub(crate) fn take_settings(parts: Parts, ws: &[u64], at: usize) -> SettingsArg {
     let a = take_lj_term(ws, at);
     let b = take_coulomb_term(ws, a.next);
     let c = take_bond_term(ws, b.next);
     let d = take_units(ws, c.next);
-    let e = take_state(ws, d.next);
+    let e = take_state_and(parts.cell, ws, d.next);
     let f = take_cell(ws, e.next);
     let lj = a.value;
     let coulomb = b.value;
@@ -280,7 +326,8 @@ pub(crate) fn take_settings(ws: &[u64], at: usize) -> SettingsArg {
             units,
             cell,
         },
-        state,
+        state: remembered(parts, state, cell),
+        parts,
         next: f.next,
     }
 }

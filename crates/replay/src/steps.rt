@@ -1,5 +1,7 @@
-// The calls of `verlet_step`, 63 and its finish 64: the same words in both.
+// The calls of `verlet_step`, 63 and its finish 64, and 67, 68 with a mask: the same words in both.
 use crate::answers;
+use crate::masks;
+use crate::masks::Parts;
 use crate::records;
 use crate::records::SettingsArg;
 use crate::tables;
@@ -51,10 +53,10 @@ struct Given {
     next: usize,
 }
 
-fn take_given(finishing: bool, ws: &[u64]) -> Given {
-    let dt = replay_words::take_float(ws, 0);
+fn take_given(finishing: bool, parts: Parts, from: usize, ws: &[u64]) -> Given {
+    let dt = replay_words::take_float(ws, from);
     let t = take_thermostat(ws, dt.next);
-    let settings = records::take_settings(ws, t.next);
+    let settings = records::take_settings(parts, ws, t.next);
     let ids = replay_words::take_u32s(ws, settings.next);
     let params = replay_words::take_floats(ws, ids.next);
     let species = replay_words::take_u32s(ws, params.next);
@@ -162,13 +164,13 @@ fn moved(
     )
 }
 
-fn tell_values(out: &mut [u64; 8208], r: Stepped) -> usize {
+fn tell_values(out: &mut [u64; 8208], parts: Parts, r: Stepped) -> usize {
     let done = r.done;
     let state = r.state;
     let head = answers::put_done(out, done);
     let stop = replay_words::put_word(out, head, replay_words::flag_word(r.stopped));
     let asked = replay_words::put_word(out, stop, replay_words::flag_word(r.rebuilt));
-    let at = answers::put_state(out, asked, state);
+    let at = answers::put_state_and(parts.cell, out, asked, state);
     replay_words::put_float(out, at, r.potential)
 }
 
@@ -202,7 +204,7 @@ fn take_rooms(ws: &[u64], at: usize) -> Rooms {
     }
 }
 
-fn told(given: Given, t: Rooms, ws: &[u64], out: &mut [u64; 8208]) -> usize {
+fn told(parts: Parts, given: Given, t: Rooms, ws: &[u64], out: &mut [u64; 8208]) -> usize {
     let us = tables::u32s(ws);
     let fs = tables::floats(ws);
     let mut positions = tables::floats(ws);
@@ -224,7 +226,7 @@ fn told(given: Given, t: Rooms, ws: &[u64], out: &mut [u64; 8208]) -> usize {
         tables::room_u32(&mut items, t.items),
         tables::room(&mut forces, t.forces),
     );
-    let at = tell_values(out, r);
+    let at = tell_values(out, parts, r);
     let placed = tables::put_room(out, at, positions, t.positions);
     let moving = tables::put_room(out, placed, velocities, t.velocities);
     let listed = tables::put_room_u32(out, moving, pairs, t.pairs);
@@ -234,20 +236,36 @@ fn told(given: Given, t: Rooms, ws: &[u64], out: &mut [u64; 8208]) -> usize {
     tables::put_room(out, sorted, forces, t.forces)
 }
 
-fn step_case(finishing: bool, ws: &[u64], out: &mut [u64; 8208]) -> usize {
-    let given = take_given(finishing, ws);
+fn step_case(
+    finishing: bool,
+    parts: Parts,
+    from: usize,
+    ws: &[u64],
+    out: &mut [u64; 8208],
+) -> usize {
+    let given = take_given(finishing, parts, from, ws);
     let rooms = take_rooms(ws, given.next);
     let last = rooms.forces;
     if last.next != ws.len() {
         return 0;
     }
-    told(given, rooms, ws, out)
+    told(parts, given, rooms, ws, out)
+}
+
+fn masked_case(finishing: bool, ws: &[u64], out: &mut [u64; 8208]) -> usize {
+    let m = masks::take_mask(ws);
+    if !m.known {
+        return 0;
+    }
+    step_case(finishing, m.parts, m.next, ws, out)
 }
 
 pub(crate) fn answer(call: u64, ws: &[u64], out: &mut [u64; 8208]) -> usize {
     match call {
-        99 => step_case(false, ws, out),
-        100 => step_case(true, ws, out),
+        99 => step_case(false, masks::none(), 0, ws, out),
+        100 => step_case(true, masks::none(), 0, ws, out),
+        103 => masked_case(false, ws, out),
+        104 => masked_case(true, ws, out),
         _ => 0,
     }
 }

@@ -3,6 +3,7 @@
 use crate::frames;
 use crate::show;
 use answer::Done;
+use cell::Cell;
 use neighbor::State;
 
 fn back(w: u64) -> u64 {
@@ -45,6 +46,7 @@ fn claiming(pairs: u32) -> State {
         checks: 0,
         fallback: false,
         builds: 0,
+        built_in: Cell::Absent,
     }
 }
 

@@ -122,6 +122,7 @@ fn list() -> State {
         checks: 0,
         fallback: false,
         builds: 0,
+        built_in: Cell::Absent,
     }
 }
 

@@ -27,6 +27,7 @@ fn list(cutoff: f64) -> State {
         checks: 0,
         fallback: false,
         builds: 0,
+        built_in: Cell::Absent,
     }
 }
 

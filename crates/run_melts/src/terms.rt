@@ -1,6 +1,7 @@
 // The numbers of the terms and of the list.
 use crate::liquid;
 use crate::liquid::Form;
+use cell::Cell;
 use evaluate::Setting;
 use neighbor::State;
 use potentials::Bond;
@@ -97,5 +98,6 @@ pub(crate) fn list() -> State {
         checks: 0,
         fallback: false,
         builds: 0,
+        built_in: Cell::Absent,
     }
 }

@@ -16,6 +16,7 @@ use Rattle.potentials_pair.specs.declared.Mixed.{Mixed}
 use Rattle.potentials_pair.specs.Species.{rising}
 use Rattle.verlet.specs.declared.Thermostat.{Thermostat}
 use Rattle.verlet.specs.Parts.{movedBy, drifts}
+use Rattle.neighbor.specs.declared.Question.the-variants.{Outdated}
 use Rattle.neighbor.specs.Update as Update
 use Rattle.evaluate.specs.declared.Evaluated.{Evaluated}
 use Rattle.evaluate.specs.Calls.{Job, afterList, settledBy, settledOf}
@@ -38,7 +39,7 @@ module _ (look : List ℕ → List Float → Lj → ℕ → Mixed) (room : ℕ) 
     forces-stay : settledBy look room j .list .answer ≡ refused n p → settledBy look room j .total .forces ≡ j .forces
     unfolding settledBy
     forces-stay h =
-        let o = Update.updateOf true (j .given) in
+        let o = Update.updateOf Outdated (j .given) in
         after-stays (o .answer) o refl (sym (ap (λ (x : Update.Outcome). x .answer) (settled-list look room j)) ∙ h)
 
 -- ---- the evaluation and the second kick

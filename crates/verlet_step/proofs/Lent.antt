@@ -9,21 +9,23 @@ use lib.Dec.{eqb, ltb}
 use lib.Ieee.{Float, nan}
 use lib.ListN.{length, take, getD, length-take}
 use lib.Seq.{getD-take}
-use borrow.Author.Tests.{ltb-false, le-ltb, ne-eqb}
+use borrow.Author.Tests.{le-ltb, ne-eqb}
 use Rattle.cell.specs.Vec.{positionAt}
 use Rattle.lists.specs.Atoms.{atomsOf}
 use Rattle.answer.specs.declared.Done.the-variants.{Answered}
 use Rattle.answer.specs.declared.Refusal.the-variants.{Lengths, Range, Order}
 use Rattle.lists.specs.Lists.{numbers, some, rows}
-use Rattle.lists.proofs.Cases.{or-neither, neither-or, same-or}
+use Rattle.lists.proofs.Cases.{neither-or, same-or}
 use Rattle.exclusions.specs.Table.{isTable}
 use Rattle.neighbor_listing.specs.Listed.{unlisted}
 use Rattle.verlet.specs.declared.Thermostat.{Thermostat}
 use Rattle.cell.specs.declared.Cell.{Cell}
+use Rattle.cell.specs.Ranged.{cellInRange}
+use Rattle.neighbor.specs.declared.Question.the-variants.{Outdated}
 use Rattle.neighbor.specs.declared.State.{State}
-use Rattle.neighbor.specs.Rebuild.{needsOf, claimsMore, referencesOk, rangesOk, strayedOf}
-use Rattle.neighbor.specs.Update.{unfit, lengthsBad, listedOf, firstOf, misnamed, keptAsked, tableAsked, andThen}
-use Rattle.neighbor.proofs.Asking.{listed-some}
+use Rattle.neighbor.specs.Rebuild.{needsOf, outdatedOf, claimsMore, referencesOk, rangesOk, strayedOf}
+use Rattle.neighbor.specs.Update.{unfit, keepsOf, lengthsBad, listedOf, firstOf, misnamed, keptAsked, tableAsked, andThen}
+use Rattle.neighbor.proofs.Asking.{claims-told, claims-made, listed-some}
 use Rattle.evaluate.specs.Asked.{termsFit, numbersOk, bondsAsked, idsAsked, namesAsked, inTurn, jobAsked}
 use Rattle.neighbor.proofs.Source.{passed, both-passed, first-told, lengths-told, build-fits, build-able}
 use Rattle.verlet_step.specs.Asked.{motionFits, motionOk}
@@ -32,7 +34,7 @@ use Rattle.verlet_step.specs.Theorems.{Rooms, Carries}
 
 -- ---- tests in turn
 module _ (s : State) (cell : Cell) (xs : List Float) (table pairs refs items : ℕ) where
-  first-made : lengthsBad (length xs) table refs items ≡ false → ltb 16384 (atomsOf xs) ≡ false → claimsMore (s .pairs) (pairs / 2) (s .references) (refs / 3) ≡ false → rangesOk s cell xs ≡ true
+  first-made : lengthsBad (length xs) table refs items ≡ false → ltb 16384 (atomsOf xs) ≡ false → claimsMore (s .«built_in») (s .pairs) (pairs / 2) (s .references) (refs / 3) ≡ false → rangesOk s cell xs ≡ true
       → firstOf s cell xs table pairs refs items ≡ Answered
   unfolding firstOf
   first-made a b c d = rw (a, b, c, d)
@@ -45,7 +47,7 @@ pub record Passed (limit : Float) (t : Thermostat) (m : Motion) : Type 0 where
       ≡ true
   pub lengths : lengthsBad (length (m .job .given .positions)) (length (m .job .given .exclusions)) (length (m .job .given .references)) (length (m .job .given .items)) ≡ false
   pub few : ltb 16384 (atomsOf (m .job .given .positions)) ≡ false
-  pub claims : claimsMore (m .job .given .state .pairs) (length (m .job .given .pairs) / 2) (m .job .given .state .references) (length (m .job .given .references) / 3) ≡ false
+  pub claims : claimsMore (m .job .given .state .«built_in») (m .job .given .state .pairs) (length (m .job .given .pairs) / 2) (m .job .given .state .references) (length (m .job .given .references) / 3) ≡ false
   pub ranges : rangesOk (m .job .given .state) (m .job .given .cell) (m .job .given .positions) ≡ true
   pub numbers :
       motionOk limit (m .dt) t (m .masses) (m .velocities) (m .job .forces) (m .potential)
@@ -112,19 +114,10 @@ unfolding some numbers
 some-same p q from zero h = refl
 some-same p q from (suc count) h = rw (h from (omega arith), some-same p q (from + 1) count (λ k l. h k (omega arith)))
 
-module _ (a b c d : ℕ) where
-  pub claims-told : claimsMore a b c d ≡ false → (a ≤ b) × (c ≤ d)
-  unfolding claimsMore
-  claims-told e = let p = or-neither (ltb b a) (ltb d c) e in (ltb-false b a (p .0), ltb-false d c (p .1))
-
-  pub claims-made : a ≤ b → c ≤ d → claimsMore a b c d ≡ false
-  unfolding claimsMore
-  claims-made h k = neither-or (ltb b a) (ltb d c) (le-ltb b a h) (le-ltb d c k)
-
 module _ (s : State) (old new : Rooms) (c : Carries s old new)
-    (claims : claimsMore (s .pairs) (length (old .pairs) / 2) (s .references) (length (old .references) / 3) ≡ false) where
-  fit : (s .pairs ≤ length (old .pairs) / 2) × (s .references ≤ length (old .references) / 3)
-  fit = claims-told (s .pairs) (length (old .pairs) / 2) (s .references) (length (old .references) / 3) claims
+    (claims : claimsMore (s .«built_in») (s .pairs) (length (old .pairs) / 2) (s .references) (length (old .references) / 3) ≡ false) where
+  fit : (s .pairs ≤ length (old .pairs) / 2) × (s .references ≤ length (old .references) / 3) × (cellInRange (s .«built_in») ≡ true)
+  fit = claims-told (s .«built_in») (s .pairs) (length (old .pairs) / 2) (s .references) (length (old .references) / 3) claims
 
   fit-new : (s .pairs ≤ length (new .pairs) / 2) × (s .references ≤ length (new .references) / 3)
   fit-new =
@@ -133,8 +126,8 @@ module _ (s : State) (old new : Rooms) (c : Carries s old new)
       let r = still-room (3 * s .references) (old .references) (new .references) (c .references) (omega arith) in
       (omega arith, omega arith)
 
-  pub claims-carried : claimsMore (s .pairs) (length (new .pairs) / 2) (s .references) (length (new .references) / 3) ≡ false
-  claims-carried = claims-made (s .pairs) (length (new .pairs) / 2) (s .references) (length (new .references) / 3) (fit-new .0) (fit-new .1)
+  pub claims-carried : claimsMore (s .«built_in») (s .pairs) (length (new .pairs) / 2) (s .references) (length (new .references) / 3) ≡ false
+  claims-carried = claims-made (s .«built_in») (s .pairs) (length (new .pairs) / 2) (s .references) (length (new .references) / 3) (fit-new .0) (fit-new .1) (fit .2)
 
   spot-carried : (k : ℕ) → k < s .references → positionAt (new .references) k ≡ positionAt (old .references) k
   unfolding positionAt
@@ -146,13 +139,17 @@ module _ (s : State) (old new : Rooms) (c : Carries s old new)
   unfolding strayedOf
   moved-carried cell xs k h = rw (spot-carried k h)
 
-  -- the question has the old answer
-  pub needs-carried : (cell : Cell) (xs : List Float) → needsOf s cell xs (new .references) ≡ needsOf s cell xs (old .references)
+  needs-carried : (cell : Cell) (xs : List Float) → needsOf s cell xs (new .references) ≡ needsOf s cell xs (old .references)
   unfolding needsOf
   needs-carried cell xs =
       ⊎-elim (λ e. rw (some-same (strayedOf s cell xs (new .references)) (strayedOf s cell xs (old .references)) 0 (atomsOf xs) (λ k l. moved-carried cell xs k (omega arith))))
       (λ e. rw (ne-eqb (s .references) (atomsOf xs) e))
       (same-or (s .references) (atomsOf xs))
+
+  -- the question has the old answer
+  pub keeps-carried : (cell : Cell) (xs : List Float) → keepsOf Outdated s cell xs (new .references) ≡ keepsOf Outdated s cell xs (old .references)
+  unfolding keepsOf outdatedOf
+  keeps-carried cell xs = rw (needs-carried cell xs)
 
   references-carried : (n : ℕ) → referencesOk s n (new .references) ≡ referencesOk s n (old .references)
   unfolding referencesOk
@@ -160,7 +157,7 @@ module _ (s : State) (old new : Rooms) (c : Carries s old new)
       ⊎-elim (λ e. rw (← e, c .references)) (λ e. rw (ne-eqb (s .references) n e)) (same-or (s .references) n)
 
   listed-carried : listedOf s (new .pairs) ≡ listedOf s (old .pairs)
-  listed-carried = sym (listed-some s (new .pairs) (fit-new .0)) ∙ c .pairs ∙ listed-some s (old .pairs) (fit .0)
+  listed-carried = sym (listed-some s (new .pairs) (fit-new .0) (fit .2)) ∙ c .pairs ∙ listed-some s (old .pairs) (fit .0) (fit .2)
 
   -- and so have the tests of the old list
   pub kept-carried : (n : ℕ) → keptAsked s n (new .pairs) (new .references) ≡ keptAsked s n (old .pairs) (old .references)

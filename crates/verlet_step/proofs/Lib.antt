@@ -3,6 +3,7 @@ pub mod Source
 pub mod Lent
 pub mod Relisted
 pub mod Stopping
+pub mod Box
 pub mod Lists
 pub mod Moved
 pub mod Resumed

@@ -10,6 +10,7 @@ use Rattle.answer.specs.declared.Refusal.the-variants.{Drifted}
 use Rattle.answer.specs.Seen.{Seen, answered, refused}
 use Rattle.lists.proofs.Cases.{by-test}
 use Rattle.verlet.specs.declared.Thermostat.{Thermostat}
+use Rattle.neighbor.specs.declared.Question.the-variants.{Outdated}
 use Rattle.neighbor.specs.Update as Update
 use Rattle.neighbor.proofs.Demands.{Says, update-lists}
 use Rattle.evaluate.specs.Calls.{settledOf}
@@ -36,7 +37,7 @@ module _ (m : Motion) where
   landed-lists : Lists m (landedBy settledOf m)
   landed-lists =
       subst (λ (xs : List Float). Says (givenAt (m .job .given) xs) (landedBy settledOf m .list)) (sym landed-stands)
-      (subst (λ (o : Update.Outcome). Says (m .job .given) o) (sym (landed-list m (updated m .answer) refl)) (update-lists (m .job .given) true))
+      (subst (λ (o : Update.Outcome). Says (m .job .given) o) (sym (landed-list m (updated m .answer) refl)) (update-lists (m .job .given) Outdated))
 
 advanced-lists : (m : Motion) → Lists m (advancedBy settledOf m)
 unfolding advancedBy

@@ -2,7 +2,7 @@
 use Prim.Native.Nat.{ℕ, _*_, _/_, _≤_, _<_}
 use native.Mathlib.Omega.{arith}
 use mathlib.Core.Path.{_≡_, refl, sym, ap, _∙_, subst}
-use mathlib.Core.Bool.{Bool, true, false, cond, not, _&&_, false≢true}
+use mathlib.Core.Bool.{Bool, true, false, cond, not, _&&_, _||_, false≢true}
 use mathlib.Core.Logic.{_⊎_, inl, inr, ⊎-elim}
 use mathlib.Core.List.{List, [], _∷_, List·Memᴰ·head, List·Memᴰ·tail, Memᴰ·append-left}
 use lib.Dec.{eqb, ltb, leb}
@@ -23,6 +23,7 @@ use Rattle.lists.proofs.Rows.{length-rows, rows-append, take-rows}
 use Rattle.ranges.specs.Rows.{isAbsent, absentOf}
 use Rattle.bins.proofs.Laid.{laid-length}
 use Rattle.cell.specs.declared.Cell.{Cell}
+use Rattle.cell.specs.Ranged.{cellInRange}
 use Rattle.bins.specs.Listing.{laidOf}
 use Rattle.neighbor_grid.specs.Grid.{plainOf, crowded}
 use Rattle.neighbor_grid.specs.Layout.{startsLaid, itemsLaid}
@@ -30,10 +31,11 @@ use Rattle.neighbor_listing.specs.declared.Listed.{Listed}
 use Rattle.neighbor_listing.specs.declared.Listed.the-variants.{Found, Full, Crowded, Unfit}
 use Rattle.neighbor_listing.specs.Found.{nearPairs, checksOf}
 use Rattle.neighbor_listing.specs.Listed as Listing
+use Rattle.neighbor.specs.declared.Question.the-variants.{Outdated}
 use Rattle.neighbor.specs.declared.State.{State}
 use Rattle.neighbor.specs.State.{skinOf, radiusOf, builtOf, emptiedOf}
-use Rattle.neighbor.specs.Rebuild.{needsOf, referencesOk}
-use Rattle.neighbor.specs.Update.{Given, given, Outcome, stays, keptAll, builtAll, fullAll, listedAll, listedBy, rebuiltAll, unfit, updateOf, listedOf, misnamed, keptAsked}
+use Rattle.neighbor.specs.Rebuild.{sameBox, needsOf, outdatedOf, referencesOk}
+use Rattle.neighbor.specs.Update.{Given, given, Outcome, stays, keptAll, builtAll, fullAll, listedAll, listedBy, rebuiltAll, unfit, keepsOf, updateOf, listedOf, misnamed, keptAsked}
 use Rattle.answer.proofs.Passed.{pass}
 use Rattle.neighbor.proofs.Asking.{listed-some}
 use Rattle.neighbor.proofs.Demands.{near-exactly}
@@ -65,13 +67,19 @@ module _ (s : State) where
   unfolding radiusOf emptiedOf
   radius-again = rw (skin-again)
 
-  built-again : (n count checks : ℕ) (fallback : Bool) → builtOf (emptiedOf s) n count checks fallback ≡ builtOf s n count checks fallback
+  built-again : (cell : Cell) (n count checks : ℕ) (fallback : Bool) → builtOf (emptiedOf s) cell n count checks fallback ≡ builtOf s cell n count checks fallback
   unfolding builtOf emptiedOf
-  built-again n count checks fallback = rw (skin-again)
+  built-again cell n count checks fallback = rw (skin-again)
 
-  pub needs-again : (cell : Cell) (xs refs : List Float) → 2 ≤ atomsOf xs → needsOf (emptiedOf s) cell xs refs ≡ true
+  needs-again : (cell : Cell) (xs refs : List Float) → 2 ≤ atomsOf xs → needsOf (emptiedOf s) cell xs refs ≡ true
   unfolding needsOf emptiedOf
   needs-again cell xs refs h = rw (ne-eqb 0 (atomsOf xs) (λ e. omega arith))
+
+  -- whatever it remembers
+  keeps-again : (cell : Cell) (xs refs : List Float) → 2 ≤ atomsOf xs → keepsOf Outdated (emptiedOf s) cell xs refs ≡ false
+  unfolding keepsOf outdatedOf
+  keeps-again cell xs refs h =
+      rw (needs-again cell xs refs h) (by-test (λ b. not (not b || true) ≡ false) (sameBox (emptiedOf s .«built_in») cell) (λ _. refl) (λ _. refl))
 
 never : {A : Type 0} {n p : ℕ} → _≡_ {A = Seen (Unit {0})} (answered tt) (refused n p) → A
 never e = let z : _≡_ {A = ℕ} 0 1 = cc in absurd (omega arith)
@@ -83,7 +91,7 @@ emptied i = given (emptiedOf (i .state)) (i .cell) (i .positions) (i .exclusions
 module _ (i : Given) where
   all-again : (count checks : ℕ) (fallback : Bool) (p s t : List ℕ) → builtAll (emptied i) count checks fallback p s t ≡ builtAll i count checks fallback p s t
   unfolding builtAll
-  all-again count checks fallback p s t = rw (built-again (i .state) (atomsOf (i .positions)) count checks fallback)
+  all-again count checks fallback p s t = rw (built-again (i .state) (i .cell) (atomsOf (i .positions)) count checks fallback)
 
   listed-again : (a : Listed) (p s t : List ℕ) → listedAll (emptied i) a p s t .answer ≡ answered tt → listedAll (emptied i) a p s t ≡ listedAll i a p s t
   unfolding listedAll fullAll
@@ -105,11 +113,11 @@ module _ (i : Given) where
       (λ _ h. listed-again (o .answer) (o .pairs) (o .starts) (o .items) h))
 
   -- of two atoms or more, where the old state too asks for a build
-  pub update-again : 2 ≤ atomsOf (i .positions) → needsOf (i .state) (i .cell) (i .positions) (i .references) ≡ true
-      → updateOf true (emptied i) .answer ≡ answered tt → updateOf true (emptied i) ≡ updateOf true i
+  pub update-again : 2 ≤ atomsOf (i .positions) → keepsOf Outdated (i .state) (i .cell) (i .positions) (i .references) ≡ false
+      → updateOf Outdated (emptied i) .answer ≡ answered tt → updateOf Outdated (emptied i) ≡ updateOf Outdated i
   unfolding updateOf
-  update-again many needs =
-      rw (needs, needs-again (i .state) (i .cell) (i .positions) (i .references) many)
+  update-again many asked =
+      rw (asked, keeps-again (i .state) (i .cell) (i .positions) (i .references) many)
       (by-test
       (λ t. cond t (stays (emptied i) Lengths) (rebuiltAll (emptied i)) .answer ≡ answered tt
       → cond t (stays (emptied i) Lengths) (rebuiltAll (emptied i)) ≡ cond t (stays i Lengths) (rebuiltAll i))
@@ -135,7 +143,7 @@ pub record Overfull (i : Given) (o : Outcome) : Type 0 where
   pub pairs : o .pairs ≡ laidOf (i .pairs) (foundIn i)
   pub references : o .references ≡ i .references
   pub many : 2 ≤ atomsOf (i .positions)
-  pub needs : needsOf (i .state) (i .cell) (i .positions) (i .references) ≡ true
+  pub asked : keepsOf Outdated (i .state) (i .cell) (i .positions) (i .references) ≡ false
   pub over : length (i .pairs) / 2 < length (foundIn i)
 
 -- where the tests have passed
@@ -143,7 +151,7 @@ module _ (i : Given) (fit : unfit (length (i .positions)) (length (i .references
   abbrev Leaves : Outcome → Type 0
   Leaves o = o .answer ≡ refused n p → Untouched i o ⊎ Overfull i o
 
-  module _ (many : 2 ≤ atomsOf (i .positions)) (needs : needsOf (i .state) (i .cell) (i .positions) (i .references) ≡ true) where
+  module _ (many : 2 ≤ atomsOf (i .positions)) (asked : keepsOf Outdated (i .state) (i .cell) (i .positions) (i .references) ≡ false) where
     run-leaves : (fallback : Bool) (starts items : List ℕ)
         → Leaves (listedBy i (Listing.runOf (i .cell) (radiusOf (i .state)) (i .positions) (i .exclusions) (i .pairs) starts items fallback))
     unfolding Listing.runOf Listing.shownOf listedAll fullAll builtAll
@@ -152,7 +160,7 @@ module _ (i : Given) (fit : unfit (length (i .positions)) (length (i .references
         (λ t. Leaves (listedAll i (cond t (Found (length (foundIn i)) (checksOf (i .cell) (radiusOf (i .state)) (i .positions) (i .exclusions)) fallback) (Full (length (foundIn i)))) (laidOf (i .pairs) (foundIn i)) starts items))
         (leb (length (foundIn i)) (length (i .pairs) / 2))
         (λ _ h. never h)
-        (λ e _. inr (record { answer = refl; state = refl; pairs = refl; references = refl; many = many; needs = needs; over = omega (arith, leb-false (length (foundIn i)) (length (i .pairs) / 2) e) }))
+        (λ e _. inr (record { answer = refl; state = refl; pairs = refl; references = refl; many = many; asked = asked; over = omega (arith, leb-false (length (foundIn i)) (length (i .pairs) / 2) e) }))
 
     list-leaves : Leaves (listedBy i (Listing.listingOf (i .cell) (radiusOf (i .state)) (i .positions) (i .exclusions) (i .pairs) (i .starts) (i .items)))
     unfolding Listing.listingOf listedAll
@@ -178,23 +186,23 @@ module _ (i : Given) (fit : unfit (length (i .positions)) (length (i .references
         fits : Bool → Listing.Outcome
         fits t = cond t (Listing.outcome Unfit (i .pairs) (i .starts) (i .items)) (flat (plainOf (i .cell) (radiusOf (i .state)) (i .positions)))
 
-  rebuilt-leaves : needsOf (i .state) (i .cell) (i .positions) (i .references) ≡ true → Leaves (rebuiltAll i)
+  rebuilt-leaves : keepsOf Outdated (i .state) (i .cell) (i .positions) (i .references) ≡ false → Leaves (rebuiltAll i)
   unfolding rebuiltAll builtAll
-  rebuilt-leaves needs =
+  rebuilt-leaves asked =
       by-test
       (λ t. Leaves (cond t (builtAll i 0 0 false (i .pairs) (i .starts) (i .items))
       (listedBy i (Listing.listingOf (i .cell) (radiusOf (i .state)) (i .positions) (i .exclusions) (i .pairs) (i .starts) (i .items)))))
       (ltb (atomsOf (i .positions)) 2)
       (λ _ h. never h)
-      (λ e. list-leaves (ltb-false (atomsOf (i .positions)) 2 e) needs)
+      (λ e. list-leaves (ltb-false (atomsOf (i .positions)) 2 e) asked)
 
-  pub update-leaves : Leaves (updateOf true i)
+  pub update-leaves : Leaves (updateOf Outdated i)
   unfolding updateOf keptAll
   update-leaves =
-      let asked = needsOf (i .state) (i .cell) (i .positions) (i .references) in
-      by-test (λ t. Leaves (cond t (stays i Lengths) (cond (not asked) (keptAll i) (rebuiltAll i)))) (unfit (length (i .positions)) (length (i .references)))
+      let keeps = keepsOf Outdated (i .state) (i .cell) (i .positions) (i .references) in
+      by-test (λ t. Leaves (cond t (stays i Lengths) (cond keeps (keptAll i) (rebuiltAll i)))) (unfit (length (i .positions)) (length (i .references)))
       (λ e. absurd (false≢true (sym fit ∙ e)))
-      (λ _. by-test (λ t. Leaves (cond t (keptAll i) (rebuiltAll i))) (not asked) (λ _ h. never h) (λ e. rebuilt-leaves (not-false asked e)))
+      (λ _. by-test (λ t. Leaves (cond t (keptAll i) (rebuiltAll i))) keeps (λ _ h. never h) (λ e. rebuilt-leaves e))
 
 -- ---- the pairs that an 8 leaves name atoms that are there
 first-none : {A : Type 0} (p : A → Bool) (l : List A) → ((a : A) → a ∈ l → p a ≡ false) → firstWhere p l ≡ length l
@@ -222,9 +230,9 @@ module _ (old : List ℕ) (found : List (ℕ × ℕ)) (over : length old / 2 < l
       ∙ take-take k (length old / 2) found room
 
 module _ (s : State) (n : ℕ) (old : List ℕ) (found : List (ℕ × ℕ)) (over : length old / 2 < length found) (room : s .pairs ≤ length old / 2)
-    (two : (p : ℕ × ℕ) → p ∈ found → Two n p) where
+    (inside : cellInRange (s .«built_in») ≡ true) (two : (p : ℕ × ℕ) → p ∈ found → Two n p) where
   full-listed : take (2 * s .pairs) (laidOf old found) ≡ listedOf s (laidOf old found)
-  full-listed = listed-some s (laidOf old found) (omega (arith, laid-length old found))
+  full-listed = listed-some s (laidOf old found) (omega (arith, laid-length old found)) inside
 
   full-named : misnamed s n (laidOf old found) ≡ false
   unfolding misnamed
@@ -239,8 +247,8 @@ module _ (s : State) (n : ℕ) (old : List ℕ) (found : List (ℕ × ℕ)) (ove
   unfolding keptAsked
   full-kept refs h = rw (not-false (referencesOk s n refs) (pass (not (referencesOk s n refs)) Range _ h .0), full-named)
 
-pub overfull-kept : (i : Given) → length (i .pairs) / 2 < length (foundIn i) → i .state .pairs ≤ length (i .pairs) / 2
+pub overfull-kept : (i : Given) → length (i .pairs) / 2 < length (foundIn i) → i .state .pairs ≤ length (i .pairs) / 2 → cellInRange (i .state .«built_in») ≡ true
     → keptAsked (i .state) (atomsOf (i .positions)) (i .pairs) (i .references) ≡ Answered
     → keptAsked (i .state) (atomsOf (i .positions)) (laidOf (i .pairs) (foundIn i)) (i .references) ≡ Answered
-overfull-kept i over room h =
-    full-kept (i .state) (atomsOf (i .positions)) (i .pairs) (foundIn i) over room (λ p m. near-exactly (i .cell) (radiusOf (i .state)) (i .positions) (i .exclusions) .sound p m .0) (i .references) h
+overfull-kept i over room inside h =
+    full-kept (i .state) (atomsOf (i .positions)) (i .pairs) (foundIn i) over room inside (λ p m. near-exactly (i .cell) (radiusOf (i .state)) (i .positions) (i .exclusions) .sound p m .0) (i .references) h

@@ -15,19 +15,22 @@ use Rattle.float.specs.Arith.{bits}
 use Rattle.float.specs.Def.{absOf, maxOf}
 use Rattle.lists.proofs.Cases.{and-both, both-and}
 use Rattle.ranges.specs.Ranged.{within, between}
-use Rattle.cell.specs.Ranged.{entryLimit}
+use Rattle.cell.specs.declared.Cell.the-variants.{Absent}
+use Rattle.cell.specs.Ranged.{entryLimit, cellInRange}
 use Rattle.verlet.specs.declared.Thermostat.{Thermostat}
+use Rattle.neighbor.specs.declared.Question.the-variants.{Outdated}
 use Rattle.neighbor.specs.declared.State.{State}
 use Rattle.neighbor.specs.State.{settingsOk, skinOf, emptiedOf}
-use Rattle.neighbor.specs.Rebuild.{needsOf, claimsMore, referencesOk}
-use Rattle.neighbor.specs.Update.{lengthsBad, misnamed, keptAsked}
+use Rattle.neighbor.specs.Rebuild.{claimsMore, referencesOk}
+use Rattle.neighbor.specs.Update.{keepsOf, lengthsBad, misnamed, keptAsked}
+use Rattle.neighbor.proofs.Asking.{claims-told, claims-made}
 use Rattle.evaluate.specs.Calls.{settledOf}
 use Rattle.bins.proofs.Laid.{laid-length}
 use Rattle.verlet_step.specs.declared.Stepped.{Stepped}
 use Rattle.verlet_step.specs.Asked.{stepLimit, finishLimit}
 use Rattle.verlet_step.specs.Calls.{Motion, Outcome, atomsStay, landedBy, moved, cooled, motionAsked, steppedOf, finishedOf}
 use Rattle.verlet_step.specs.Theorems.{Rooms, Carries, roomsOf, leftIn, lentTo, resumed, Holds, before, after, Stops, Resumable, StepResumes, FinishResumes, CallsResume}
-use Rattle.verlet_step.proofs.Lent.{Passed, asked-told, asked-made, lengths-again, list-fits, list-able, claims-told, claims-made, claims-carried, needs-carried, kept-carried}
+use Rattle.verlet_step.proofs.Lent.{Passed, asked-told, asked-made, lengths-again, list-fits, list-able, claims-carried, keeps-carried, kept-carried}
 use Rattle.verlet_step.proofs.Relisted.{zero-or, foundIn, Untouched, Overfull, update-leaves, update-again, overfull-kept}
 use Rattle.verlet_step.proofs.Stopping.{updated, Stopped, stopped-told, step-on, Halted, halted-told, finish-asked, finish-on, finish-listed, finish-ends, lands-again, places-length, putIn}
 use Rattle.verlet_step.proofs.Moved.{speeds-asked, ranges-told, ranges-made, moved-passed, speeds-small}
@@ -46,9 +49,9 @@ module _ (s : State) where
       let k : within entryLimit (maxOf (s .skin) (bits 0)) ≡ true = ⊎-elim (λ e. rw e zero-within) (λ e. rw e (p .1)) (zero-or (s .skin)) in
       both-and cutoff (within entryLimit (maxOf (s .skin) (bits 0))) (p .0) k
 
-  claims-emptied : (pairs refs : ℕ) → claimsMore (emptiedOf s .pairs) pairs (emptiedOf s .references) refs ≡ false
-  unfolding emptiedOf
-  claims-emptied pairs refs = claims-made 0 pairs 0 refs (omega arith) (omega arith)
+  claims-emptied : (pairs refs : ℕ) → claimsMore (emptiedOf s .«built_in») (emptiedOf s .pairs) pairs (emptiedOf s .references) refs ≡ false
+  unfolding emptiedOf cellInRange
+  claims-emptied pairs refs = claims-made Absent 0 pairs 0 refs (omega arith) (omega arith) refl
 
   kept-emptied : (n : ℕ) (pairs : List ℕ) (refs : List Float) → 2 ≤ n → keptAsked (emptiedOf s) n pairs refs ≡ Answered
   unfolding keptAsked referencesOk misnamed emptiedOf
@@ -59,7 +62,7 @@ module _ (s : State) where
 pub record Again (t : Thermostat) (q : Motion) (r : Rooms) : Type 0 where
   pub same : finishedOf t (putIn q r (updated q .state)) ≡ cooled t q (landedBy settledOf (putIn q r (q .job .given .state)))
   pub lengths : lengthsBad (length (q .job .given .positions)) (length (q .job .given .exclusions)) (length (r .references)) (length (r .items)) ≡ false
-  pub claims : claimsMore (q .job .given .state .pairs) (length (r .pairs) / 2) (q .job .given .state .references) (length (r .references) / 3) ≡ false
+  pub claims : claimsMore (q .job .given .state .«built_in») (q .job .given .state .pairs) (length (r .pairs) / 2) (q .job .given .state .references) (length (r .references) / 3) ≡ false
   pub kept : keptAsked (q .job .given .state) (atomsOf (q .job .given .positions)) (r .pairs) (r .references) ≡ Answered
 
 module _ (t : Thermostat) (q : Motion) (base : Passed finishLimit t q) (number place : ℕ) (refusal : updated q .answer ≡ refused number place) where
@@ -98,13 +101,13 @@ module _ (t : Thermostat) (q : Motion) (r : Rooms) (base : Passed finishLimit t 
 
     -- the state that an 8 leaves, in rooms that have what `old` had
     module _ (o : Overfull (q .job .given) (updated q)) (old : Rooms) (c : Carries state old r) (same : old .references ≡ q .job .given .references)
-        (claims : claimsMore (state .pairs) (length (old .pairs) / 2) (state .references) (length (old .references) / 3) ≡ false)
+        (claims : claimsMore (state .«built_in») (state .pairs) (length (old .pairs) / 2) (state .references) (length (old .references) / 3) ≡ false)
         (kept : keptAsked state (atomsOf places) (old .pairs) (old .references) ≡ Answered) where
-      needs : needsOf state (q .job .given .cell) places (r .references) ≡ true
-      needs = needs-carried state old r c claims (q .job .given .cell) places ∙ ap (needsOf state (q .job .given .cell) places) same ∙ o .needs
+      asked : keepsOf Outdated state (q .job .given .cell) places (r .references) ≡ false
+      asked = keeps-carried state old r c claims (q .job .given .cell) places ∙ ap (keepsOf Outdated state (q .job .given .cell) places) same ∙ o .asked
 
       listed : updated (from (emptiedOf state)) ≡ updated (from state)
-      listed = update-again (from state .job .given) (o .many) needs (finish-listed t (from (emptiedOf state)) (done-from (emptiedOf state) (o .state)))
+      listed = update-again (from state .job .given) (o .many) asked (finish-listed t (from (emptiedOf state)) (done-from (emptiedOf state) (o .state)))
 
       other-state : Again t q r
       other-state =
@@ -119,11 +122,11 @@ module _ (t : Thermostat) (q : Motion) (r : Rooms) (base : Passed finishLimit t 
     by-rooms : Overfull (q .job .given) (updated q) → Holds q stop r → Again t q r
     by-rooms o (before c) = other-state o (roomsOf q) c refl (base .claims) (base .kept)
     by-rooms o (after c) =
-        let fit = claims-told (state .pairs) (length (q .job .given .pairs) / 2) (state .references) (length (q .job .given .references) / 3) (base .claims) in
-        let claims : claimsMore (state .pairs) (length (updated q .pairs) / 2) (state .references) (length (updated q .references) / 3) ≡ false =
+        let fit = claims-told (state .«built_in») (state .pairs) (length (q .job .given .pairs) / 2) (state .references) (length (q .job .given .references) / 3) (base .claims) in
+        let claims : claimsMore (state .«built_in») (state .pairs) (length (updated q .pairs) / 2) (state .references) (length (updated q .references) / 3) ≡ false =
         rw (o .pairs, o .references, laid-length (q .job .given .pairs) (foundIn (q .job .given))) (base .claims) in
         let kept : keptAsked state (atomsOf places) (updated q .pairs) (updated q .references) ≡ Answered =
-        rw (o .pairs, o .references) (overfull-kept (q .job .given) (o .over) (fit .0) (base .kept)) in
+        rw (o .pairs, o .references) (overfull-kept (q .job .given) (o .over) (fit .0) (fit .2) (base .kept)) in
         other-state o (leftIn stop) c (o .references) claims kept
 
     again : (updated q .state ≡ state) ⊎ Holds q stop r → Again t q r
@@ -135,7 +138,7 @@ module _ (t : Thermostat) (q : Motion) (r : Rooms) (base : Passed finishLimit t 
 
   -- ---- the finishing call refuses nothing
   module _ (h : Holds q stop r) (references : length places ≤ length (r .references)) (items : atomsOf places ≤ length (r .items)) where
-    passes : (s : State) → settingsOk (s .cutoff) (s .skin) ≡ true → claimsMore (s .pairs) (length (r .pairs) / 2) (s .references) (length (r .references) / 3) ≡ false
+    passes : (s : State) → settingsOk (s .cutoff) (s .skin) ≡ true → claimsMore (s .«built_in») (s .pairs) (length (r .pairs) / 2) (s .references) (length (r .references) / 3) ≡ false
         → keptAsked s (atomsOf places) (r .pairs) (r .references) ≡ Answered → motionAsked finishLimit t (from s) ≡ Answered
     passes s settings claims kept =
         let u = ranges-told state (q .job .given .cell) places (base .ranges) in

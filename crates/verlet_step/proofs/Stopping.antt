@@ -17,6 +17,7 @@ use Rattle.verlet.specs.Verlet.{movedOf}
 use Rattle.verlet.proofs.Steps.{drifted-length}
 use Rattle.virial.specs.declared.Units.{Units}
 use Rattle.potentials_pair.specs.Species.{lookOf}
+use Rattle.neighbor.specs.declared.Question.the-variants.{Outdated}
 use Rattle.neighbor.specs.declared.State.{State}
 use Rattle.neighbor.specs.Update.{updateOf}
 use Rattle.neighbor.specs.Update as Update
@@ -32,7 +33,7 @@ never e = let z : _≡_ {A = ℕ} 0 1 = cc in absurd (omega arith)
 
 -- ---- a landing by its ways
 abbrev pub updated : Motion → Update.Outcome
-updated m = updateOf true (m .job .given)
+updated m = updateOf Outdated (m .job .given)
 
 module _ (m : Motion) where
   -- the list's outcome is the landing's

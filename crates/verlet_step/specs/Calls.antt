@@ -15,6 +15,7 @@ use Rattle.verlet.specs.declared.Thermostat.{Thermostat}
 use Rattle.verlet.specs.Parts.{kickedBy, movedBy, drifts, thermostatBy}
 use Rattle.neighbor.specs.declared.State.{State}
 use Rattle.neighbor.specs.Listed.{Listed}
+use Rattle.neighbor.specs.Box.{SameBits}
 use Rattle.neighbor.specs.Update.{Given, given, stays}
 use Rattle.neighbor.specs.Update as Update
 use Rattle.evaluate.specs.declared.Setting.{Setting}
@@ -175,3 +176,7 @@ FinishSays t m r velocities pairs references starts items forces = shown r (m .j
 -- Demand 3 of a step or a finishing call that built the list anew, said of the lent pairs at exit, over the positions at exit: those of a step are the moved ones.
 abbrev pub StepLists : Motion → Stepped → (positions : List Float) → (pairs : List ℕ) → Type 0
 StepLists m r positions pairs = r .rebuilt ≡ true → Listed (givenAt (m .job .given) positions) (r .state) pairs
+
+-- 02, No. 6, of a step or a finishing call that kept the list: the cell is, bit for bit, the one that it was built in. It follows from what they say (proofs/Box.antt).
+abbrev pub StepKeeps : Motion → Stepped → Type 0
+StepKeeps m r = r .done ≡ Done·cases.Answered → r .rebuilt ≡ false → SameBits (m .job .given .state .«built_in») (m .job .given .cell)

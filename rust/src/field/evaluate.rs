@@ -21,7 +21,8 @@ pub struct Terms {
 
 /// Brings its pair list up to date and runs its terms: Lennard-Jones, Coulomb, bonds, each present one merged in this order into zero.
 ///
-/// In the original's words: `list.maybe_build(positions, cell)`, then `compute_pairs`, `compute_pairs`, `compute_all`, each merged into
+/// In the original's words: `list.maybe_build(positions, cell)`, or `list.build(positions, cell)` where the cell is not the one that the list was built in
+/// ([`NeighborList::outdated`]), then `compute_pairs`, `compute_pairs`, `compute_all`, each merged into
 /// `Contribution::zeros(n)`.
 #[derive(Debug, Clone)]
 pub struct Evaluator {

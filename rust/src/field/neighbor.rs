@@ -1,6 +1,6 @@
 //! Verlet neighbor lists backed by a grid of cells.
 //!
-//! The list holds every pair within `cutoff + skin` and stays valid until some atom has moved more than `skin/2`.
+//! The list holds every pair within `cutoff + skin` and stays valid until some atom has moved more than `skin/2` or the cell has changed.
 use super::cell::Lattice;
 use crate::raw::{self, Done, State};
 use crate::Error;
@@ -39,6 +39,7 @@ pub(crate) struct Rooms {
     pub items: Vec<u32>,
 }
 
+type Question = fn(State, raw::Cell, &[f64], &[f64]) -> raw::YesNo;
 type Update = fn(State, raw::Cell, &[f64], &[u32], &mut [u32], &mut [f64], &mut [u32], &mut [u32]) -> raw::Updated;
 
 impl NeighborList {
@@ -123,14 +124,33 @@ impl NeighborList {
     }
 
     /// Whether the pair list must be rebuilt for the given positions: some atom has moved more than `skin/2`, the skin is 0, or the count changed.
+    ///
+    /// It knows nothing of a cell that changed; [`Self::outdated`] does.
     pub fn needs_rebuild(&self, positions: &[[f64; 3]], cell: Option<&Lattice>) -> Result<bool, Error> {
+        self.ask("tyn_needs_rebuild", raw::tyn_needs_rebuild, positions, cell)
+    }
+
+    /// Whether the pair list must be rebuilt for the given positions in the given cell: [`Self::needs_rebuild`] calls for it, or the cell is not, bit for
+    /// bit, the one that the list was built in (also a cell against none). An [`Evaluator`](super::evaluate::Evaluator) asks this question; the original has
+    /// none like it.
+    pub fn outdated(&self, positions: &[[f64; 3]], cell: Option<&Lattice>) -> Result<bool, Error> {
+        self.ask("tyn_outdated", raw::tyn_outdated, positions, cell)
+    }
+
+    /// The cell of the last build: none before the first one, and none where it was built without a cell.
+    pub fn built_in(&self) -> Option<Lattice> {
+        let raw::Cell { present, lattice: l } = self.state.built_in;
+        (present != 0).then_some(Lattice { a: l.a.into(), b: l.b.into(), c: l.c.into(), periodic: [l.px != 0, l.py != 0, l.pz != 0] })
+    }
+
+    fn ask(&self, call: &'static str, question: Question, positions: &[[f64; 3]], cell: Option<&Lattice>) -> Result<bool, Error> {
         // the library wants as many references as positions, also where the counts differ
         let mut references = Cow::Borrowed(&self.rooms.references);
         if references.len() < 3 * positions.len() {
             references.to_mut().resize(3 * positions.len(), 0.0);
         }
-        let r = raw::tyn_needs_rebuild(self.state(), cell.into(), positions.as_flattened(), &references);
-        r.done.of("tyn_needs_rebuild")?;
+        let r = question(self.state(), cell.into(), positions.as_flattened(), &references);
+        r.done.of(call)?;
         Ok(r.value != 0)
     }
 
