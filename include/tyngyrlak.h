@@ -48,7 +48,9 @@ enum tyn_refusal {
     /* a second header, or an atom number again */
     TYN_AGAIN = 10,
     /* an atom is absent, or at the place NO_HEADER the header; one case, so that number and place tell the case */
-    TYN_ABSENT = 11
+    TYN_ABSENT = 11,
+    /* a total would pass 2^64 - 1: the list is there, the totals are as they came */
+    TYN_FULL = 13
 };
 
 /* Answered (number 0, place 0), or a refusal's number and place. */
@@ -501,6 +503,14 @@ tyn_whole tyn_solve(const uint8_t *input, size_t input_len, uint8_t *out, size_t
  * over the old coordinates with the radius cutoff + skin has every pair of the moved ones that is within the cutoff. f.radius is the cutoff. Refusals
  * 1, 2, 3. */
 tyn_yes_no tyn_within_skin(tyn_frame f, uint32_t skin, const uint32_t *old, size_t old_len, const uint32_t *moved, size_t moved_len);
+
+/* ---- Shell counts over a run of whole-number frames. */
+
+/* The pairs of tyn_frame_build, each added to the total of its shell: its squared distance divided by width, the last shell open upward. Refusals 1,
+ * 2, 3 (also a width of 0 or no totals), 5, 7, 8, 13 (a total would pass 2^64 - 1: the totals are as they came, the list is there). */
+tyn_built tyn_add_shells(tyn_frame f, const uint32_t *coordinates, size_t coordinates_len, const uint32_t *exclusions, size_t exclusions_len,
+    uint64_t width, uint64_t *totals, size_t totals_len, uint32_t *pairs, size_t pairs_len, uint32_t *starts, size_t starts_len, uint32_t *items,
+    size_t items_len);
 
 /* ---- The terms over pairs (potentials.rs), and the evaluator. */
 

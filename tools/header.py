@@ -9,7 +9,7 @@ import textwrap
 
 ROOT = os.path.dirname(os.path.dirname(os.path.abspath(__file__)))
 HEADER = os.path.join(ROOT, "include", "tyngyrlak.h")
-GROUPS = ["floats", "cells", "virials", "pairs", "boxes", "parts", "frames", "skins", "forces", "speeds", "motion"]
+GROUPS = ["floats", "cells", "virials", "pairs", "boxes", "parts", "frames", "skins", "counts", "forces", "speeds", "motion"]
 STRUCTS = ["cell/src/lib", "virial/src/lib", "potentials/src/lib", "frame/src/lib", "field_structs/src/lib"]
 NUMBERS = {"f64": "double", "u8": "uint8_t", "u32": "uint32_t", "u64": "uint64_t", "i64": "int64_t", "usize": "size_t"}
 
@@ -132,6 +132,8 @@ def refusals():
         if case == "Range":
             words += "; place 1: a drifted coordinate"
         out += "    /* %s */\n    %s = %s,\n" % (words, name, numbers[case])
+    # 13 is a case of `shells::Counted`: no other call has it
+    out += "    /* a total would pass 2^64 - 1: the list is there, the totals are as they came */\n    TYN_FULL = 13,\n"
     return out.rstrip(",\n") + "\n};\n"
 
 

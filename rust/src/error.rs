@@ -9,9 +9,10 @@ use std::fmt;
 pub struct Error {
     /// The library's call, as include/tyngyrlak.h names it.
     pub call: &'static str,
-    /// The refusal's number, 1 to 8.
+    /// The refusal's number, 1 to 13.
     pub number: u32,
-    /// Its place: for 2 the number of atoms, for 3 a 1 where a drifted coordinate is meant, for 4 the row, for 8 the full count; else 0.
+    /// Its place: for 2 the number of atoms, for 3 a 1 where a drifted coordinate is meant, for 4 the row (of a sheet the atom), for 8 the full count, for
+    /// 9 and 10 a sheet's line, for 11 the atom (ffffffff: the header); else 0.
     pub place: u64,
     /// Whether a step stopped after its drift: [`verlet_finish`](crate::field::verlet::verlet_finish) then takes it to its end.
     pub stopped: bool,
@@ -30,6 +31,11 @@ impl Error {
             (6, _) => "the list claims more than its room",
             (7, _) => "the grid needs more than 32,768 cells",
             (8, _) => "the pairs do not fit",
+            (9, _) => "a line of the sheet is malformed",
+            (10, _) => "a second header, or an atom number again",
+            (11, 0xffff_ffff) => "the sheet has no header",
+            (11, _) => "an atom of the sheet is absent",
+            (13, _) => "a total would pass 2^64 - 1",
             _ => "the library refused",
         }
     }

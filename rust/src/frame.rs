@@ -19,6 +19,7 @@
 //! ```
 use crate::raw;
 use crate::Error;
+use std::collections::BTreeSet;
 
 /// The most cells of a grid, and one more start than cells.
 const STARTS: usize = 32_768 + 1;
@@ -26,7 +27,7 @@ const STARTS: usize = 32_768 + 1;
 /// A box of whole edges, each axis periodic or open, and a radius.
 ///
 /// Edges are 1 to 2^20, coordinates below the edge, the radius 0 to 2^20, and on a periodic axis at most half the edge; every call refuses others (3).
-#[derive(Clone, Copy, Debug, PartialEq, Eq)]
+#[derive(Clone, Copy, Debug, Default, PartialEq, Eq)]
 pub struct Frame {
     /// The three edges.
     pub edges: [u32; 3],
@@ -87,7 +88,7 @@ impl Frame {
         Ok(r.value != 0)
     }
 
-    fn flat(&self) -> raw::Frame {
+    pub(crate) fn flat(&self) -> raw::Frame {
         let ([ex, ey, ez], [px, py, pz]) = (self.edges, self.periodic.map(u32::from));
         raw::Frame { ex, ey, ez, px, py, pz, radius: self.radius }
     }
@@ -95,4 +96,38 @@ impl Frame {
 
 fn spot([x, y, z]: [u32; 3]) -> raw::Spot {
     raw::Spot { x, y, z }
+}
+
+/// One moment of a run: a frame, its atoms and the pairs that are never listed. It is made untested; the calls that read it test it.
+#[derive(Clone, Debug, Default, PartialEq, Eq)]
+pub struct Snapshot {
+    /// The box and the radius.
+    pub frame: Frame,
+    /// The atoms, each coordinate below its edge.
+    pub atoms: Vec<[u32; 3]>,
+    /// The pairs that are never listed, low number before high.
+    pub exclusions: BTreeSet<(u32, u32)>,
+}
+
+impl Snapshot {
+    /// What a job sheet says (docs/SHEET.md). Refusals 1, 9, 10, 8, 11, 2, 4; what is out of range is refused where the frame is used.
+    pub fn from_sheet(sheet: &[u8]) -> Result<Self, Error> {
+        let mut places = vec![0; 3072];
+        let mut table = vec![0; 2048];
+        let read = raw::tyn_read(sheet, &mut places, &mut table);
+        read.done.of("tyn_read")?;
+        let job = read.job;
+        Ok(Self {
+            frame: Frame { edges: [job.ex, job.ey, job.ez], periodic: [job.px != 0, job.py != 0, job.pz != 0], radius: job.radius },
+            atoms: places.chunks_exact(3).take(job.atoms as usize).map(|p| [p[0], p[1], p[2]]).collect(),
+            exclusions: table.chunks_exact(2).take(job.count as usize).map(|p| (p[0], p[1])).collect(),
+        })
+    }
+
+    /// Leaves a pair out, either way round; an atom with itself is no pair.
+    pub fn exclude(&mut self, i: u32, j: u32) {
+        if i != j {
+            self.exclusions.insert((i.min(j), i.max(j)));
+        }
+    }
 }

@@ -17,6 +17,8 @@
 //! - Not carried over: `reciprocal`, the tail terms, angles, torsions, Nosé-Hoover, the barostat, the minimizer.
 //! - The original's `units` are constants of its own; [`field::units`] has CODATA's unless the crate is built with TYNGYRLAK_UNITS.
 //!
+//! Beside the original's calls: whole-number frames and their job sheets ([`frame`]), and how many of their pairs sit at each distance ([`shells`]).
+//!
 //! Answers equal the original's, float for float, in these ranges; outside of them a call refuses. Every float is finite.
 //!
 //! | | |
@@ -41,6 +43,9 @@ pub mod field;
 pub mod frame;
 #[allow(unsafe_code, missing_docs)]
 mod raw;
+pub mod shells;
 
 pub use error::Error;
 pub use field::*;
+pub use frame::{Frame, Snapshot};
+pub use shells::Shells;

@@ -45,6 +45,8 @@ structs! {
     Whole { done: Done, value: u64 }
     Updated { done: Done, rebuilt: u32, state: State }
     Built { done: Done, pairs: u32, checks: u32, fallback: u32 }
+    Job { atoms: u32, ex: u32, ey: u32, ez: u32, px: u32, py: u32, pz: u32, radius: u32, count: u32 }
+    Sheet { done: Done, job: Job }
     Evaluated { done: Done, rebuilt: u32, state: State, sum: Sum }
     Stepped { done: Done, stopped: u32, rebuilt: u32, state: State, potential: f64 }
 }
@@ -122,6 +124,9 @@ calls! {
     fn tyn_squared_distance(f: Frame, p: Spot, q: Spot) -> Whole;
     fn tyn_frame_build(f: Frame, coordinates: &[u32], exclusions: &[u32], pairs: &mut [u32], starts: &mut [u32], items: &mut [u32]) -> Built;
     fn tyn_within_skin(f: Frame, skin: u32, old: &[u32], moved: &[u32]) -> YesNo;
+    fn tyn_read(input: &[u8], coordinates: &mut [u32], exclusions: &mut [u32]) -> Sheet;
+    fn tyn_add_shells(f: Frame, coordinates: &[u32], exclusions: &[u32], width: u64, totals: &mut [u64], pairs: &mut [u32], starts: &mut [u32],
+        items: &mut [u32]) -> Built;
 
     fn tyn_kinetic_energy(units: Units, velocities: &[f64], masses: &[f64]) -> Number;
     fn tyn_temperature(units: Units, dof: f64, velocities: &[f64], masses: &[f64]) -> Number;

@@ -15,6 +15,7 @@ use Rattle.verlet.proofs.Only.{kinetic-energy-only, temperature-only, berendsen
 use Rattle.verlet_step.proofs.Only.{step-only, finish-only}
 use Rattle.frame.proofs.Only.{squared-distance-only, build-only}
 use Rattle.skin.proofs.Only.{within-skin-only}
+use Rattle.shells.proofs.Only.{add-shells-only}
 use Rattle.sheet.proofs.Only.{read-only}
 use Rattle.sheet_answer.proofs.Only.{solve-only}
 use Rattle.field_structs.proofs.Only.{shown-only, shown-alone}
@@ -70,6 +71,7 @@ use Rattle.field.proofs.frames.tyn_frame_build as frame-build
 use Rattle.field.proofs.skins.tyn_within_skin as within-skin
 use Rattle.field.proofs.frames.tyn_read as read
 use Rattle.field.proofs.frames.tyn_solve as solve
+use Rattle.field.proofs.counts.tyn_add_shells as add-shells
 use Rattle.field.proofs.forces.tyn_monatomic as monatomic
 use Rattle.field.proofs.forces.tyn_argon as argon
 use Rattle.field.proofs.forces.tyn_uniform as uniform
@@ -246,6 +248,9 @@ tyn-read-only l a r s m n p q = shown-only p q (λ u v h k. let b = read-only _ 
 
 pub tyn-solve-only : OneOutcome solve.ended solve.Reads.Post
 tyn-solve-only l a r s m n p q = shown-only p q (λ u v h k. let b = solve-only _ _ u v _ _ (h .0) (k .0) in (b .0, λ i. (tt, (b .1 i, tt))))
+
+pub tyn-add-shells-only : OneOutcome add-shells.ended add-shells.Reads.Post
+tyn-add-shells-only l a r s m n p q = shown-only p q (λ u v h k. let b = add-shells-only _ u v _ _ _ _ _ _ _ _ h k in (b .0, λ i. (tt, (tt, (tt, (tt, (b .1 i, (b .2 i, (b .3 i, (b .4 i, tt))))))))))
 
 -- ---- the terms over pairs, and the evaluator
 pub tyn-monatomic-only : OneOutcome monatomic.ended monatomic.Reads.Post

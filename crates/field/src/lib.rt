@@ -3,6 +3,7 @@
 // include/tyngyrlak.h is made of these files and of the structs of crate `field_structs`.
 pub mod boxes;
 pub mod cells;
+pub mod counts;
 pub mod floats;
 pub mod forces;
 pub mod frames;

@@ -1,4 +1,5 @@
 pub mod Flat
+pub mod FlatCounted
 pub mod Taken
 pub mod Shown
 pub mod Unique

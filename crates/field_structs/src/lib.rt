@@ -9,6 +9,7 @@ use virial::Sum;
 use virial::Units;
 
 pub mod give;
+pub mod give_counted;
 pub mod take;
 
 // ---- arguments

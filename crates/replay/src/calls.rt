@@ -2,6 +2,7 @@
 // new group is a module and a line here. A case takes its arguments one after the other, each from the place that the one before left; where it does not
 // end at the number of words it is no case, and answers no words (0). Then it calls, and puts its answer together in `out`.
 use crate::cells;
+use crate::counts;
 use crate::evaluations;
 use crate::excluded;
 use crate::floats;
@@ -32,6 +33,9 @@ pub(crate) fn answer(call: u64, ws: &[u64], out: &mut [u64; 8208]) -> usize {
     }
     if call == 70 {
         return skins::answer(ws, out);
+    }
+    if call == 68 {
+        return counts::add_shells_case(ws, out);
     }
     if call < 80 {
         return frames::answer(call, ws, out);

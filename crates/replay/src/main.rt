@@ -5,6 +5,7 @@ use libc::STDOUT_FILENO;
 mod answers;
 mod calls;
 mod cells;
+mod counts;
 mod evaluations;
 mod excluded;
 mod floats;

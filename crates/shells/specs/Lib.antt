@@ -1,0 +1,3 @@
+pub mod Shells
+pub mod Theorems
+pub mod Steps
