@@ -512,6 +512,14 @@ tyn_built tyn_add_shells(tyn_frame f, const uint32_t *coordinates, size_t coordi
     uint64_t width, uint64_t *totals, size_t totals_len, uint32_t *pairs, size_t pairs_len, uint32_t *starts, size_t starts_len, uint32_t *items,
     size_t items_len);
 
+/* ---- Clumps: which atoms hang together by listed pairs. */
+
+/* Labels of count atoms by a list of pairs: the lowest atom that a chain of pairs reaches; the value is how many clumps. Refusals 1, 2, 4. */
+tyn_whole tyn_label(uint32_t count, const uint32_t *pairs, size_t pairs_len, uint32_t *labels, size_t labels_len);
+
+/* The printed clumps of a job sheet at the front of out (at least 11264 bytes); the value is their length. Refusal 1. */
+tyn_whole tyn_solve_clumps(const uint8_t *input, size_t input_len, uint8_t *out, size_t out_len);
+
 /* ---- The terms over pairs (potentials.rs), and the evaluator. */
 
 /* Lennard-Jones numbers of a single species, shifted. Refusal 3. */

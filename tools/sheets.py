@@ -1,13 +1,15 @@
 #!/usr/bin/env python3
-"""Job sheets for the program `pairs_table`, and the answers that an independent model of the scope paper gives.
+"""Job sheets for the programs `pairs_table` and `clumps_table`, and the answers that an independent model of the papers gives.
 
-    tools/sheets.py            writes crates/pairs_table/stdin and crates/pairs_table/stdout
+    tools/sheets.py            writes stdin and stdout of crates/pairs_table and of crates/clumps_table
     tools/sheets.py FILE       prints the model's answer for one sheet
+    tools/sheets.py FILE clumps    prints the model's clumps of one sheet (02, No. 13)
+    tools/sheets.py SEED COUNT     writes that many more sheets to table.in and what `clumps_table` is to print to table.out
     tools/sheets.py -SIZE      prints a sheet of that many bytes: five atoms, then an atom's exclusion with itself again and again (65,536 is whole lines);
                                crates/pairs_over/stdin is the one of 65,537
 
-The model shares nothing with the library: lines by regular expressions, pairs by trying the stencil over a dictionary of bins.
-In crates/pairs_table/stdin each sheet stands after its length, eight hexadecimal digits and a newline."""
+The model shares nothing with the library: lines by regular expressions, pairs by trying the stencil over a dictionary of bins, clumps by a plain
+search from atom to atom. In stdin each sheet stands after its length, eight hexadecimal digits and a newline."""
 import os
 import random
 import re
@@ -103,27 +105,57 @@ def candidates(count, edges, periodic, radius, places):
     return pairs, False
 
 
+def listed(data):
+    """Atoms, listed pairs, checks, and whether all pairs were tried."""
+    (count, ex, ey, ez, mask, radius), places, excluded = read(data)
+    edges, periodic = (ex, ey, ez), [mask >> k & 1 == 1 for k in range(3)]
+    top = 2 ** 20
+    if not all(1 <= e <= top for e in edges) or radius > top or any(x >= e for p in places for x, e in zip(p, edges)):
+        raise Refused(3)
+    # 02, No. 3
+    if any(p and 2 * radius > e for e, p in zip(edges, periodic)):
+        raise Refused(3)
+    if count < 2:
+        return count, [], 0, 0
+    pairs, fallback = candidates(count, edges, periodic, radius, places)
+    pairs = [p for p in pairs if p not in excluded]
+    near = [(a, b) for a, b in pairs
+            if sum(axis(places[a][k] - places[b][k], edges[k], periodic[k]) ** 2 for k in range(3)) <= radius * radius]
+    if len(near) > 8192:
+        raise Refused(8, len(near))
+    return count, near, len(pairs), fallback
+
+
 def solve(data):
     try:
-        (count, ex, ey, ez, mask, radius), places, excluded = read(data)
-        edges, periodic = (ex, ey, ez), [mask >> k & 1 == 1 for k in range(3)]
-        top = 2 ** 20
-        if not all(1 <= e <= top for e in edges) or radius > top or any(x >= e for p in places for x, e in zip(p, edges)):
-            raise Refused(3)
-        # 02, No. 3
-        if any(p and 2 * radius > e for e, p in zip(edges, periodic)):
-            raise Refused(3)
-        if count < 2:
-            return b"81%08x%08x00\n" % (0, 0)
-        pairs, fallback = candidates(count, edges, periodic, radius, places)
-        pairs = [p for p in pairs if p not in excluded]
-        near = [(a, b) for a, b in pairs
-                if sum(axis(places[a][k] - places[b][k], edges[k], periodic[k]) ** 2 for k in range(3)) <= radius * radius]
-        if len(near) > 8192:
-            raise Refused(8, len(near))
-        return b"81%08x%08x%02x\n" % (len(near), len(pairs), fallback) + b"".join(b"82%04x%04x\n" % p for p in near)
+        count, near, checks, fallback = listed(data)
+        return b"81%08x%08x%02x\n" % (len(near), checks, fallback) + b"".join(b"82%04x%04x\n" % p for p in near)
     except Refused as r:
         return r.text
+
+
+def clumps(data):
+    """02, No. 13: from each atom that is not yet reached, all that listed pairs lead to."""
+    try:
+        count, near, _, _ = listed(data)
+    except Refused as r:
+        return r.text
+    beside = {k: set() for k in range(count)}
+    for a, b in near:
+        beside[a].add(b)
+        beside[b].add(a)
+    reached, out = set(), b""
+    for low in range(count):
+        if low in reached:
+            continue
+        clump, waiting = {low}, [low]
+        while waiting:
+            for other in beside[waiting.pop()] - clump:
+                clump.add(other)
+                waiting.append(other)
+        reached |= clump
+        out += b"83%04x%04x\n" % (low, len(clump))
+    return out
 
 
 # ---- sheets
@@ -256,21 +288,65 @@ def table():
     return out
 
 
+def clump_sheets(rng, count):
+    """Sheets about which clumps are asked: frames around the radius at which they join, chains, crosses of two rows, all atoms on one place."""
+    join = b"".join
+    out = []
+    for _ in range(count):
+        kind = rng.randrange(6)
+        if kind == 0:
+            n = rng.choice((0, 1, 2, 3, 17, 64, 130))
+            edges = tuple(rng.randrange(20, 60) for _ in range(3))
+            out.append(join(shuffled(rng, some(rng, n, edges, rng.randrange(8), rng.choice((1, 2, 4, 6, 8, 10)), rng.randrange(4)))))
+        elif kind == 1:
+            n = rng.randrange(2, 200)
+            name = list(range(n))
+            rng.shuffle(name)
+            step = rng.choice((1, 2, 3))
+            gap = rng.randrange(1, n)
+            lines = [header(n, (2 ** 12, 8, 8), rng.choice((0, 6)), step)]
+            out.append(join(shuffled(rng, lines + [atom(name[k], (step * k + (1 if k >= gap else 0), 0, 0)) for k in range(n)])))
+        elif kind == 2:
+            n = rng.randrange(2, 90)
+            lines = [header(n, (1000, 10, 10), 0, 5)] + [atom(k, (10 * (k % 3), 0, 0)) for k in range(n)]
+            out.append(join(shuffled(rng, lines + [exclusion(rng.randrange(n), rng.randrange(n)) for _ in range(rng.randrange(60))])))
+        elif kind == 3:
+            n = rng.choice((200, 500, 1024))
+            edge = rng.choice((60, 90, 120))
+            out.append(join(some(rng, n, (edge, edge, edge), 7, rng.choice((3, 5, 6)), rng.randrange(30))))
+        elif kind == 4:
+            out.append(damaged(rng, join(some(rng, rng.randrange(2, 40), (30, 30, 30), 7, 9, 4))))
+        else:
+            n = rng.randrange(3, 40)
+            lines = [header(n, (2 ** 20, 2 ** 20, 2 ** 20), 0, 2 ** 20)] + [atom(k, (k, 0, 0)) for k in range(n)]
+            out.append(join(lines + [exclusion(a, b) for a in range(n) for b in range(a + 1, n) if rng.random() < 0.9]))
+    return out
+
+
+def put(folder, names, sheets, answer):
+    with open(os.path.join(folder, names[0]), "wb") as f:
+        f.write(b"".join(b"%08x\n" % len(s) + s for s in sheets))
+    with open(os.path.join(folder, names[1]), "wb") as f:
+        f.write(b"".join(answer(s) for s in sheets))
+
+
 def main():
     if len(sys.argv) > 1 and sys.argv[1].startswith("-"):
         sys.stdout.buffer.write(sized(int(sys.argv[1][1:])))
         return
+    if len(sys.argv) > 2 and sys.argv[1].isdigit():
+        put(".", ("table.in", "table.out"), clump_sheets(random.Random(int(sys.argv[1])), int(sys.argv[2])), clumps)
+        return
     if len(sys.argv) > 1:
         with open(sys.argv[1], "rb") as f:
-            sys.stdout.buffer.write(solve(f.read()))
+            sys.stdout.buffer.write((clumps if sys.argv[2:] == ["clumps"] else solve)(f.read()))
         return
-    here = os.path.join(os.path.dirname(os.path.abspath(__file__)), "..", "crates", "pairs_table")
+    crates = os.path.join(os.path.dirname(os.path.abspath(__file__)), "..", "crates")
     sheets = table()
-    with open(os.path.join(here, "stdin"), "wb") as f:
-        f.write(b"".join(b"%08x\n" % len(s) + s for s in sheets))
-    with open(os.path.join(here, "stdout"), "wb") as f:
-        f.write(b"".join(solve(s) for s in sheets))
-    print(len(sheets), "sheets")
+    put(os.path.join(crates, "pairs_table"), ("stdin", "stdout"), sheets, solve)
+    more = sheets + clump_sheets(random.Random(2), 60)
+    put(os.path.join(crates, "clumps_table"), ("stdin", "stdout"), more, clumps)
+    print(len(sheets), "sheets for pairs_table,", len(more), "for clumps_table")
 
 
 if __name__ == "__main__":

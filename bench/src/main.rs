@@ -25,7 +25,7 @@ enum Unit {
     Bond,
 }
 
-const LINES: [Line; 14] = [
+const LINES: [Line; 15] = [
     ("build", Unit::Check, "0.6"),
     ("build, an exclusion an atom", Unit::Check, "0.2"),
     ("build, tilted", Unit::Check, "0.8"),
@@ -40,6 +40,7 @@ const LINES: [Line; 14] = [
     ("step, list kept, every term", Unit::Atom, "1.5"),
     ("step, list built, Lennard-Jones", Unit::Atom, "0.6"),
     ("step, list built, every term", Unit::Atom, ""),
+    ("clumps, beside the same in Rust", Unit::Pair, "1.3"),
 ];
 
 fn sides<'a>(line: &str, d: &'a Data) -> Sides<'a> {
@@ -58,6 +59,7 @@ fn sides<'a>(line: &str, d: &'a Data) -> Sides<'a> {
         "step, list kept, every term" => sides::step(d, true, true),
         "step, list built, Lennard-Jones" => sides::step(d, false, false),
         "step, list built, every term" => sides::step(d, true, false),
+        "clumps, beside the same in Rust" => sides::clumps(d),
         _ => unreachable!("every line is above"),
     }
 }

@@ -258,3 +258,50 @@ pub fn step(d: &Data, every: bool, kept: bool) -> Sides<'_> {
     eval.evaluate(&d.positions).expect("answered");
     (Box::new(TheirStep(Motion::new(d, start.clone()), terms, a)), Box::new(OurStep(Motion::new(d, start), eval)))
 }
+
+/// The library's own steps in Rust: the original has no clumps. Every pair is tested first; an atom points at itself or at a lower one of its clump.
+fn labelled(rows: &[[u32; 2]], labels: &mut [u32]) -> Option<usize> {
+    let n = labels.len() as u32;
+    if rows.iter().any(|r| r[0] >= n || r[1] >= n) {
+        return None;
+    }
+    for (i, l) in labels.iter_mut().enumerate() {
+        *l = i as u32;
+    }
+    fn root(p: &mut [u32], i: u32) -> u32 {
+        let mut at = i;
+        let mut up = p[at as usize];
+        while up < at {
+            let over = p[up as usize];
+            p[at as usize] = over;
+            at = over;
+            up = p[at as usize];
+        }
+        at
+    }
+    for r in rows {
+        if labels[r[0] as usize] == labels[r[1] as usize] {
+            continue;
+        }
+        let (x, y) = (root(labels, r[0]), root(labels, r[1]));
+        labels[x.max(y) as usize] = x.min(y);
+    }
+    let mut clumps = 0;
+    for i in 0..labels.len() {
+        let up = labels[i] as usize;
+        labels[i] = labels[up];
+        clumps += (up == i) as usize;
+    }
+    Some(clumps)
+}
+
+/// The clumps of the list, by its rows.
+pub fn clumps(d: &Data) -> Sides<'_> {
+    let (a, b) = built(d, false);
+    let rows: Vec<[u32; 2]> = a.pairs().iter().map(|&(i, j)| [i as u32, j as u32]).collect();
+    let flat: Vec<u32> = b.pairs().iter().flat_map(|&(i, j)| [i as u32, j as u32]).collect();
+    let of = |s: &(Vec<u32>, usize)| s.0.iter().fold(Digest(s.1 as u64), |h, &l| h.word(l as u64)).0;
+    let first = plain((vec![0; d.n], 0), move |s| s.1 = labelled(black_box(&rows), &mut s.0).expect("answered"), of);
+    let second = plain((vec![0; d.n], 0), move |s| s.1 = tyngyrlak::clumps::label(black_box(&flat), &mut s.0).expect("answered"), of);
+    (first, second)
+}

@@ -1,5 +1,6 @@
-//! The original's `field` module: its files as modules, and [`evaluate`], which stands in for the closure of a step.
+//! The original's `field` module: its files as modules, [`evaluate`], which stands in for the closure of a step, and [`clumps`](mod@clumps), which it has not.
 pub mod cell;
+pub mod clumps;
 pub mod evaluate;
 pub mod neighbor;
 pub mod potentials;
@@ -8,6 +9,7 @@ pub mod verlet;
 pub mod virial;
 
 pub use cell::{min_image, Lattice};
+pub use clumps::{clumps, sheet_clumps, Clumps};
 pub use evaluate::{Evaluator, Terms};
 pub use neighbor::{NeighborList, PairRows};
 pub use potentials::{Coulomb, HarmonicBonds, LennardJones};

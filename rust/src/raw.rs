@@ -112,6 +112,9 @@ calls! {
     fn tyn_maybe_build(s: State, cell: Cell, positions: &[f64], exclusions: &[u32], pairs: &mut [u32], references: &mut [f64], starts: &mut [u32],
         items: &mut [u32]) -> Updated;
 
+    fn tyn_label(count: u32, pairs: &[u32], labels: &mut [u32]) -> Whole;
+    fn tyn_solve_clumps(input: &[u8], out: &mut [u8]) -> Whole;
+
     fn tyn_lj_pairs(lj: Lj, cell: Cell, ids: &[u32], params: &[f64], species: &[u32], positions: &[f64], pairs: &[u32], forces: &mut [f64]) -> Summed;
     fn tyn_lj_all(lj: Lj, cell: Cell, ids: &[u32], params: &[f64], species: &[u32], positions: &[f64], forces: &mut [f64]) -> Summed;
     fn tyn_coulomb_pairs(units: Units, cutoff: f64, cell: Cell, charges: &[f64], positions: &[f64], pairs: &[u32], forces: &mut [f64]) -> Summed;

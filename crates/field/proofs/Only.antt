@@ -18,6 +18,8 @@ use Rattle.skin.proofs.Only.{within-skin-only}
 use Rattle.shells.proofs.Only.{add-shells-only}
 use Rattle.sheet.proofs.Only.{read-only}
 use Rattle.sheet_answer.proofs.Only.{solve-only}
+use Rattle.clumps_label.proofs.Only.{label-only}
+use Rattle.clumps_answer.proofs.Only.{solve-clumps-only}
 use Rattle.field_structs.proofs.Only.{shown-only, shown-alone}
 use Rattle.field_structs.specs.Unique.{OneOutcome}
 use Rattle.field_structs.specs.declared.FlatPart.{FlatPart}
@@ -72,6 +74,8 @@ use Rattle.field.proofs.skins.tyn_within_skin as within-skin
 use Rattle.field.proofs.frames.tyn_read as read
 use Rattle.field.proofs.frames.tyn_solve as solve
 use Rattle.field.proofs.counts.tyn_add_shells as add-shells
+use Rattle.field.proofs.clumps.tyn_label as label
+use Rattle.field.proofs.clumps.tyn_solve_clumps as solve-clumps
 use Rattle.field.proofs.forces.tyn_monatomic as monatomic
 use Rattle.field.proofs.forces.tyn_argon as argon
 use Rattle.field.proofs.forces.tyn_uniform as uniform
@@ -251,6 +255,11 @@ tyn-solve-only l a r s m n p q = shown-only p q (λ u v h k. let b = solve-only 
 
 pub tyn-add-shells-only : OneOutcome add-shells.ended add-shells.Reads.Post
 tyn-add-shells-only l a r s m n p q = shown-only p q (λ u v h k. let b = add-shells-only _ u v _ _ _ _ _ _ _ _ h k in (b .0, λ i. (tt, (tt, (tt, (tt, (b .1 i, (b .2 i, (b .3 i, (b .4 i, tt))))))))))
+pub tyn-label-only : OneOutcome label.ended label.Reads.Post
+tyn-label-only l a r s m n p q = shown-only p q (λ u v h k. let b = label-only _ _ _ u v _ _ h k in (b .0, λ i. (tt, (tt, (b .1 i, tt)))))
+
+pub tyn-solve-clumps-only : OneOutcome solve-clumps.ended solve-clumps.Reads.Post
+tyn-solve-clumps-only l a r s m n p q = shown-only p q (λ u v h k. let b = solve-clumps-only _ _ u v _ _ (h .0) (k .0) in (b .0, λ i. (tt, (b .1 i, tt))))
 
 -- ---- the terms over pairs, and the evaluator
 pub tyn-monatomic-only : OneOutcome monatomic.ended monatomic.Reads.Post

@@ -4,6 +4,7 @@
 pub mod boxes;
 pub mod cells;
 pub mod counts;
+pub mod clumps;
 pub mod floats;
 pub mod forces;
 pub mod frames;

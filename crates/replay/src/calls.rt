@@ -8,6 +8,7 @@ use crate::excluded;
 use crate::floats;
 use crate::forces;
 use crate::frames;
+use crate::labels;
 use crate::neighbors;
 use crate::skins;
 use crate::steps;
@@ -36,6 +37,9 @@ pub(crate) fn answer(call: u64, ws: &[u64], out: &mut [u64; 8208]) -> usize {
     }
     if call == 68 {
         return counts::add_shells_case(ws, out);
+    }
+    if call == 69 {
+        return labels::answer(call, ws, out);
     }
     if call < 80 {
         return frames::answer(call, ws, out);

@@ -11,6 +11,7 @@ mod excluded;
 mod floats;
 mod forces;
 mod frames;
+mod labels;
 mod lines;
 mod masks;
 mod neighbors;

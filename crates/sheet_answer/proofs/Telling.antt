@@ -1,22 +1,28 @@
--- What `read` and `build` told is what is printed. Assumes nothing.
-use Prim.Native.Nat.{ℕ, _+_, _*_, _≤_, _<_}
+-- What `read` and `build` told is the list of a sheet, and its text is what is printed. Assumes nothing.
+use Prim.Native.Nat.{ℕ, _+_, _*_, _/_, _≤_, _<_}
 use mathlib.Core.Path.{_≡_, refl, sym, ap, _∙_}
-use mathlib.Core.Bool.{cond}
+use mathlib.Core.Bool.{Bool, true, false, cond}
 use mathlib.Core.List.{List, _++_}
 use native.Mathlib.Omega.{arith}
 use lib.ListN.{length, take, drop, replicate}
 use lib.Seq.{sets, sets-eq, take-at}
-use lib.Dec.{ltb}
-use borrow.Author.Tests.{le-ltb, lt-ltb}
+use lib.Dec.{ltb, leb}
+use borrow.Author.Tests.{le-ltb, lt-ltb, leb-true}
 use Rattle.answer.specs.Seen.{Seen, answered, refused, refusedBy, numberOf, placeOf}
+use Rattle.answer.specs.declared.Done.{Done}
+use Rattle.answer.specs.declared.Done.the-variants.{Answered, Refused}
 use Rattle.answer.specs.declared.Refusal.{Refusal}
-use Rattle.answer.specs.declared.Refusal.the-variants.{Lengths}
+use Rattle.answer.specs.declared.Refusal.the-variants.{Lengths, Room, Cells}
+use Rattle.lists.specs.Atoms.{atomsOf}
 use Rattle.lists.specs.Lists.{flat}
 use Rattle.lists.proofs.Cases.{by-test, impossible}
 use Rattle.lists.proofs.Rows.{length-flat}
 use Rattle.frame.specs.declared.Frame.{Frame}
 use Rattle.frame.specs.declared.Built.{Built}
-use Rattle.frame.specs.Build.{Outcome, seenBuilt, buildOf, BuildSays}
+use Rattle.frame.specs.Laying.{plainOf, crowded}
+use Rattle.frame.specs.Listed.{BuildLists}
+use Rattle.frame.specs.Build.{Given, Counts, Outcome, seenBuilt, stays, nearPairs, checksOf, shownOf, runOf, startsLaid, itemsLaid, frameAsked, afterOf, buildOf, BuildSays}
+use Rattle.frame.proofs.Outcomes.{pairs-kept}
 use Rattle.sheet_printed.specs.Printed.{refusalLine}
 use Rattle.sheet.specs.declared.Job.{Job}
 use Rattle.sheet.specs.Reading.{Sound, sheetOf}
@@ -24,23 +30,88 @@ use Rattle.sheet.specs.Read as reading
 use Rattle.sheet.specs.declared.Sheet as sheet
 use Rattle.sheet.specs.declared.Sheet.the-variants as sheets
 use Rattle.sheet.proofs.Sizes.{full}
+use Rattle.sheet_answer.specs.declared.SheetList.{SheetList}
 use Rattle.sheet_answer.specs.Solve.{frameFor, givenFor, shownText, jobText, printed, solveOf, answerText}
+use Rattle.sheet_answer.specs.List.{SheetCounts, seenList, ListOutcome, givenIn, withAtoms, jobList, listFor, sheetListOf, ListSays, Sheeted}
+use Rattle.sheet_answer.specs.Steps.{listText}
 
--- a text is written under another name
-pub wrote : (t u : List ℕ) (n : ℕ) (out out′ : List ℕ) → t ≡ u → n ≡ length t → out′ ≡ sets out 0 t → (n ≡ length u) × (out′ ≡ sets out 0 u)
-wrote t u n out out′ e p q = (p ∙ ap length e, q ∙ ap (λ (x : List ℕ). sets out 0 x) e)
+-- ---- what `build` told: the list of what was read
+with-answered : (n : ℕ) (a : Seen Counts) (c : SheetCounts) → withAtoms n a ≡ answered c → (c .atoms ≡ n) × (a ≡ answered (c .built))
+with-answered n (answered b) c e =
+    let h : record { atoms = n; built = b } ≡ c = cc in (sym (ap (λ (x : SheetCounts). x .atoms) h), ap (λ (x : SheetCounts). answered (x .built)) h)
+with-answered n (refused k p) c e = impossible (cc)
 
--- ---- the build's text
-module _ (j : Job) (co ex : List ℕ) (f : Frame) (is : f ≡ frameFor j) (r : Built) (ps ss it : List ℕ)
-    (says : BuildSays (record { frame = f; coordinates = co; exclusions = ex; pairs = replicate 16384 0; starts = replicate 16384 0; items = replicate 1024 0 }) r ps ss it) where
+shown-room : (n k room : ℕ) (t : Bool) (c : Counts) → shownOf n k room t ≡ answered c → c .pairs ≤ room
+unfolding shownOf
+shown-room n k room t c =
+    by-test (λ b. cond b (answered (record { pairs = n; checks = k; fallback = t })) (refusedBy (Room n)) ≡ answered c → c .pairs ≤ room) (leb n room)
+    (λ e q. let h : record { pairs = n; checks = k; fallback = t } ≡ c = cc in let g : n ≡ c .pairs = ap (λ (x : Counts). x .pairs) h in omega (arith, leb-true n room e))
+    (λ _ q. impossible (cc))
+
+module _ (i : Given) where
+  abbrev few : Outcome
+  few = stays i (answered (record { pairs = 0; checks = 0; fallback = false }))
+
+  abbrev plain : Outcome
+  plain = runOf i (i .starts) (i .items) true
+
+  abbrev crowd : Outcome
+  crowd = stays i (refusedBy Cells)
+
+  abbrev grid : Outcome
+  grid = runOf i (startsLaid (i .frame) (i .coordinates) (i .starts)) (itemsLaid (i .frame) (i .coordinates) (i .items)) false
+
+  run-room : (ss it : List ℕ) (t : Bool) (c : Counts) → runOf i ss it t .answer ≡ answered c → c .pairs ≤ length (i .pairs) / 2
+  unfolding runOf
+  run-room ss it t c q =
+      shown-room (length (nearPairs (i .frame) (i .coordinates) (i .exclusions))) (checksOf (i .frame) (i .coordinates) (i .exclusions))
+      (length (i .pairs) / 2) t c q
+
+  after-room : (a : Done) (c : Counts) → afterOf i a .answer ≡ answered c → c .pairs ≤ length (i .pairs) / 2
+  unfolding afterOf
+  after-room (Refused r) c q = impossible (cc)
+  after-room Answered c q =
+      by-test
+      (λ t. cond t few (cond (plainOf (i .frame)) plain (cond (crowded (i .frame) (length (i .starts))) crowd grid)) .answer ≡ answered c → c .pairs ≤ length (i .pairs) / 2)
+      (ltb (atomsOf (i .coordinates)) 2)
+      (λ _ z. let h : record { pairs = 0; checks = 0; fallback = false } ≡ c = cc in let g : 0 ≡ c .pairs = ap (λ (x : Counts). x .pairs) h in omega arith)
+      (λ _.
+      by-test (λ t. cond t plain (cond (crowded (i .frame) (length (i .starts))) crowd grid) .answer ≡ answered c → c .pairs ≤ length (i .pairs) / 2) (plainOf (i .frame))
+      (λ _. run-room (i .starts) (i .items) true c)
+      (λ _.
+      by-test (λ t. cond t crowd grid .answer ≡ answered c → c .pairs ≤ length (i .pairs) / 2) (crowded (i .frame) (length (i .starts)))
+      (λ _ z. impossible (cc))
+      (λ _. run-room (startsLaid (i .frame) (i .coordinates) (i .starts)) (itemsLaid (i .frame) (i .coordinates) (i .items)) false c)))
+      q
+
+module _ (j : Job) (co ex pairs : List ℕ) (f : Frame) (is : f ≡ frameFor j) (r : Built) (ps ss it : List ℕ)
+    (says : BuildSays (record { frame = f; coordinates = co; exclusions = ex; pairs = pairs; starts = replicate 16384 0; items = replicate 1024 0 }) r ps ss it) where
   outcome : Outcome
   outcome = record { answer = seenBuilt r; pairs = ps; starts = ss; items = it }
 
-  pub built-text : (b : Built) → r ≡ b → shownText (seenBuilt b) ps ≡ jobText j co ex
-  unfolding jobText givenFor outcome
-  built-text b e =
-      let g : outcome ≡ buildOf (givenFor j co ex) = rw is at says in
-      rw (sym e) (ap (λ (o : Outcome). shownText (o .answer) (o .pairs)) g)
+  built-is : outcome ≡ buildOf (givenIn j co ex pairs)
+  unfolding givenIn outcome
+  built-is = rw is at says
+
+  module _ (b : Built) (e : r ≡ b) where
+    pub job-listed : record { shown = withAtoms (j .atoms) (seenBuilt b); pairs = ps } ≡ jobList j co ex pairs
+    unfolding jobList outcome
+    job-listed =
+        ap (λ (y : Built). record { shown = withAtoms (j .atoms) (seenBuilt y); pairs = ps }) (sym e)
+        ∙ ap (λ (o : Outcome). record { shown = withAtoms (j .atoms) (o .answer); pairs = o .pairs }) built-is
+
+    pub job-fits : BuildLists (record { frame = f; coordinates = co; exclusions = ex; pairs = pairs; starts = replicate 16384 0; items = replicate 1024 0 }) r ps → length co ≡ 3 * j .atoms → j .atoms ≤ 1024 → (c : SheetCounts) → withAtoms (j .atoms) (seenBuilt b) ≡ answered c → Sheeted c ps
+    unfolding outcome buildOf givenIn
+    job-fits lists long few c a =
+        let w = with-answered (j .atoms) (seenBuilt b) c a in
+        let seen : seenBuilt r ≡ answered (c .built) = ap seenBuilt e ∙ w .1 in
+        let fit = after-room (givenIn j co ex pairs) (frameAsked (frameFor j) co ex (length (replicate {A = ℕ} 1024 0))) (c .built) (sym (ap (λ (o : Outcome). o .answer) built-is) ∙ seen) in
+        let kept : length ps ≡ length pairs = ap (λ (o : Outcome). length (o .pairs)) built-is ∙ pairs-kept (givenIn j co ex pairs) in
+        record {
+          few = omega (arith, w .0);
+          room = omega (arith, fit, kept);
+          two = λ p m. let t = lists (c .built) seen .exactly .sound p m .0 in let n : length co / 3 ≡ c .atoms = omega (arith, w .0) in (t .0, omega (arith, t .1, n));
+        }
 
 -- ---- what `read` told
 abbrev told : Seen Job → List ℕ → List ℕ → reading.Outcome
@@ -54,11 +125,12 @@ front xs room n e h =
 
 module _ (s co ex : List ℕ) (a : 3072 ≤ length co) (b : 2048 ≤ length ex) where
   module _ (co′ ex′ : List ℕ) where
-    -- a sheet that is answered: its sizes, and its text
+    -- a sheet that is answered: its sizes, and its list
     pub record Handed (j : Job) : Type 0 where
       pub atoms : 3 * j .atoms ≤ 3072
       pub count : 2 * j .count ≤ 2048
-      pub text : jobText j (take (3 * j .atoms) co′) (take (2 * j .count) ex′) ≡ answerText (sheetOf s)
+      pub few : j .atoms ≤ 1024
+      pub list : (pairs : List ℕ) → jobList j (take (3 * j .atoms) co′) (take (2 * j .count) ex′) pairs ≡ listFor (sheetOf s) pairs
 
     handed-by : (j : Job) (x : Seen Sound) → sheetOf s ≡ x → told (answered j) co′ ex′ ≡ reading.handed x co ex → Handed j
     unfolding reading.jobFor
@@ -70,7 +142,12 @@ module _ (s co ex : List ℕ) (a : 3072 ≤ length co) (b : 2048 ≤ length ex) 
         let jc : j .count ≡ length (w .rows) = ap (λ (k : Job). k .count) ji in
         let ci : take (3 * j .atoms) co′ ≡ w .coords = ap (λ (l : List ℕ). take (3 * j .atoms) l) (ap (λ (o : reading.Outcome). o .coordinates) p) ∙ front (w .coords) co (3 * j .atoms) (omega (arith, f .size)) (omega (arith, f .atoms)) in
         let xi : take (2 * j .count) ex′ ≡ flat (w .rows) = ap (λ (l : List ℕ). take (2 * j .count) l) (ap (λ (o : reading.Outcome). o .exclusions) p) ∙ front (flat (w .rows)) ex (2 * j .count) (omega (arith, length-flat (w .rows))) (omega (arith, f .few)) in
-        record { atoms = omega (arith, f .atoms); count = omega (arith, f .few); text = rw (ci, xi, e) (ap (λ (k : Job). jobText k (w .coords) (flat (w .rows))) ji) }
+        record {
+          atoms = omega (arith, f .atoms);
+          count = omega (arith, f .few);
+          few = omega (arith, f .atoms);
+          list = λ pairs. rw (ci, xi, e) (ap (λ (k : Job). jobList k (w .coords) (flat (w .rows)) pairs) ji);
+        }
     handed-by j (refused n p) e q =
         let h : answered j ≡ refused n p = ap (λ (o : reading.Outcome). o .shown) q in
         impossible (cc)
@@ -80,35 +157,61 @@ module _ (s co ex : List ℕ) (a : 3072 ≤ length co) (b : 2048 ≤ length ex) 
   unfolding reading.readOf
   read-is = rw (le-ltb (length co) 3072 a, le-ltb (length ex) 2048 b)
 
-  pub read-answered : (r : sheet.Sheet) (j : Job) (co′ ex′ : List ℕ) → r ≡ sheets.Answered j → reading.ReadSays s co ex r co′ ex′ → Handed co′ ex′ j × (answerText (sheetOf s) ≡ printed s)
-  unfolding printed
+  pub read-answered : (r : sheet.Sheet) (j : Job) (co′ ex′ : List ℕ) → r ≡ sheets.Answered j → reading.ReadSays s co ex r co′ ex′ → Handed co′ ex′ j × ((pairs : List ℕ) → listFor (sheetOf s) pairs ≡ sheetListOf s pairs)
+  unfolding sheetListOf
   read-answered r j co′ ex′ e says =
       by-test
-      (λ t. told (answered j) co′ ex′ ≡ cond t (reading.handed (refusedBy Lengths) co ex) (reading.handed (sheetOf s) co ex) → Handed co′ ex′ j × (answerText (sheetOf s) ≡ cond t (refusalLine 1 0) (answerText (sheetOf s))))
+      (λ t. told (answered j) co′ ex′ ≡ cond t (reading.handed (refusedBy Lengths) co ex) (reading.handed (sheetOf s) co ex)
+      → Handed co′ ex′ j × ((pairs : List ℕ) → listFor (sheetOf s) pairs ≡ cond t (record { shown = refusedBy Lengths; pairs = pairs }) (listFor (sheetOf s) pairs)))
       (ltb 65536 (length s))
       (λ _ q. let h : answered j ≡ refused 1 0 = ap (λ (o : reading.Outcome). o .shown) q in impossible (cc))
-      (λ _ q. (handed-by co′ ex′ j (sheetOf s) refl q, refl))
+      (λ _ q. (handed-by co′ ex′ j (sheetOf s) refl q, λ pairs. refl))
       ((rw e at says) ∙ read-is)
 
-  refused-by : (n p : ℕ) (co′ ex′ : List ℕ) (x : Seen Sound) → told (refused n p) co′ ex′ ≡ reading.handed x co ex → refusalLine n p ≡ answerText x
-  refused-by n p co′ ex′ (answered w) q =
+  refused-by : (n p : ℕ) (co′ ex′ : List ℕ) (x : Seen Sound) → told (refused n p) co′ ex′ ≡ reading.handed x co ex → (pairs : List ℕ) → record { shown = refused n p; pairs = pairs } ≡ listFor x pairs
+  refused-by n p co′ ex′ (answered w) q pairs =
       let h : refused n p ≡ answered (reading.jobFor (w .head) (length (w .rows))) = ap (λ (o : reading.Outcome). o .shown) q in
       impossible (cc)
-  refused-by n p co′ ex′ (refused k l) q =
+  refused-by n p co′ ex′ (refused k l) q pairs =
       let h : _≡_ {A = Seen Job} (refused n p) (refused k l) = ap (λ (o : reading.Outcome). o .shown) q in
       let a : n ≡ k = cc in
       let b : p ≡ l = cc in
-      cc
+      rw (a, b)
 
-  pub read-refused : (r : sheet.Sheet) (w : Refusal) (co′ ex′ : List ℕ) → r ≡ sheets.Refused w → reading.ReadSays s co ex r co′ ex′ → refusalLine (numberOf w) (placeOf w) ≡ printed s
-  unfolding printed
-  read-refused r w co′ ex′ e says =
+  pub read-refused : (r : sheet.Sheet) (w : Refusal) (co′ ex′ : List ℕ) → r ≡ sheets.Refused w → reading.ReadSays s co ex r co′ ex′ → (pairs : List ℕ) → record { shown = refusedBy w; pairs = pairs } ≡ sheetListOf s pairs
+  unfolding sheetListOf
+  read-refused r w co′ ex′ e says pairs =
       by-test
-      (λ t. told (refusedBy w) co′ ex′ ≡ cond t (reading.handed (refusedBy Lengths) co ex) (reading.handed (sheetOf s) co ex) → refusalLine (numberOf w) (placeOf w) ≡ cond t (refusalLine 1 0) (answerText (sheetOf s)))
+      (λ t. told (refusedBy w) co′ ex′ ≡ cond t (reading.handed (refusedBy Lengths) co ex) (reading.handed (sheetOf s) co ex)
+      → record { shown = refusedBy w; pairs = pairs } ≡ cond t (record { shown = refusedBy Lengths; pairs = pairs }) (listFor (sheetOf s) pairs))
       (ltb 65536 (length s))
-      (λ _ q. refused-by (numberOf w) (placeOf w) co′ ex′ (refused 1 0) q)
-      (λ _ q. refused-by (numberOf w) (placeOf w) co′ ex′ (sheetOf s) q)
+      (λ _ q. refused-by (numberOf w) (placeOf w) co′ ex′ (refused 1 0) q pairs)
+      (λ _ q. refused-by (numberOf w) (placeOf w) co′ ex′ (sheetOf s) q pairs)
       ((rw e at says) ∙ read-is)
+
+-- ---- the text of a sheet is that of its list
+with-text : (n : ℕ) (a : Seen Counts) (pairs : List ℕ) → listText (withAtoms n a) pairs ≡ shownText a pairs
+with-text n (answered c) pairs = refl
+with-text n (refused k p) pairs = refl
+
+abbrev textOf : ListOutcome → List ℕ
+textOf o = listText (o .shown) (o .pairs)
+
+sheet-text : (x : Seen Sound) → textOf (listFor x (replicate 16384 0)) ≡ answerText x
+unfolding jobList jobText givenIn givenFor
+sheet-text (answered a) =
+    let j = reading.jobFor (a .head) (length (a .rows)) in
+    let o = buildOf (givenFor j (a .coords) (flat (a .rows))) in with-text (j .atoms) (o .answer) (o .pairs)
+sheet-text (refused n p) = refl
+
+list-text : (s : List ℕ) → textOf (sheetListOf s (replicate 16384 0)) ≡ printed s
+unfolding sheetListOf printed
+list-text s =
+    by-test (λ t. textOf (cond t (record { shown = refusedBy Lengths; pairs = replicate 16384 0 }) (listFor (sheetOf s) (replicate 16384 0))) ≡ cond t (refusalLine 1 0) (answerText (sheetOf s)))
+    (ltb 65536 (length s)) (λ _. refl) (λ _. sheet-text (sheetOf s))
+
+pub listed-text : (s : List ℕ) (x : SheetList) (ps : List ℕ) → ListSays s (replicate 16384 0) x ps → listText (seenList x) ps ≡ printed s
+listed-text s x ps says = ap textOf says ∙ list-text s
 
 -- ---- `solve` by its cases
 pub too-small : (s out : List ℕ) → length out < 90133 → record { shown = refusedBy Lengths; out = out } ≡ solveOf s out

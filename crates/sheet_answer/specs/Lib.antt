@@ -1,2 +1,4 @@
 pub mod Solve
+pub mod List
 pub mod Theorems
+pub mod Steps

@@ -1,41 +1,28 @@
-// A job sheet's printed answer: the sheet is read, its pair list built, and the answer or the refusal written out.
+// A job sheet's printed answer: the list of the sheet (module kernel), and the answer or the refusal written out.
+pub mod kernel;
+
 use answer::Refusal;
 use answer::Whole;
-use frame::Built;
-use frame::Frame;
-use frame::Side;
-use frame::build;
-use sheet::Job;
-use sheet::Sheet;
-use sheet::read;
 use sheet_printed::put_built;
 use sheet_printed::put_refusal;
 ghost use mathlib.Core.Path.{_≡_};
-ghost use Prim.Native.Nat.{_*_, _≤_};
-ghost use lib.ListN.{length, take};
+ghost use lib.ListN.{length};
 ghost use lib.Seq.{sets};
 ghost use Rattle.answer.specs.Seen.{numberOf, placeOf};
 ghost use Rattle.sheet_printed.specs.Printed.{refusalLine};
-ghost use Rattle.sheet_answer.specs.Solve.{frameFor, jobText, SolveSays, SolveFits};
+ghost use Rattle.sheet_answer.specs.Solve.{SolveSays, SolveFits};
+ghost use Rattle.sheet_answer.specs.List.{seenList};
+ghost use Rattle.sheet_answer.specs.Steps.{listText};
 
-fn frame_of(job: Job) -> Frame
-    ensures { λ r. ⌜ r ≡ frameFor job ⌝ }
-{
-    Frame {
-        x: Side {
-            edge: job.ex,
-            round: job.px,
-        },
-        y: Side {
-            edge: job.ey,
-            round: job.py,
-        },
-        z: Side {
-            edge: job.ez,
-            round: job.pz,
-        },
-        radius: job.radius,
-    }
+// The list of a sheet: its atoms, the pairs stored, the distances evaluated, and whether no grid was laid; or why there is none.
+pub enum SheetList {
+    Answered {
+        atoms: u32,
+        pairs: u32,
+        checks: u32,
+        fallback: bool,
+    },
+    Refused(Refusal),
 }
 
 fn refuse(r: Refusal, out: &mut [u8]) -> usize
@@ -45,32 +32,19 @@ fn refuse(r: Refusal, out: &mut [u8]) -> usize
     put_refusal(out, r.number(), r.place())
 }
 
-// The pair list of a sheet, with 8,192 pairs and 16,384 starts of the call's own.
-fn put_job(job: Job, coordinates: &[u32], exclusions: &[u32], out: &mut [u8]) -> usize
-    requires { ⌜ (3 * job .atoms ≤ length (now coordinates)) × (2 * job .count ≤ length (now exclusions)) ⌝ }
-    ensures { λ r. ⌜ r ≡ length (jobText job (take (3 * job .atoms) (now (coordinates .entry))) (take (2 * job .count) (now (exclusions .entry)))) ⌝ }
-    ensures { λ _. ⌜ now (out .exit) ≡ sets (now (out .entry)) 0 (jobText job (take (3 * job .atoms) (now (coordinates .entry))) (take (2 * job .count) (now (exclusions .entry)))) ⌝ }
+// The text of a list; how many bytes that is.
+fn put_list(list: SheetList, pairs: &[u32], out: &mut [u8]) -> usize
+    ensures { λ n. ⌜ n ≡ length (listText (seenList list) (now (pairs .entry))) ⌝ }
+    ensures { λ _. ⌜ now (out .exit) ≡ sets (now (out .entry)) 0 (listText (seenList list) (now (pairs .entry))) ⌝ }
 {
-    let mut pairs = [0u32; 16384];
-    let mut starts = [0u32; 16384];
-    let mut items = [0u32; 1024];
-    let n = 3 * (job.atoms as usize);
-    let m = 2 * (job.count as usize);
-    let built = build(
-        frame_of(job),
-        &coordinates[..n],
-        &exclusions[..m],
-        &mut pairs,
-        &mut starts,
-        &mut items,
-    );
-    match built {
-        Built::Answered {
+    match list {
+        SheetList::Answered {
+            atoms: _,
             pairs: count,
             checks,
             fallback,
-        } => put_built(out, &pairs, count as usize, checks as u64, fallback),
-        Built::Refused(r) => refuse(r, out),
+        } => put_built(out, pairs, count as usize, checks as u64, fallback),
+        SheetList::Refused(r) => refuse(r, out),
     }
 }
 
@@ -83,17 +57,8 @@ pub fn solve(input: &[u8], out: &mut [u8]) -> Whole
     if out.len() < 90133 {
         return Whole::Refused(Refusal::Lengths);
     }
-    let mut coordinates = [0u32; 3072];
-    let mut exclusions = [0u32; 2048];
-    let sheet = read(input, &mut coordinates, &mut exclusions);
-    match sheet {
-        Sheet::Answered(job) => {
-            let n = put_job(job, &coordinates, &exclusions, out);
-            Whole::Answered(n as u64)
-        }
-        Sheet::Refused(r) => {
-            let n = refuse(r, out);
-            Whole::Answered(n as u64)
-        }
-    }
+    let mut pairs = [0u32; 16384];
+    let list = crate::kernel::list(input, &mut pairs);
+    let n = put_list(list, &pairs, out);
+    Whole::Answered(n as u64)
 }

@@ -1,7 +1,7 @@
 use Rattle.sheet_answer.specs.Solve.{frameFor}
 use mathlib.Core.Path.{refl}
-use Rattle.sheet_answer.proofs.frame_of.Statement.{statement}
-use Rattle.sheet_answer.proofs.frame_of.Tie as tie
+use Rattle.sheet_answer.proofs.kernel.frame_of.Statement.{statement}
+use Rattle.sheet_answer.proofs.kernel.frame_of.Tie as tie
 
 returns : tie.Need-returns
 unfolding frameFor

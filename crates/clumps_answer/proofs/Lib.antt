@@ -1,0 +1,4 @@
+pub mod Lines
+pub mod Sizes
+pub mod Solved
+pub mod Only

@@ -1,0 +1,3 @@
+pub mod Clumps
+pub mod Theorems
+pub mod Steps

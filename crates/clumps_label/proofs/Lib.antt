@@ -1,0 +1,4 @@
+pub mod Trees
+pub mod Chains
+pub mod Labels
+pub mod Only

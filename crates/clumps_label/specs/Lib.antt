@@ -1,0 +1,3 @@
+pub mod Label
+pub mod Theorems
+pub mod Steps
