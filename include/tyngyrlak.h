@@ -520,6 +520,16 @@ tyn_whole tyn_label(uint32_t count, const uint32_t *pairs, size_t pairs_len, uin
 /* The printed clumps of a job sheet at the front of out (at least 11264 bytes); the value is their length. Refusal 1. */
 tyn_whole tyn_solve_clumps(const uint8_t *input, size_t input_len, uint8_t *out, size_t out_len);
 
+/* ---- Written sheets. */
+
+/* The written form of a frame, its atoms and its exclusions at the front of out (43049 bytes are always enough); the value is its length. Refusals 1,
+ * 2, 3, 5, 8. */
+tyn_whole tyn_write(tyn_frame f, const uint32_t *coordinates, size_t coordinates_len, const uint32_t *exclusions, size_t exclusions_len,
+    uint8_t *out, size_t out_len);
+
+/* The written form of a job sheet, or the line of its refusal, at the front of out (at least 43049 bytes); the value is its length. Refusal 1. */
+tyn_whole tyn_rewrite(const uint8_t *input, size_t input_len, uint8_t *out, size_t out_len);
+
 /* ---- The terms over pairs (potentials.rs), and the evaluator. */
 
 /* Lennard-Jones numbers of a single species, shifted. Refusal 3. */

@@ -1,5 +1,5 @@
 #!/usr/bin/env python3
-"""record_cases.py cell|virial|exclusions|neighbor|frame|half|potentials|verlet|step: hand-made edges of the calls 10 to 1a, 20 to 27, 30 to 37, 40 and 41, 50 to 54, and 60 to 64 for the fixed list of
+"""record_cases.py cell|virial|exclusions|neighbor|frame|half|write|potentials|verlet|step: hand-made edges of the calls 10 to 1a, 20 to 27, 30 to 37, 40 to 42, 50 to 54, and 60 to 64 for the fixed list of
 the program replay (crates/replay/stdin). The answers come from a judge, not from here."""
 import struct
 import sys
@@ -1083,8 +1083,83 @@ def step():
         yield from group()
 
 
+# ---- writing sheets (02, No. 8): ex ey ez px py pz radius coordinates exclusions out
+def writing(edges=(10, 11, 12), mask=5, radius=5, atoms=((1, 2, 3), (9, 10, 11)), rows=((0, 1), (0, 0xffff)), out=None, spare=0, byte=0x2e, xs=None, table_=None):
+    xs = [x for a in atoms for x in a] if xs is None else xs
+    table_ = [x for r in rows for x in r] if table_ is None else table_
+    need = 41 + 31 * (len(xs) // 3) + 11 * (len(table_) // 2)
+    return case('42', list(edges), MASKS[mask], radius, table(xs), table(table_), table([byte] * (need + spare if out is None else out)))
+
+
+def write_forms():
+    for mask in range(8):
+        yield writing(mask=mask)
+        yield writing((MOST, MOST - 1, 10), mask, 5, [(MOST - 1, 0xabcde, 9)], [(0xfffe, 0xffff)], spare=3, byte=mask)
+    for n in (0, 1, 2, 16, 17, 40):
+        yield writing((0x12345, 0x6789a, 0xbcdef), 7, 0x1000, [(257 * k, 0x1abc + k, 0xbbcde - k) for k in range(n)], [])
+    for n in (0, 1, 15, 16, 17, 60):
+        yield writing(atoms=[], rows=[(k // 3, 0xff00 + k) for k in range(n)], spare=n % 3)
+    # the room: as it is needed, one short, one over, none, and a rest that stays
+    for spare in (-200, -42, -41, -11, -1, 0, 1, 2, 50):
+        for atoms in ([], [(0, 0, 0)], [(1, 2, 3)] * 4):
+            need = 41 + 31 * len(atoms) + 11
+            yield writing(atoms=atoms, rows=[(3, 4)], out=max(0, need + spare), byte=0xff - len(atoms))
+    # exclusions of no atom, of all
+    for rows in ([(0, 1)], [(0, 1), (0, 2), (1, 2)], [(5, 6)], [(0, 0xffff), (1, 0xffff), (0xfffe, 0xffff)]):
+        yield writing(rows=rows)
+    # 1,024 atoms and 1,024 exclusions: 8 at the bytes needed; one more: 2, 5
+    for n, m in ((1024, 0), (1025, 0), (0, 1024), (0, 1025)):
+        yield writing((2000, 2000, 2000), 0, 1, [(k % 2000, 0, k % 7) for k in range(n)], [(k, k + 1) for k in range(m)], out=1)
+
+
+def write_ranges():
+    for k in range(3):
+        for e in (0, 1, 9, 10, MOST, MOST + 1, 0xffffffff):
+            edges = [e if i == k else 10 for i in range(3)]
+            yield writing(edges, 1 << k, 5, [(0, 0, 0)])
+            yield writing(edges, 0, 5, [])
+        for x in (9, 10, 0xffffffff):
+            yield writing((10, 10, 10), 7, 5, [(0, 0, 0), tuple(x if i == k else 9 for i in range(3))])
+    for radius in (0, 5, 6, MOST, MOST + 1, 0xffffffff):
+        for mask in (0, 7):
+            yield writing((10, 10, 10), mask, radius, [])
+
+
+def write_refusals():
+    good = dict(spare=4)
+    lengths = [dict(xs=[1]), dict(xs=[1, 2, 3, 4, 5]), dict(table_=[0]), dict(table_=[0, 1, 0xffff]), dict(xs=[1, 2], table_=[7])]
+    ranges = [dict(radius=6), dict(edges=(10, 0, 12)), dict(atoms=[(10, 0, 0)]), dict(radius=MOST + 1)]
+    order = [dict(rows=[(1, 0)]), dict(rows=[(2, 2)]), dict(rows=[(0, 1), (0, 1)]), dict(rows=[(1, 2), (0, 3)]), dict(rows=[(0, 0x10000)]),
+             dict(rows=[(0, 1), (0xffff, 0x10000)]), dict(rows=[(0x10000, 0x10001)]), dict(rows=[(0, 0xffffffff)])]
+    room = [dict(out=0), dict(out=93)]
+    kinds = [lengths, ranges, order, room]
+    yield writing(**good)
+    for k, one in enumerate(kinds):
+        for a in one:
+            yield writing(**{**good, **a})
+            for two in kinds[k + 1:]:
+                for b in two:
+                    if not set(a) & set(b):
+                        yield writing(**{**good, **a, **b})
+
+
+def write_no_cases():
+    words = writing().split()
+    for cut in (1, 3, 7, 8, len(words) - 1):
+        yield ' '.join(words[:cut])
+    yield ' '.join(words + ['%016x' % 0])
+    for k, x in ((1, 1 << 32), (4, 2), (5, 2), (6, 2), (7, 1 << 32), (8, 7), (9, 1 << 32), (15, 3), (16, 1 << 32), (len(words) - 1, 0x100), (len(words) - 100, 0xffffffff)):
+        yield ' '.join(words[:k] + ['%016x' % x] + words[k + 1:])
+    yield ' '.join(words[:-1] + ['%016x' % 0xff])
+
+
+def write():
+    for group in (write_forms, write_ranges, write_refusals, write_no_cases):
+        yield from group()
+
+
 if __name__ == '__main__':
-    groups = {'cell': cell, 'virial': virial, 'exclusions': exclusions, 'neighbor': neighbor, 'frame': frame, 'half': half, 'potentials': potentials, 'verlet': verlet,
+    groups = {'write': write, 'cell': cell, 'virial': virial, 'exclusions': exclusions, 'neighbor': neighbor, 'frame': frame, 'half': half, 'potentials': potentials, 'verlet': verlet,
               'step': step}
     for line in groups[sys.argv[1]]():
         print(line)

@@ -1,8 +1,9 @@
 #!/usr/bin/env python3
-"""Job sheets for the programs `pairs_table` and `clumps_table`, and the answers that an independent model of the papers gives.
+"""Job sheets for the programs `pairs_table`, `rewrite_table` and `clumps_table`, and the answers that an independent model of the papers gives.
 
-    tools/sheets.py            writes stdin and stdout of crates/pairs_table and of crates/clumps_table
+    tools/sheets.py            writes stdin and stdout of the three crates
     tools/sheets.py FILE       prints the model's answer for one sheet
+    tools/sheets.py FILE rewrite   prints the sheet's written form (02, No. 8)
     tools/sheets.py FILE clumps    prints the model's clumps of one sheet (02, No. 13)
     tools/sheets.py SEED COUNT     writes that many more sheets to table.in and what `clumps_table` is to print to table.out
     tools/sheets.py -SIZE      prints a sheet of that many bytes: five atoms, then an atom's exclusion with itself again and again (65,536 is whole lines);
@@ -105,16 +106,30 @@ def candidates(count, edges, periodic, radius, places):
     return pairs, False
 
 
-def listed(data):
-    """Atoms, listed pairs, checks, and whether all pairs were tried."""
-    (count, ex, ey, ez, mask, radius), places, excluded = read(data)
-    edges, periodic = (ex, ey, ez), [mask >> k & 1 == 1 for k in range(3)]
+def in_range(edges, periodic, radius, places):
     top = 2 ** 20
     if not all(1 <= e <= top for e in edges) or radius > top or any(x >= e for p in places for x, e in zip(p, edges)):
         raise Refused(3)
     # 02, No. 3
     if any(p and 2 * radius > e for e, p in zip(edges, periodic)):
         raise Refused(3)
+
+
+def rewrite(data):
+    """02, No. 8: header, atoms by number, exclusions by low then high number."""
+    try:
+        (count, ex, ey, ez, mask, radius), places, excluded = read(data)
+        in_range((ex, ey, ez), [mask >> k & 1 == 1 for k in range(3)], radius, places)
+        return b"".join([header(count, (ex, ey, ez), mask, radius)] + [atom(k, p) for k, p in enumerate(places)] + [exclusion(*p) for p in sorted(excluded)])
+    except Refused as r:
+        return r.text
+
+
+def listed(data):
+    """Atoms, listed pairs, checks, and whether all pairs were tried."""
+    (count, ex, ey, ez, mask, radius), places, excluded = read(data)
+    edges, periodic = (ex, ey, ez), [mask >> k & 1 == 1 for k in range(3)]
+    in_range(edges, periodic, radius, places)
     if count < 2:
         return count, [], 0, 0
     pairs, fallback = candidates(count, edges, periodic, radius, places)
@@ -323,6 +338,29 @@ def clump_sheets(rng, count):
     return out
 
 
+def forms():
+    """Sheets for `rewrite_table`: of each meaning several, one of them its written form."""
+    rng = random.Random(8)
+    join = b"".join
+    out = [s for s in table() if len(s) < 3000][:200]
+    # equal meaning: another order, exclusions again, turned round, of an atom with itself, of no atom
+    for count, edges, mask, radius, exclusions in ((0, (1, 1, 1), 0, 0, 0), (1, (10, 10, 10), 7, 5, 1), (2, (2 ** 20,) * 3, 7, 2 ** 19, 3), (5, (2 ** 20, 9, 1), 1, 2 ** 19, 8),
+                                                   (12, (30, 31, 32), 2, 15, 20), (12, (30, 31, 32), 4, 16, 20), (33, (7, 8, 9), 5, 3, 60), (40, (64, 64, 64), 6, 32, 90), (3, (4, 5, 6), 3, 2, 0)):
+        lines = some(rng, count, edges, mask, radius)
+        pairs = [tuple(rng.randrange(n) for n in (0x10000, 0x10000)) if rng.random() < 0.3 else (rng.randrange(max(count, 2)), rng.randrange(max(count, 2))) for _ in range(exclusions)]
+        for _ in range(6):
+            said = [rng.choice((p, p[::-1])) for p in pairs] + rng.sample(pairs, len(pairs) // 3) + [(k, k) for k in rng.sample(range(9), 2)]
+            out.append(join(shuffled(rng, lines + [exclusion(*p) for p in said])))
+        out.append(rewrite(out[-1]))
+        out += [damaged(rng, out[-1]) for _ in range(3)]
+    # the longest written form, and 1,024 exclusions that come twice
+    many = [exclusion(k % 7, 7 + k) for k in range(1024)]
+    for exclusions in (many, many + many[::-1]):
+        out.append(join(shuffled(rng, some(rng, 1024, (200, 300, 400), 7, 100) + exclusions)))
+    out.append(join(many + [header(0)] + many + [exclusion(0, 0xffff)]))
+    return out
+
+
 def put(folder, names, sheets, answer):
     with open(os.path.join(folder, names[0]), "wb") as f:
         f.write(b"".join(b"%08x\n" % len(s) + s for s in sheets))
@@ -339,14 +377,16 @@ def main():
         return
     if len(sys.argv) > 1:
         with open(sys.argv[1], "rb") as f:
-            sys.stdout.buffer.write((clumps if sys.argv[2:] == ["clumps"] else solve)(f.read()))
+            sys.stdout.buffer.write({"rewrite": rewrite, "clumps": clumps}.get("".join(sys.argv[2:]), solve)(f.read()))
         return
     crates = os.path.join(os.path.dirname(os.path.abspath(__file__)), "..", "crates")
     sheets = table()
     put(os.path.join(crates, "pairs_table"), ("stdin", "stdout"), sheets, solve)
+    written = forms()
+    put(os.path.join(crates, "rewrite_table"), ("stdin", "stdout"), written, rewrite)
     more = sheets + clump_sheets(random.Random(2), 60)
     put(os.path.join(crates, "clumps_table"), ("stdin", "stdout"), more, clumps)
-    print(len(sheets), "sheets for pairs_table,", len(more), "for clumps_table")
+    print(len(sheets), "sheets for pairs_table,", len(written), "for rewrite_table,", len(more), "for clumps_table")
 
 
 if __name__ == "__main__":

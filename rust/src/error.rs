@@ -23,7 +23,7 @@ impl Error {
     pub fn words(&self) -> &'static str {
         match (self.number, self.place) {
             (1, _) => "lengths disagree",
-            (2, _) => "too many atoms: 16,384 is the most",
+            (2, _) => "too many atoms: 16,384 is the most, 1,024 on a sheet",
             (3, 1) => "a coordinate would drift out of range",
             (3, _) => "a number is out of range, or not finite",
             (4, _) => "a pair or a bond names an atom that is not there",

@@ -14,6 +14,7 @@
 //!   on a bad index. Plain data ([`Lattice::cubic`], [`NeighborList::new`], ..) is made untested and tested where it is used.
 //! - [`verlet_step`] takes an [`Evaluator`] in place of a closure.
 //! - A pair list can be handed to `compute_pairs` itself (`&list` for `list.pairs()`), which spares a copy.
+//! - [`sheet`] is added: job sheets of a whole-number frame, written and rewritten.
 //! - Not carried over: `reciprocal`, the tail terms, angles, torsions, Nosé-Hoover, the barostat, the minimizer.
 //! - The original's `units` are constants of its own; [`field::units`] has CODATA's unless the crate is built with TYNGYRLAK_UNITS.
 //!
@@ -43,6 +44,7 @@ pub mod field;
 pub mod frame;
 #[allow(unsafe_code, missing_docs)]
 mod raw;
+pub mod sheet;
 pub mod shells;
 
 pub use error::Error;

@@ -130,6 +130,8 @@ calls! {
     fn tyn_read(input: &[u8], coordinates: &mut [u32], exclusions: &mut [u32]) -> Sheet;
     fn tyn_add_shells(f: Frame, coordinates: &[u32], exclusions: &[u32], width: u64, totals: &mut [u64], pairs: &mut [u32], starts: &mut [u32],
         items: &mut [u32]) -> Built;
+    fn tyn_write(f: Frame, coordinates: &[u32], exclusions: &[u32], out: &mut [u8]) -> Whole;
+    fn tyn_rewrite(input: &[u8], out: &mut [u8]) -> Whole;
 
     fn tyn_kinetic_energy(units: Units, velocities: &[f64], masses: &[f64]) -> Number;
     fn tyn_temperature(units: Units, dof: f64, velocities: &[f64], masses: &[f64]) -> Number;

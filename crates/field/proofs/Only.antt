@@ -20,6 +20,8 @@ use Rattle.sheet.proofs.Only.{read-only}
 use Rattle.sheet_answer.proofs.Only.{solve-only}
 use Rattle.clumps_label.proofs.Only.{label-only}
 use Rattle.clumps_answer.proofs.Only.{solve-clumps-only}
+use Rattle.sheet_written.proofs.Only.{write-only}
+use Rattle.sheet_rewritten.proofs.Only.{rewrite-only}
 use Rattle.field_structs.proofs.Only.{shown-only, shown-alone}
 use Rattle.field_structs.specs.Unique.{OneOutcome}
 use Rattle.field_structs.specs.declared.FlatPart.{FlatPart}
@@ -76,6 +78,8 @@ use Rattle.field.proofs.frames.tyn_solve as solve
 use Rattle.field.proofs.counts.tyn_add_shells as add-shells
 use Rattle.field.proofs.clumps.tyn_label as label
 use Rattle.field.proofs.clumps.tyn_solve_clumps as solve-clumps
+use Rattle.field.proofs.sheets.tyn_write as write
+use Rattle.field.proofs.sheets.tyn_rewrite as rewrite
 use Rattle.field.proofs.forces.tyn_monatomic as monatomic
 use Rattle.field.proofs.forces.tyn_argon as argon
 use Rattle.field.proofs.forces.tyn_uniform as uniform
@@ -260,6 +264,12 @@ tyn-label-only l a r s m n p q = shown-only p q (λ u v h k. let b = label-only 
 
 pub tyn-solve-clumps-only : OneOutcome solve-clumps.ended solve-clumps.Reads.Post
 tyn-solve-clumps-only l a r s m n p q = shown-only p q (λ u v h k. let b = solve-clumps-only _ _ u v _ _ (h .0) (k .0) in (b .0, λ i. (tt, (b .1 i, tt))))
+-- ---- written sheets
+pub tyn-write-only : OneOutcome write.ended write.Reads.Post
+tyn-write-only l a r s m n p q = shown-only p q (λ u v h k. let b = write-only _ _ _ _ u v _ _ h k in (b .0, λ i. (tt, (tt, (tt, (b .1 i, tt))))))
+
+pub tyn-rewrite-only : OneOutcome rewrite.ended rewrite.Reads.Post
+tyn-rewrite-only l a r s m n p q = shown-only p q (λ u v h k. let b = rewrite-only _ _ u v _ _ h k in (b .0, λ i. (tt, (b .1 i, tt))))
 
 -- ---- the terms over pairs, and the evaluator
 pub tyn-monatomic-only : OneOutcome monatomic.ended monatomic.Reads.Post

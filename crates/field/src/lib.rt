@@ -12,5 +12,6 @@ pub mod motion;
 pub mod pairs;
 pub mod parts;
 pub mod skins;
+pub mod sheets;
 pub mod speeds;
 pub mod virials;

@@ -10,6 +10,7 @@ use crate::forces;
 use crate::frames;
 use crate::labels;
 use crate::neighbors;
+use crate::sheets;
 use crate::skins;
 use crate::steps;
 use crate::velocities;
@@ -40,6 +41,9 @@ pub(crate) fn answer(call: u64, ws: &[u64], out: &mut [u64; 8208]) -> usize {
     }
     if call == 69 {
         return labels::answer(call, ws, out);
+    }
+    if call == 66 {
+        return sheets::answer(call, ws, out);
     }
     if call < 80 {
         return frames::answer(call, ws, out);

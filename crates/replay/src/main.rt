@@ -17,6 +17,7 @@ mod masks;
 mod neighbors;
 mod records;
 mod skins;
+mod sheets;
 mod steps;
 mod tables;
 mod velocities;

@@ -1,4 +1,6 @@
-// A job sheet from standard input, its printed answer to standard output.
+// A job sheet from standard input, its printed answer to standard output; in `rewriting` its written form.
+pub mod rewriting;
+
 use answer::Whole;
 use libc::STDIN_FILENO;
 use libc::STDOUT_FILENO;

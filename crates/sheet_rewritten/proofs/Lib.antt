@@ -1,0 +1,6 @@
+pub mod Sane
+pub mod RowsOnly
+pub mod Forms
+pub mod Only
+pub mod OneForm
+pub mod Fitting

@@ -1,0 +1,5 @@
+pub mod OneAfterAnother
+pub mod Cases
+pub mod Only
+pub mod Flags
+pub mod Back

@@ -1,0 +1,55 @@
+//! Written sheets: one form for each meaning.
+#[macro_use]
+mod common;
+use tyngyrlak::frame::Frame;
+use tyngyrlak::sheet::{rewrite, write};
+
+const TYPED: &str = "020003000000050000000500000008\n0300020000\n0100040000000a0000000a0000000a0700000003\n020000000000000000000000000000\n\
+                     020002000000050000000500000005\n020001000000090000000000000000\n";
+const WRITTEN: &str = "0100040000000a0000000a0000000a0700000003\n020000000000000000000000000000\n020001000000090000000000000000\n\
+                       020002000000050000000500000005\n020003000000050000000500000008\n0300000002\n";
+const BOX: Frame = Frame { edges: [10; 3], periodic: [true; 3], radius: 3 };
+const ATOMS: [[u32; 3]; 4] = [[0, 0, 0], [9, 0, 0], [5, 5, 5], [5, 5, 8]];
+
+fn refused(frame: Frame, atoms: &[[u32; 3]], exclusions: &[(u32, u32)]) -> (u32, u64) {
+    let e = write(&frame, atoms, exclusions).expect_err("refused");
+    (e.number, e.place)
+}
+
+tests! {
+    fn a_typed_sheet_and_its_frame_have_one_written_form() {
+        assert_eq!(rewrite(TYPED.as_bytes()), WRITTEN.as_bytes());
+        assert_eq!(rewrite(WRITTEN.as_bytes()), WRITTEN.as_bytes());
+        assert_eq!(write(&BOX, &ATOMS, &[(0, 2)]).unwrap(), WRITTEN.as_bytes());
+        let again = format!("{TYPED}0300000002\n0300010001\n");
+        assert_eq!(rewrite(again.as_bytes()), WRITTEN.as_bytes());
+        assert_ne!(rewrite(format!("{TYPED}0300000001\n").as_bytes()), WRITTEN.as_bytes());
+    }
+
+    fn flags_are_the_mask() {
+        for mask in 0..8u32 {
+            let frame = Frame { periodic: [0, 1, 2].map(|k| mask >> k & 1 == 1), ..BOX };
+            let text = write(&frame, &[], &[]).unwrap();
+            assert_eq!(text, format!("010000{}{mask:02x}00000003\n", "0000000a".repeat(3)).into_bytes());
+        }
+    }
+
+    fn the_longest_form_fits() {
+        let atoms: Vec<[u32; 3]> = (0..1024).map(|k| [k % 10, k / 10 % 10, k / 100 % 10]).collect();
+        let rows: Vec<(u32, u32)> = (0..1024).map(|k| (k, 0xffff)).collect();
+        let text = write(&BOX, &atoms, &rows).unwrap();
+        assert_eq!(text.len(), 43_049);
+        assert_eq!(rewrite(&text), text);
+    }
+
+    fn refusals() {
+        assert_eq!(refused(BOX, &[[0; 3]; 1025], &[]), (2, 1025));
+        assert_eq!(refused(Frame { radius: 6, ..BOX }, &ATOMS, &[]), (3, 0));
+        assert_eq!(refused(BOX, &[[10, 0, 0]], &[(1, 0)]), (3, 0));
+        assert_eq!(refused(BOX, &ATOMS, &[(1, 0)]), (5, 0));
+        assert_eq!(refused(BOX, &ATOMS, &[(0, 0x10000)]), (5, 0));
+        assert_eq!(rewrite(b""), b"8f0bffffffff\n");
+        assert_eq!(rewrite(TYPED.replace("0700000003", "0700000006").as_bytes()), b"8f0300000000\n");
+        assert_eq!(rewrite(&vec![b'0'; 65_537]), b"8f0100000000\n");
+    }
+}
