@@ -8,11 +8,12 @@ import sys
 # structs of up to 16 bytes, as the two arguments that stand for one
 SHORT = {"tyn_bond": ["%s.k", "%s.r0"], "tyn_spot": ["((union { tyn_spot spot; uint64_t half; }){ %s }).half", "%s.z"]}
 SHORT_TYPES = {"tyn_bond": ["double", "double"], "tyn_spot": ["uint64_t", "uint64_t"]}
-NUMBERS = {"double", "uint32_t", "uint64_t", "int64_t", "size_t"}
+NUMBERS = {"double", "uint32_t", "uint64_t", "int32_t", "int64_t", "size_t"}
 TOP = """typedef __SIZE_TYPE__ size_t;
 typedef __UINT8_TYPE__ uint8_t;
 typedef __UINT32_TYPE__ uint32_t;
 typedef __UINT64_TYPE__ uint64_t;
+typedef __INT32_TYPE__ int32_t;
 typedef __INT64_TYPE__ int64_t;
 """
 

@@ -34,6 +34,10 @@ static void helpers_and_cells(void)
     EXPECT(tyn_perp_widths(box.lattice).value.z == 8.0);
     EXPECT(tyn_min_image((tyn_vec3){1.5, 0.0, 5.0}, (tyn_cell){1, box.lattice}).image.diff.z == -3.0);
     EXPECT(tyn_min_image((tyn_vec3){1.5, 0.0, 5.0}, (tyn_cell){0, box.lattice}).image.diff.z == 5.0);
+    EXPECT(tyn_min_image((tyn_vec3){1.5, -9.0, 5.0}, (tyn_cell){1, box.lattice}).image.y == -2);
+    EXPECT(tyn_min_image((tyn_vec3){1.5, 0.0, 5.0}, (tyn_cell){1, box.lattice}).image.kind == 0);
+    EXPECT(tyn_min_image((tyn_vec3){1e20, 0.0, 5.0}, (tyn_cell){1, box.lattice}).image.kind == 1);
+    EXPECT(tyn_min_image((tyn_vec3){1.5, 0.0, 5.0}, (tyn_cell){1, (tyn_lattice){{0, 0, 0}, {0, 0, 0}, {0, 0, 0}, 0, 0, 0}}).image.kind == 2);
     /* any number but 0 is yes */
     EXPECT(tyn_min_image((tyn_vec3){1.5, 0.0, 5.0}, (tyn_cell){7, box.lattice}).image.diff.z == -3.0);
     box.lattice.py = 7;

@@ -124,12 +124,15 @@ typedef struct {
     tyn_lattice lattice;
 } tyn_cell;
 
-/* What the minimum image is. */
+/* The minimum image, and how many boxes it took off on each axis where kind is 0; kind 1: a count that is no int32_t, 2: no inverse, and zeros then. */
 typedef struct {
     tyn_vec3 diff;
+    uint32_t kind;
+    int32_t x;
+    int32_t y;
+    int32_t z;
 } tyn_image;
 
-/* The minimum image. */
 typedef struct {
     tyn_done done;
     tyn_image image;

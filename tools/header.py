@@ -11,7 +11,7 @@ ROOT = os.path.dirname(os.path.dirname(os.path.abspath(__file__)))
 HEADER = os.path.join(ROOT, "include", "tyngyrlak.h")
 GROUPS = ["floats", "cells", "virials", "pairs", "boxes", "parts", "frames", "skins", "counts", "clumps", "sheets", "forces", "speeds", "motion"]
 STRUCTS = ["cell/src/lib", "virial/src/lib", "potentials/src/lib", "frame/src/lib", "field_structs/src/lib"]
-NUMBERS = {"f64": "double", "u8": "uint8_t", "u32": "uint32_t", "u64": "uint64_t", "i64": "int64_t", "usize": "size_t"}
+NUMBERS = {"f64": "double", "u8": "uint8_t", "u32": "uint32_t", "u64": "uint64_t", "i32": "int32_t", "i64": "int64_t", "usize": "size_t"}
 
 TOP = """\
 /* Tyngyrlak for C: pair lists, Lennard-Jones, Coulomb, bonds, Verlet with Berendsen. Made by tools/header.py from the library's sources; do not edit.

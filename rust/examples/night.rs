@@ -20,6 +20,7 @@
 //! steps COUNT DT [SHOWN]           every so many steps a line of progress
 //! atom MASS SPECIES CHARGE X Y Z [VX VY VZ]
 //! grid NX NY NZ MASS SPECIES KELVIN      atoms spread evenly over the cell, with velocities of that temperature
+//! unfold                           at the end also the mean squared displacement, of paths that are folded at each step and unfolded by their boxes
 //! ```
 use std::error::Error;
 use std::time::Instant;
@@ -46,6 +47,38 @@ struct Run {
     charges: Vec<f64>,
     positions: Vec<[f64; 3]>,
     velocities: Vec<[f64; 3]>,
+    unfold: bool,
+}
+
+/// An atom's path: where it began, where it was last seen in the cell, and how many boxes it has crossed since.
+struct Path {
+    start: [f64; 3],
+    folded: [f64; 3],
+    boxes: [i64; 3],
+}
+
+impl Path {
+    fn new(cell: Option<&Lattice>, at: [f64; 3]) -> Result<Path, tyngyrlak::Error> {
+        let folded = cell.map_or(Ok(at), |c| c.wrap(at))?;
+        Ok(Path { start: folded, folded, boxes: [0; 3] })
+    }
+
+    fn seen(&mut self, cell: Option<&Lattice>, at: [f64; 3]) -> Result<(), Box<dyn Error>> {
+        let now = cell.map_or(Ok(at), |c| c.wrap(at))?;
+        match min_image_counted([0, 1, 2].map(|k| now[k] - self.folded[k]), cell)?.1 {
+            Boxes::Counted(n) => self.boxes = [0, 1, 2].map(|k| self.boxes[k] - i64::from(n[k])),
+            // where a cell has no inverse nothing is folded
+            Boxes::NoInverse => {}
+            Boxes::NoFit => return Err("a path crosses more boxes in a step than can be counted".into()),
+        }
+        self.folded = now;
+        Ok(())
+    }
+
+    fn squared(&self, cell: Option<&Lattice>) -> Result<f64, tyngyrlak::Error> {
+        let whole = cell.map_or(Ok([0.0; 3]), |c| c.to_cartesian(self.boxes.map(|b| b as f64)))?;
+        Ok((0..3).map(|k| (self.folded[k] + whole[k] - self.start[k]).powi(2)).sum())
+    }
 }
 
 fn main() -> Result<(), Box<dyn Error>> {
@@ -90,6 +123,7 @@ impl Run {
             ("steps", &[steps, dt, shown]) => (self.steps, self.dt, self.shown) = (steps as usize, dt, shown as usize),
             ("atom", &[mass, species, charge, x, y, z]) => self.atom(mass, species, charge, [x, y, z], [0.0; 3]),
             ("atom", &[mass, species, charge, x, y, z, vx, vy, vz]) => self.atom(mass, species, charge, [x, y, z], [vx, vy, vz]),
+            ("unfold", &[]) => self.unfold = true,
             ("grid", &[nx, ny, nz, mass, species, kelvin]) => self.grid([nx, ny, nz], mass, species, kelvin)?,
             _ => return Err(format!("`{what}` with {} numbers is nothing", x.len()).into()),
         }
@@ -135,10 +169,18 @@ impl Run {
         let start = eval.evaluate(&self.positions)?;
         let (mut forces, mut potential) = (start.forces, start.energy);
         println!("{n} atoms, {} pairs, {} steps of {} fs", eval.list.pair_rows().len(), self.steps, self.dt);
+        let cell = self.cell;
+        let mut paths = Vec::new();
+        if self.unfold {
+            paths = self.positions.iter().map(|&r| Path::new(cell.as_ref(), r)).collect::<Result<Vec<_>, _>>()?;
+        }
         let (clock, shown) = (Instant::now(), if self.shown == 0 { self.steps.div_ceil(10).max(1) } else { self.shown });
         for step in 1..=self.steps {
             verlet_step(self.dt, self.thermostat, &mut self.positions, &mut self.velocities, &self.masses, &mut forces, &mut potential, &mut eval)
                 .map_err(|e| format!("step {step}: {e}"))?;
+            for (path, &r) in paths.iter_mut().zip(&self.positions) {
+                path.seen(cell.as_ref(), r)?;
+            }
             if step % shown == 0 || step == self.steps {
                 let kinetic = kinetic_energy(&self.velocities, &self.masses)?;
                 let kelvin = temperature(&self.velocities, &self.masses, dof)?;
@@ -148,7 +190,11 @@ impl Run {
         }
         let end = eval.evaluate(&self.positions)?;
         println!("temperature  {:.6} K", temperature(&self.velocities, &self.masses, dof)?);
-        let Some(cell) = self.cell else {
+        if self.unfold {
+            let sum = paths.iter().map(|p| p.squared(cell.as_ref())).sum::<Result<f64, _>>()?;
+            println!("displacement {:.6} A2, mean of the squares", sum / n as f64);
+        }
+        let Some(cell) = cell else {
             println!("no cell: no density and no pressure");
             return Ok(());
         };

@@ -8,7 +8,7 @@ pub mod units;
 pub mod verlet;
 pub mod virial;
 
-pub use cell::{min_image, Lattice};
+pub use cell::{min_image, min_image_counted, Boxes, Lattice};
 pub use clumps::{clumps, sheet_clumps, Clumps};
 pub use evaluate::{Evaluator, Terms};
 pub use neighbor::{NeighborList, PairRows};

@@ -17,7 +17,8 @@ structs! {
     Lattice { a: Vec3, b: Vec3, c: Vec3, px: u32, py: u32, pz: u32 }
     Cell { present: u32, lattice: Lattice }
     Rows { x: [f64; 3], y: [f64; 3], z: [f64; 3] }
-    Image { diff: Vec3 }
+    /// Kind 0: three counts; 1: one does not fit; 2: no inverse.
+    Image { diff: Vec3, kind: u32, x: i32, y: i32, z: i32 }
     /// Energy, and the virial row by row.
     Sum { energy: f64, virial: [f64; 9] }
     Units { force_to_accel: f64, kb_ev_per_k: f64, ke_coulomb: f64, ev_per_a3_to_gpa: f64 }

@@ -4,3 +4,5 @@ pub mod Order
 pub mod Ways
 pub mod Running
 pub mod Axes
+pub mod Whole
+pub mod Unfolded

@@ -12,6 +12,9 @@ use Rattle.cell.specs.declared.Lattice.{Lattice}
 use Rattle.cell.specs.declared.Cell.{Cell}
 use Rattle.cell.specs.declared.Cell.the-variants.{Absent, Present}
 use Rattle.cell.specs.declared.Image.{Image}
+use Rattle.cell.specs.declared.Boxes.{Boxes}
+use Rattle.cell.specs.declared.Boxes.the-variants.{NoInverse}
+use Rattle.cell.specs.Boxes.{roundedOf, countedOf, noBoxes}
 
 -- 1, and 1e-9
 abbrev pub one : Float
@@ -101,7 +104,17 @@ skewedOf l = lt nano (offDiagonalOf l) || le (l .a .x) (bits 0) || le (l .b .y) 
 unfoldable pub latticeImageOf : Lattice → Vec3 → Vec3
 latticeImageOf l d = cond (skewedOf l) (generalImageOf l d) (boxImageOf l d)
 
--- `min_image` (195-216)
+-- The counts (02, No. 2): of the fractions on the general way, or the word that there is no inverse; of the quotients in a box.
+abbrev pub boxesOf : Lattice → Vec3 → Boxes
+boxesOf l q = countedOf (roundedOf (l .px) (q .x)) (roundedOf (l .py) (q .y)) (roundedOf (l .pz) (q .z))
+
+abbrev pub quotientsOf : Lattice → Vec3 → Vec3
+quotientsOf l d = record { x = d .x ⊘ l .a .x; y = d .y ⊘ l .b .y; z = d .z ⊘ l .c .z }
+
+unfoldable pub latticeBoxesOf : Lattice → Vec3 → Boxes
+latticeBoxesOf l d = cond (skewedOf l) (cond (singularOf l) NoInverse (boxesOf l (timesOf (inverseOf l) d))) (boxesOf l (quotientsOf l d))
+
+-- `min_image` (195-216), and the boxes that it took off
 unfoldable pub imageOf : Vec3 → Cell → Image
-imageOf d Absent = record { diff = d }
-imageOf d (Present l) = record { diff = latticeImageOf l d }
+imageOf d Absent = record { diff = d; counts = noBoxes }
+imageOf d (Present l) = record { diff = latticeImageOf l d; counts = latticeBoxesOf l d }

@@ -1,6 +1,6 @@
 -- What the code asks on its way: the running maximum, the images of three axes, and the general way's numbers of a lattice, asked once, with the minimum image by them.
 -- Nobody has to believe that it is the source's: proofs/Running.antt shows that the running maximum is `largestOf`, proofs/Way.antt that `imageBy l (generalOf l) d` is
--- `latticeImageOf l d`. Definitions only.
+-- `latticeImageOf l d`, and `boxesBy l (generalOf l) d` is `latticeBoxesOf l d`. Definitions only.
 use lib.Ieee.{Float, neg, lt}
 use mathlib.Core.Bool.{Bool, true, false, cond}
 use mathlib.Core.List.{List}
@@ -8,10 +8,13 @@ use Rattle.float.specs.Arith.{at, row}
 use Rattle.cell_axis.specs.Image.{axisOf}
 use Rattle.cell.specs.Vec.{zeroVec, dotOf}
 use Rattle.cell.specs.Matrix.{matrixOf, singularOf, inverseOf, timesOf}
-use Rattle.cell.specs.Cell.{roundAxisOf, boxImageOf, skewedOf}
+use Rattle.cell.specs.Cell.{roundAxisOf, boxImageOf, skewedOf, boxesOf, quotientsOf}
 use Rattle.cell.specs.declared.Vec3.{Vec3}
 use Rattle.cell.specs.declared.Lattice.{Lattice}
 use Rattle.cell.specs.declared.General.{General}
+use Rattle.cell.specs.declared.Boxes.{Boxes}
+use Rattle.cell.specs.declared.Boxes.the-variants.{NoInverse}
+use Rattle.cell.specs.Boxes.{noBoxes}
 
 -- the larger of m and v by one comparison, and of m and the magnitude of v by two
 abbrev pub aboveOf : Float → Float → Float
@@ -39,6 +42,7 @@ asGeneral l =
     record {
       skewed = true;
       singular = singularOf l;
+      absent = false;
       ix = rowVec (row (inverseOf l) 0);
       iy = rowVec (row (inverseOf l) 1);
       iz = rowVec (row (inverseOf l) 2);
@@ -46,7 +50,7 @@ asGeneral l =
 
 -- of any other: nothing is asked
 abbrev pub unasked : General
-unasked = record { skewed = false; singular = true; ix = zeroVec; iy = zeroVec; iz = zeroVec }
+unasked = record { skewed = false; singular = true; absent = false; ix = zeroVec; iy = zeroVec; iz = zeroVec }
 
 unfoldable pub generalOf : Lattice → General
 generalOf l = cond (skewedOf l) (asGeneral l) unasked
@@ -58,3 +62,10 @@ generalBy l g d =
 
 unfoldable pub imageBy : Lattice → General → Vec3 → Vec3
 imageBy l g d = cond (g .skewed) (generalBy l g d) (boxImageOf l d)
+
+-- The counts by them. The numbers of no cell at all say so: the other two flags are then those of a lattice without an inverse.
+unfoldable pub boxesBy : Lattice → General → Vec3 → Boxes
+boxesBy l g d =
+    cond (g .skewed)
+    (cond (g .absent) noBoxes (cond (g .singular) NoInverse (boxesOf l (record { x = dotOf (g .ix) d; y = dotOf (g .iy) d; z = dotOf (g .iz) d }))))
+    (boxesOf l (quotientsOf l d))

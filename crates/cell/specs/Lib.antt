@@ -1,8 +1,10 @@
 pub mod Vec
 pub mod Matrix
+pub mod Boxes
 pub mod Cell
 pub mod General
 pub mod Ranged
 pub mod Seen
 pub mod Calls
 pub mod Ways
+pub mod Unfolded

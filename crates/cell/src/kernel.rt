@@ -8,6 +8,7 @@ use crate::General;
 use crate::Image;
 use crate::Lattice;
 use crate::Vec3;
+use crate::counting;
 use crate::matrices;
 use crate::vectors;
 
@@ -221,6 +222,7 @@ pub fn general_of(l: Lattice) -> General
         return General {
             skewed: true,
             singular: matrices::singular(l),
+            absent: false,
             ix: row_vec(m[0]),
             iy: row_vec(m[1]),
             iz: row_vec(m[2]),
@@ -229,6 +231,7 @@ pub fn general_of(l: Lattice) -> General
     General {
         skewed: false,
         singular: true,
+        absent: false,
         ix: vectors::zero(),
         iy: vectors::zero(),
         iz: vectors::zero(),
@@ -288,9 +291,13 @@ pub fn min_image(d: Vec3, cell: Cell) -> Image
     ensures { λ r. ⌜ r ≡ imageOf d cell ⌝ }
 {
     match cell {
-        Cell::Absent => Image { diff: d },
+        Cell::Absent => Image {
+            diff: d,
+            counts: counting::none(),
+        },
         Cell::Present(l) => Image {
             diff: lattice_image(l, d),
+            counts: counting::lattice_boxes(l, d),
         },
     }
 }

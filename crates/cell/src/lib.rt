@@ -6,6 +6,7 @@ use answer::Number;
 use answer::Refusal;
 use answer::YesNo;
 
+pub mod counting;
 pub mod kernel;
 pub mod matrices;
 pub mod ranged;
@@ -33,10 +34,24 @@ pub enum Cell {
     Present(Lattice),
 }
 
-// What the minimum image is.
-#[repr(C)]
+// How many boxes were taken off, on each axis.
+pub struct Triple {
+    pub x: i32,
+    pub y: i32,
+    pub z: i32,
+}
+
+// The same where there are such numbers: not where one is no i32, and not on the general way without an inverse.
+pub enum Boxes {
+    Counted(Triple),
+    NoFit,
+    NoInverse,
+}
+
+// What the minimum image is, and the boxes that it took off the difference.
 pub struct Image {
     pub diff: Vec3,
+    pub counts: Boxes,
 }
 
 // What the general way of the minimum image wants to know of a lattice: whether it is taken, whether there is an inverse, and the
@@ -44,6 +59,7 @@ pub struct Image {
 pub struct General {
     pub skewed: bool,
     pub singular: bool,
+    pub absent: bool,
     pub ix: Vec3,
     pub iy: Vec3,
     pub iz: Vec3,

@@ -1,4 +1,4 @@
--- The minimum image by a cell's prepared facts is the minimum image in the cell (`prepared-image`), and the short way is what `imageIn` says (`short-way`). Assumes nothing.
+-- The minimum image by a cell's prepared facts is the minimum image in the cell (`prepared-image`), and the short way is what `diffIn` says (`short-way`). Assumes nothing.
 use mathlib.Core.Path.{_≡_, refl, ap, _∙_}
 use mathlib.Core.Bool.{Bool, true, false, not, cond, _&&_}
 use lib.Ieee.{Float, nan, inf, fin, lt, ofBits}
@@ -11,15 +11,15 @@ use Rattle.cell_axis.specs.Image.{nearestOf, axisOf, NearSays, nearAxisOf}
 use Rattle.cell_axis.proofs.Law.{bounded}
 use Rattle.cell.specs.Vec.{zeroVec}
 use Rattle.cell.specs.Cell.{boxImageOf, skewedOf, latticeImageOf, imageOf}
-use Rattle.cell.specs.General.{generalOf, generalBy, imageBy}
-use Rattle.cell.proofs.Way.{image-by}
+use Rattle.cell.specs.General.{generalOf, generalBy, imageBy, boxesBy}
+use Rattle.cell.proofs.Way.{image-by, boxes-by}
 use Rattle.cell.specs.declared.Vec3.{Vec3}
 use Rattle.cell.specs.declared.Lattice.{Lattice}
 use Rattle.cell.specs.declared.Cell.{Cell}
 use Rattle.cell.specs.declared.Cell.the-variants.{Absent, Present}
 use Rattle.cell.specs.declared.Image.{Image}
 use Rattle.cell_prepared.specs.declared.Prepared.{Prepared}
-use Rattle.cell_prepared.specs.Facts.{huge, isBox, lengths, shortOf, prepareOf, shortAxis, isShort, shortImage, imageIn}
+use Rattle.cell_prepared.specs.Facts.{huge, isBox, lengths, shortOf, prepareOf, shortAxis, isShort, shortImage, diffIn, imageIn}
 
 either : {A : Type 0} {x y z : A} (t : Bool) → x ≡ z → y ≡ z → cond t x y ≡ z
 either true p q = p
@@ -79,9 +79,9 @@ unfolding shortOf
 lattice-law l d = by-short l d (isBox l) refl
 
 pub prepared-image : (cell : Cell) (d : Vec3) → imageIn (prepareOf cell) d ≡ imageOf d cell
-unfolding prepareOf imageIn imageOf imageBy generalBy
+unfolding prepareOf diffIn imageIn imageOf imageBy generalBy boxesBy
 prepared-image Absent d = rw (never-short d)
-prepared-image (Present l) d = ap (λ (v : Vec3). record { diff = v }) (lattice-law l d)
+prepared-image (Present l) d = λ i. record { diff = lattice-law l d i; counts = boxes-by l d i }
 
 -- as functions: what is made of the images of many differences may be read either way
 pub prepared-all : (cell : Cell) → _≡_ {A = Vec3 → Image} (λ d. imageIn (prepareOf cell) d) (λ d. imageOf d cell)
@@ -109,6 +109,6 @@ short-way s d {a} {b} {c} {u} {v} {w} h A B C nx ny nz =
     }
 
 -- ---- where there is no cell
-pub free-way : (p : Prepared) (d : Vec3) → isShort (p .short) d ≡ false → p .general .skewed && p .general .singular ≡ true → d ≡ imageIn p d .diff
-unfolding imageIn imageBy generalBy
+pub free-way : (p : Prepared) (d : Vec3) → isShort (p .short) d ≡ false → p .general .skewed && p .general .singular ≡ true → d ≡ diffIn p d
+unfolding diffIn imageBy generalBy
 free-way p d far free = let f = both-true (p .general .skewed) (p .general .singular) free in rw (far, f .0, f .1)

@@ -7,7 +7,7 @@ use Rattle.float.specs.Def.{absOf}
 use Rattle.cell_axis.specs.Image.{nearestOf, nearAxisOf}
 use Rattle.cell.specs.Vec.{zeroVec}
 use Rattle.cell.specs.Cell.{cubicOf, skewedOf}
-use Rattle.cell.specs.General.{generalOf, imageBy}
+use Rattle.cell.specs.General.{generalOf, imageBy, boxesBy}
 use Rattle.cell.specs.declared.Vec3.{Vec3}
 use Rattle.cell.specs.declared.Lattice.{Lattice}
 use Rattle.cell.specs.declared.Cell.{Cell}
@@ -35,7 +35,7 @@ prepareOf Absent =
     record {
       short = zeroVec;
       lattice = cubicOf (bits 0);
-      general = record { skewed = true; singular = true; ix = zeroVec; iy = zeroVec; iz = zeroVec };
+      general = record { skewed = true; singular = true; absent = true; ix = zeroVec; iy = zeroVec; iz = zeroVec };
     }
 prepareOf (Present l) = record { short = shortOf l; lattice = l; general = generalOf l }
 
@@ -50,5 +50,8 @@ isShort s d = lt (absOf (d .x)) (s .x) && lt (absOf (d .y)) (s .y) && lt (absOf 
 abbrev pub shortImage : Vec3 → Vec3 → Vec3
 shortImage s d = record { x = shortAxis (s .x) (d .x); y = shortAxis (s .y) (d .y); z = shortAxis (s .z) (d .z) }
 
+unfoldable pub diffIn : Prepared → Vec3 → Vec3
+diffIn p d = cond (isShort (p .short) d) (shortImage (p .short) d) (imageBy (p .lattice) (p .general) d)
+
 unfoldable pub imageIn : Prepared → Vec3 → Image
-imageIn p d = record { diff = cond (isShort (p .short) d) (shortImage (p .short) d) (imageBy (p .lattice) (p .general) d) }
+imageIn p d = record { diff = diffIn p d; counts = boxesBy (p .lattice) (p .general) d }

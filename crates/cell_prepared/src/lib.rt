@@ -2,12 +2,13 @@
 // proofs/Law.antt: image_in(prepare(cell), d) is cell::kernel::min_image(d, cell).
 ghost use mathlib.Core.Path.{_≡_};
 ghost use mathlib.Core.Bool.{true};
-ghost use Rattle.cell_prepared.specs.Facts.{shortOf, prepareOf, isShort, shortImage, imageIn};
+ghost use Rattle.cell_prepared.specs.Facts.{shortOf, prepareOf, isShort, shortImage, diffIn, imageIn};
 use cell::Cell;
 use cell::General;
 use cell::Image;
 use cell::Lattice;
 use cell::Vec3;
+use cell::counting;
 use cell::kernel;
 use cell::vectors;
 
@@ -33,7 +34,7 @@ fn short_of(l: Lattice) -> Vec3
     vectors::zero()
 }
 
-// Without a cell the difference stays, as in a lattice with no inverse.
+// Without a cell the difference stays, as in a lattice with no inverse, but the counts are zeros.
 pub fn prepare(cell: Cell) -> Prepared
     ensures { λ r. ⌜ r ≡ prepareOf cell ⌝ }
 {
@@ -44,6 +45,7 @@ pub fn prepare(cell: Cell) -> Prepared
             general: General {
                 skewed: true,
                 singular: true,
+                absent: true,
                 ix: vectors::zero(),
                 iy: vectors::zero(),
                 iz: vectors::zero(),
@@ -74,26 +76,23 @@ fn short_image(s: Vec3, d: Vec3) -> Vec3
     }
 }
 
-pub fn image_in(p: Prepared, d: Vec3) -> Image
-    ensures { λ r. ⌜ r ≡ imageIn p d ⌝ }
+// The difference alone. It is the image's, and so is `quick_diff`; the counts are asked beside it.
+fn diff_in(p: Prepared, d: Vec3) -> Vec3
+    ensures { λ r. ⌜ r ≡ diffIn p d ⌝ }
 {
     let s = p.short;
     if is_short(s, d) {
-        return Image {
-            diff: short_image(s, d),
-        };
+        return short_image(s, d);
     }
     let l = p.lattice;
     let g = p.general;
-    Image {
-        diff: kernel::image_by(l, g, d),
-    }
+    kernel::image_by(l, g, d)
 }
 
 // The same for an innermost loop. Small, so that it goes into the loop: what is short, or free because there is no cell, is done there, and only
 // the rest is a call, for which the facts are copied.
-pub fn diff_in(p: Prepared, d: Vec3) -> Vec3
-    ensures { λ r. ⌜ r ≡ imageIn p d .diff ⌝ }
+fn quick_diff(p: Prepared, d: Vec3) -> Vec3
+    ensures { λ r. ⌜ r ≡ diffIn p d ⌝ }
 {
     let s = p.short;
     if is_short(s, d) {
@@ -102,6 +101,31 @@ pub fn diff_in(p: Prepared, d: Vec3) -> Vec3
     if p.general.skewed & p.general.singular {
         return d;
     }
-    let image = image_in(p, d);
-    image.diff
+    diff_in(p, d)
+}
+
+// Who takes the difference alone has the counts for nothing: their call touches no memory but its answer, so the compiler drops it.
+pub fn image_in(p: Prepared, d: Vec3) -> Image
+    ensures { λ r. ⌜ r ≡ imageIn p d ⌝ }
+{
+    let l = p.lattice;
+    let g = p.general;
+    let counts = counting::boxes_by(l, g, d);
+    Image {
+        diff: diff_in(p, d),
+        counts: counts,
+    }
+}
+
+// .. and for an innermost loop.
+pub fn quick_image(p: Prepared, d: Vec3) -> Image
+    ensures { λ r. ⌜ r ≡ imageIn p d ⌝ }
+{
+    let l = p.lattice;
+    let g = p.general;
+    let counts = counting::boxes_by(l, g, d);
+    Image {
+        diff: quick_diff(p, d),
+        counts: counts,
+    }
 }

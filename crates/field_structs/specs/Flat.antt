@@ -1,4 +1,5 @@
 -- The struct that stands for an answer: a refusal's number and place as 01's table has them, or 0 and 0 and the values; zeros where there is no value. Definitions only.
+use lib.IntN.{ℤ, pos}
 use Prim.Native.Nat.{ℕ}
 use mathlib.Core.Bool.{Bool, true, false}
 use Rattle.cell.specs.Vec.{zeroVec}
@@ -20,6 +21,9 @@ use Rattle.cell.specs.declared.Vector.{Vector}
 use Rattle.cell.specs.declared.Vector.the-variants as Vector·cases
 use Rattle.cell.specs.declared.LatticeAnswer.{LatticeAnswer}
 use Rattle.cell.specs.declared.LatticeAnswer.the-variants as LatticeAnswer·cases
+use Rattle.cell.specs.declared.Vec3.{Vec3}
+use Rattle.cell.specs.declared.Boxes.{Boxes}
+use Rattle.cell.specs.declared.Boxes.the-variants as Boxes·cases
 use Rattle.cell.specs.declared.ImageAnswer.{ImageAnswer}
 use Rattle.cell.specs.declared.ImageAnswer.the-variants as ImageAnswer·cases
 use Rattle.cell.specs.declared.RowsAnswer.{RowsAnswer}
@@ -52,6 +56,7 @@ use Rattle.field_structs.specs.declared.FlatVector.{FlatVector}
 use Rattle.field_structs.specs.declared.FlatCell.{FlatCell}
 use Rattle.field_structs.specs.declared.FlatLattice.{FlatLattice}
 use Rattle.field_structs.specs.declared.FlatLatticeAnswer.{FlatLatticeAnswer}
+use Rattle.field_structs.specs.declared.FlatImage.{FlatImage}
 use Rattle.field_structs.specs.declared.FlatImageAnswer.{FlatImageAnswer}
 use Rattle.field_structs.specs.declared.FlatRowsAnswer.{FlatRowsAnswer}
 use Rattle.field_structs.specs.declared.FlatInverseAnswer.{FlatInverseAnswer}
@@ -119,9 +124,18 @@ unfoldable pub flatLatticeAnswer : LatticeAnswer → FlatLatticeAnswer
 flatLatticeAnswer (LatticeAnswer·cases.Answered l) = record { done = wellDone; lattice = flatLattice l }
 flatLatticeAnswer (LatticeAnswer·cases.Refused r) = record { done = flatRefusal r; lattice = zeroLattice }
 
+-- an image with its counts (kind 0), or the word that there are none and zeros: one does not fit (1), no inverse (2)
+abbrev pub imageWith : Vec3 → ℕ → ℤ → ℤ → ℤ → FlatImage
+imageWith v kind x y z = record { diff = v; kind = kind; x = x; y = y; z = z }
+
+unfoldable pub withBoxes : Vec3 → Boxes → FlatImage
+withBoxes v (Boxes·cases.Counted n) = imageWith v 0 (n .x) (n .y) (n .z)
+withBoxes v Boxes·cases.NoFit = imageWith v 1 (pos 0) (pos 0) (pos 0)
+withBoxes v Boxes·cases.NoInverse = imageWith v 2 (pos 0) (pos 0) (pos 0)
+
 unfoldable pub flatImage : ImageAnswer → FlatImageAnswer
-flatImage (ImageAnswer·cases.Answered i) = record { done = wellDone; image = i }
-flatImage (ImageAnswer·cases.Refused r) = record { done = flatRefusal r; image = record { diff = zeroVec } }
+flatImage (ImageAnswer·cases.Answered i) = record { done = wellDone; image = withBoxes (i .diff) (i .counts) }
+flatImage (ImageAnswer·cases.Refused r) = record { done = flatRefusal r; image = imageWith zeroVec 0 (pos 0) (pos 0) (pos 0) }
 
 unfoldable pub flatRows : RowsAnswer → FlatRowsAnswer
 flatRows a = record { done = flatDone (a .done); rows = a .rows }

@@ -4,6 +4,7 @@ use crate::FlatBuilt;
 use crate::FlatCell;
 use crate::FlatDone;
 use crate::FlatEvaluated;
+use crate::FlatImage;
 use crate::FlatImageAnswer;
 use crate::FlatInverseAnswer;
 use crate::FlatJob;
@@ -27,8 +28,8 @@ use answer::Number;
 use answer::Refusal;
 use answer::Whole;
 use answer::YesNo;
+use cell::Boxes;
 use cell::Cell;
-use cell::Image;
 use cell::ImageAnswer;
 use cell::InverseAnswer;
 use cell::Lattice;
@@ -51,7 +52,7 @@ use verlet_step::Stepped;
 use virial::Summed;
 ghost use mathlib.Core.Path.{_≡_};
 ghost use Rattle.cell.specs.Vec.{zeroVec};
-ghost use Rattle.field_structs.specs.Flat.{flag, wellDone, flatRefusal, flatDone, flatNumber, flatYesNo, flatWhole, flatVector, flatLattice, zeroLattice, flatCell, flatLatticeAnswer, flatImage, flatRows, flatInverse, flatSummed, flatState, zeroState, flatStateAnswer, flatUpdated, flatBuilt, flatLj, zeroLj, flatLjAnswer, zeroBond, flatBondAnswer, flatEvaluated, flatStepped, flatJob, zeroJob, flatSheet};
+ghost use Rattle.field_structs.specs.Flat.{flag, wellDone, flatRefusal, flatDone, flatNumber, flatYesNo, flatWhole, flatVector, flatLattice, zeroLattice, flatCell, flatLatticeAnswer, imageWith, withBoxes, flatImage, flatRows, flatInverse, flatSummed, flatState, zeroState, flatStateAnswer, flatUpdated, flatBuilt, flatLj, zeroLj, flatLjAnswer, zeroBond, flatBondAnswer, flatEvaluated, flatStepped, flatJob, zeroJob, flatSheet};
 
 // 1 where it is set.
 pub fn flag_of(b: bool) -> u32
@@ -210,17 +211,43 @@ pub fn lattice_answer(a: LatticeAnswer) -> FlatLatticeAnswer
     }
 }
 
+fn flat_counted(diff: Vec3, kind: u32, x: i32, y: i32, z: i32) -> FlatImage
+    ensures { λ r. ⌜ r ≡ imageWith diff kind x y z ⌝ }
+{
+    FlatImage {
+        diff: diff,
+        kind: kind,
+        x: x,
+        y: y,
+        z: z,
+    }
+}
+
+fn with_boxes(diff: Vec3, counts: Boxes) -> FlatImage
+    ensures { λ r. ⌜ r ≡ withBoxes diff counts ⌝ }
+{
+    match counts {
+        Boxes::Counted(n) => flat_counted(diff, 0, n.x, n.y, n.z),
+        Boxes::NoFit => flat_counted(diff, 1, 0, 0, 0),
+        Boxes::NoInverse => flat_counted(diff, 2, 0, 0, 0),
+    }
+}
+
 pub fn image(a: ImageAnswer) -> FlatImageAnswer
     ensures { λ r. ⌜ r ≡ flatImage a ⌝ }
 {
     match a {
-        ImageAnswer::Answered(i) => FlatImageAnswer {
-            done: well(),
-            image: i,
-        },
+        ImageAnswer::Answered(i) => {
+            let diff = i.diff;
+            let counts = i.counts;
+            FlatImageAnswer {
+                done: well(),
+                image: with_boxes(diff, counts),
+            }
+        }
         ImageAnswer::Refused(why) => FlatImageAnswer {
             done: refusal(why),
-            image: Image { diff: zero_vec() },
+            image: flat_counted(zero_vec(), 0, 0, 0, 0),
         },
     }
 }

@@ -1,7 +1,6 @@
 // What crosses the boundary to C: structs of numbers in place of enums and flags. An answer holds a refusal's number and place (0 and 0 where it is
 // answered) and the values, zeros where there are none; a flag is read as C does, set where it is not 0, and handed back as 0 or 1. specs/Flat.antt says
 // which answer each struct stands for, specs/Taken.antt which argument. `give` turns an answer into its struct, `take` a struct into an argument.
-use cell::Image;
 use cell::Rows;
 use cell::Vec3;
 use potentials::Bond;
@@ -156,11 +155,20 @@ pub struct FlatLatticeAnswer {
     pub lattice: FlatLattice,
 }
 
-// The minimum image.
+// The minimum image, and how many boxes it took off on each axis where kind is 0; kind 1: a count that is no int32_t, 2: no inverse, and zeros then.
+#[repr(C)]
+pub struct FlatImage {
+    pub diff: Vec3,
+    pub kind: u32,
+    pub x: i32,
+    pub y: i32,
+    pub z: i32,
+}
+
 #[repr(C)]
 pub struct FlatImageAnswer {
     pub done: FlatDone,
-    pub image: Image,
+    pub image: FlatImage,
 }
 
 // Three rows of three floats.

@@ -41,7 +41,7 @@ pub(crate) fn sees(s: Sight, rising: bool, a: Vec3, b: Vec3) -> bool
     ensures { λ r. ⌜ r ≡ seesOf s (cond rising a b) (cond rising b a) ⌝ }
 {
     let p = s.prepared;
-    vectors::norm2(cell_prepared::diff_in(p, apart(rising, a, b))) <= s.limit
+    vectors::norm2(cell_prepared::quick_image(p, apart(rising, a, b)).diff) <= s.limit
 }
 
 // The cell's facts are asked once for all pairs.

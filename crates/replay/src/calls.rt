@@ -1,6 +1,7 @@
 // Which call a case asks for, by its number. A new call is a function NAME_case(ws, out) in the module of its group and a line in that module's `answer`; a
 // new group is a module and a line here. A case takes its arguments one after the other, each from the place that the one before left; where it does not
 // end at the number of words it is no case, and answers no words (0). Then it calls, and puts its answer together in `out`.
+use crate::boxes;
 use crate::cells;
 use crate::counts;
 use crate::evaluations;
@@ -20,6 +21,9 @@ use crate::virials;
 pub(crate) fn answer(call: u64, ws: &[u64], out: &mut [u64; 8208]) -> usize {
     if call < 16 {
         return floats::answer(call, ws, out);
+    }
+    if call == 27 {
+        return boxes::answer(ws, out);
     }
     if call < 32 {
         return cells::answer(call, ws, out);

@@ -3,6 +3,7 @@ use libc::STDIN_FILENO;
 use libc::STDOUT_FILENO;
 
 mod answers;
+mod boxes;
 mod calls;
 mod cells;
 mod counts;

@@ -85,3 +85,36 @@ pub fn min_image(d: [f64; 3], cell: Option<&Lattice>) -> Result<[f64; 3], Error>
     r.done.of("tyn_min_image")?;
     Ok(r.image.diff.into())
 }
+
+/// How many boxes a minimum image took off the difference along each lattice direction: 0 along an open axis and without a cell.
+#[derive(Debug, Clone, Copy, PartialEq, Eq)]
+pub enum Boxes {
+    /// The three counts.
+    Counted([i32; 3]),
+    /// A count that is no `i32`.
+    NoFit,
+    /// A degenerate cell: the difference stayed as it is.
+    NoInverse,
+}
+
+/// What [`min_image`] gives, and the boxes that it took off, by which a path is unfolded: where an atom's wrapped position moved by `d`, it went `diff`, and
+/// crossed as many boxes the other way.
+///
+/// ```no_run
+/// # use tyngyrlak::*;
+/// let cell = Lattice::cubic(10.0);
+/// let (diff, boxes) = min_image_counted([-9.5, 0.0, 0.5], Some(&cell))?;
+/// assert_eq!((diff, boxes), ([0.5, 0.0, 0.5], Boxes::Counted([-1, 0, 0])));
+/// # Ok::<(), Error>(())
+/// ```
+pub fn min_image_counted(d: [f64; 3], cell: Option<&Lattice>) -> Result<([f64; 3], Boxes), Error> {
+    let r = raw::tyn_min_image(d.into(), cell.into());
+    r.done.of("tyn_min_image")?;
+    let i = r.image;
+    let boxes = match i.kind {
+        0 => Boxes::Counted([i.x, i.y, i.z]),
+        1 => Boxes::NoFit,
+        _ => Boxes::NoInverse,
+    };
+    Ok((i.diff.into(), boxes))
+}

@@ -1,24 +1,11 @@
 use Rattle.cell_prepared.specs.Facts.{imageIn}
 use borrow.Author.Needs.{needs}
-use mathlib.Core.Path.{sym, _∙_}
 use Rattle.cell_prepared.proofs.image_in.Statement.{statement}
 use Rattle.cell_prepared.proofs.image_in.Tie as tie
 
-short-image-requires : tie.Need-short-image-requires
-short-image-requires c κs = sym (c .before .is-short .ensures) ∙ c .if1 .taken
-
 returns : tie.Need-returns
-returns c = unfold imageIn in simp (c .short-image .ensures, ← c .before .before .is-short .ensures, c .before .if1 .taken)
-
-returns-2 : tie.Need-returns-2
-returns-2 c = unfold imageIn in simp (c .image-by .ensures, ← c .before .before .before .before .is-short .ensures, c .before .before .before .if1 .left)
+unfolding imageIn
+returns c = simp (c .diff-in .ensures, c .before .boxes-by .ensures)
 
 pub image-in-spec : {M : Type 1} → statement M
-image-in-spec =
-    tie.close
-    (tie.spec
-    (λ c κs. search needs)
-    short-image-requires
-    returns
-    (λ c κs. search needs)
-    returns-2)
+image-in-spec = tie.close (tie.spec (λ c κs. search needs) (λ c κs. search needs) returns)

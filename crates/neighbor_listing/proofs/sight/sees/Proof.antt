@@ -4,7 +4,7 @@ use Rattle.neighbor_listing.proofs.sight.sees.Statement.{statement}
 use Rattle.neighbor_listing.proofs.sight.sees.Tie as tie
 
 returns : tie.Need-returns
-returns c = unfold seesOf in simp (c .before .norm2 .ensures, c .before .before .diff-in .ensures, c .before .before .before .apart .ensures)
+returns c = unfold seesOf in simp (c .before .norm2 .ensures, c .before .before .quick-image .ensures, c .before .before .before .apart .ensures)
 
 pub sees-spec : {M : Type 1} → statement M
 sees-spec =
