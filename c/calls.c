@@ -89,11 +89,11 @@ static void lists(void)
     tyn_part listed = tyn_listed(built.state, pairs, 8);
     EXPECT(listed.done.number == 0 && listed.start == 0 && listed.length == 2 && tyn_listed(built.state, pairs, 1).done.number == TYN_CLAIMS);
     EXPECT(tyn_needs_rebuild(built.state, open, positions, 9, references, 9).value == 0 && tyn_builds_since(built.state, 0) == 1);
-    tyn_cell box = {1, {{9, 0, 0}, {0, 9, 0}, {0, 0, 9}, 1, 2, 3}};
+    tyn_cell box = {1, {{4, 0, 0}, {0, 4, 0}, {0, 0, 4}, 1, 2, 3}};
     EXPECT(built.state.built_in.present == 0 && tyn_outdated(built.state, open, positions, 9, references, 9).value == 0);
     EXPECT(tyn_outdated(built.state, box, positions, 9, references, 9).value == 1 && tyn_needs_rebuild(built.state, box, positions, 9, references, 9).value == 0);
     tyn_updated boxed = tyn_build(built.state, box, positions, 9, table, 2, pairs, 8, references, 9, starts, 4, items, 3);
-    EXPECT(boxed.done.number == 0 && boxed.state.built_in.present == 1 && boxed.state.built_in.lattice.b.y == 9.0 && boxed.state.built_in.lattice.pz == 1);
+    EXPECT(boxed.done.number == 0 && boxed.state.built_in.present == 1 && boxed.state.built_in.lattice.b.y == 4.0 && boxed.state.built_in.lattice.pz == 1);
     EXPECT(tyn_outdated(boxed.state, box, positions, 9, references, 9).value == 0 && tyn_outdated(boxed.state, open, positions, 9, references, 9).value == 1);
     boxed.state.built_in.lattice.b.y = 1e9;
     EXPECT(tyn_outdated(boxed.state, box, positions, 9, references, 9).done.number == TYN_CLAIMS && tyn_listed(boxed.state, pairs, 8).done.number == TYN_CLAIMS);

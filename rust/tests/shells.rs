@@ -77,6 +77,28 @@ tests! {
         assert_eq!(Shells::new(1, 0).add(&good).unwrap_err().number, 3);
     }
 
+    fn refusals_come_in_their_order() {
+        let open = Frame { edges: [40; 3], periodic: [false; 3], radius: 3 };
+        let mut one = Snapshot { frame: open, atoms: vec![[1; 3]; 16_385], ..Default::default() };
+        let refused = |width, one: &Snapshot| {
+            let mut shells = Shells::new(width, 2);
+            let e = shells.add(one).unwrap_err();
+            assert_eq!(shells.totals(), [0, 0]);
+            (e.number, e.place)
+        };
+        one.exclusions.insert((5, 2));
+        assert_eq!(refused(0, &one), (2, 16_385));
+        one.atoms.truncate(16_384);
+        assert_eq!(refused(0, &one), (3, 0));
+        assert_eq!(refused(1, &one), (5, 0));
+        one.exclusions.clear();
+        one.frame.radius = 1;
+        assert_eq!(refused(1, &one), (7, 0));
+        one.atoms.truncate(1);
+        assert_eq!(refused(0, &one), (3, 0));
+        assert_eq!(Shells::new(1, 2).add(&one).unwrap().pairs, 0);
+    }
+
     fn a_full_total_leaves_all_as_they_were() {
         let open = Frame { edges: [40; 3], periodic: [false; 3], radius: 3 };
         let line = |n: u32| Snapshot { frame: open, atoms: (0..n).map(|k| [3 * k, 0, 0]).collect(), ..Default::default() };
