@@ -6,8 +6,8 @@ import re
 import sys
 
 # structs of up to 16 bytes, as the two arguments that stand for one
-SHORT = {"tyn_bond": ["%s.k", "%s.r0"], "tyn_spot": ["((union { tyn_spot spot; uint64_t half; }){ %s }).half", "%s.z"]}
-SHORT_TYPES = {"tyn_bond": ["double", "double"], "tyn_spot": ["uint64_t", "uint64_t"]}
+SHORT = {"tyn_bond": ["%s.k", "%s.r0"], "tyn_angle": ["%s.k", "%s.rest"], "tyn_spot": ["((union { tyn_spot spot; uint64_t half; }){ %s }).half", "%s.z"]}
+SHORT_TYPES = {"tyn_bond": ["double", "double"], "tyn_angle": ["double", "double"], "tyn_spot": ["uint64_t", "uint64_t"]}
 NUMBERS = {"double", "uint32_t", "uint64_t", "int32_t", "int64_t", "size_t"}
 TOP = """typedef __SIZE_TYPE__ size_t;
 typedef __UINT8_TYPE__ uint8_t;

@@ -118,18 +118,18 @@ static void settings(void)
     uint32_t pairs[2] = {0}, starts[2] = {0}, items[2] = {0};
     tyn_setting setting = {.bond = {7, {2.0, 1.5}}, .units = {0.5, 0.25, 14.0, 160.0}};
     tyn_pace pace = {0.5, {7, 0.0, 0.5}};
-    tyn_evaluated pull = tyn_evaluate(setting, tyn_new(1.0, 0.5).state, &none, 0, &zero, 0, species, 2, charges, 2, rows, 2, &zero, 0, &zero, 0, positions, 6,
+    tyn_evaluated pull = tyn_evaluate(setting, tyn_new(1.0, 0.5).state, &none, 0, &zero, 0, species, 2, charges, 2, rows, 2, &zero, 0, &zero, 0, &none, 0, &zero, 0, positions, 6,
         &none, 0, pairs, 2, references, 6, starts, 2, items, 2, forces, 6);
     EXPECT(pull.done.number == 0 && pull.rebuilt == 1 && pull.sum.energy == 1.0 && forces[0] == 2.0 && forces[3] == -2.0);
-    tyn_stepped cold = tyn_step(setting, pace, pull.state, pull.sum.energy, &none, 0, &zero, 0, species, 2, charges, 2, rows, 2, &zero, 0, &zero, 0, masses, 2,
+    tyn_stepped cold = tyn_step(setting, pace, pull.state, pull.sum.energy, &none, 0, &zero, 0, species, 2, charges, 2, rows, 2, &zero, 0, &zero, 0, &none, 0, &zero, 0, masses, 2,
         &none, 0, positions, 6, velocities, 6, pairs, 2, references, 6, starts, 2, items, 2, forces, 6);
     EXPECT(cold.done.number == 0 && cold.stopped == 0 && cold.potential < 1.0 && positions[0] > 0.0 && velocities[0] == 0.0);
     pace.thermostat.present = 0;
-    tyn_stepped rest = tyn_finish(setting, pace, cold.state, cold.potential, &none, 0, &zero, 0, species, 2, charges, 2, rows, 2, &zero, 0, &zero, 0, masses, 2,
+    tyn_stepped rest = tyn_finish(setting, pace, cold.state, cold.potential, &none, 0, &zero, 0, species, 2, charges, 2, rows, 2, &zero, 0, &zero, 0, &none, 0, &zero, 0, masses, 2,
         &none, 0, positions, 6, velocities, 6, pairs, 2, references, 6, starts, 2, items, 2, forces, 6);
     EXPECT(rest.done.number == 0 && velocities[0] > 0.0 && rest.potential == cold.potential);
     setting.bond.present = 0;
-    tyn_evaluated still = tyn_evaluate(setting, rest.state, &none, 0, &zero, 0, species, 2, charges, 2, rows, 2, &zero, 0, &zero, 0, positions, 6, &none, 0, pairs,
+    tyn_evaluated still = tyn_evaluate(setting, rest.state, &none, 0, &zero, 0, species, 2, charges, 2, rows, 2, &zero, 0, &zero, 0, &none, 0, &zero, 0, positions, 6, &none, 0, pairs,
         2, references, 6, starts, 2, items, 2, forces, 6);
     EXPECT(still.done.number == 0 && still.sum.energy == 0.0 && forces[0] == 0.0);
 }

@@ -1,4 +1,4 @@
-/* Tyngyrlak for C: pair lists, Lennard-Jones, Coulomb, bonds, Verlet with Berendsen. Made by tools/header.py from the library's sources; do not edit.
+/* Tyngyrlak for C: pair lists, Lennard-Jones, Coulomb, bonds, angles, Verlet with Berendsen. Made by tools/header.py from the library's sources; do not edit.
  *
  * Answers. Every answer has a `done`: number 0 and place 0 where the call is answered, else a refusal's number (tyn_refusal) and its place, which is 0
  * unless the number names one. The other values are zeros where the call is refused, but for a list's state and a step's potential, which come back in every case.
@@ -13,7 +13,7 @@
  * The library keeps no pointer, takes no memory of its own but the stack (half a megabyte in tyn_evaluate, tyn_step and tyn_finish) and asks fmod, memcpy
  * and memset of the C library (link with -lm), nothing else.
  *
- * Three floats an atom (x, y, z), two numbers a pair, bond or exclusion. At most 16384 atoms. docs/DECISIONS.md and the scope paper have the ranges. */
+ * Three floats an atom (x, y, z), two numbers a pair, bond or exclusion, three an angle. At most 16384 atoms. docs/DECISIONS.md and the scope paper have the ranges. */
 #ifndef TYNGYRLAK_H
 #define TYNGYRLAK_H
 
@@ -291,11 +291,24 @@ typedef struct {
     tyn_bond bond;
 } tyn_bond_term;
 
+/* A force constant, and a cosine at rest. */
+typedef struct {
+    double k;
+    double rest;
+} tyn_angle;
+
+/* No angles (present 0), or angles (present not 0). */
+typedef struct {
+    uint32_t present;
+    tyn_angle angle;
+} tyn_angle_term;
+
 /* What an evaluation goes by besides its tables: the terms, the units, and the cell. */
 typedef struct {
     tyn_lj_term lj;
     tyn_coulomb_term coulomb;
     tyn_bond_term bond;
+    tyn_angle_term angle;
     tyn_units units;
     tyn_cell cell;
 } tyn_setting;
@@ -307,6 +320,11 @@ typedef struct {
     tyn_state state;
     tyn_sum sum;
 } tyn_evaluated;
+
+typedef struct {
+    tyn_done done;
+    tyn_angle angle;
+} tyn_angle_answer;
 
 /* No thermostat (present 0), or Berendsen's (present not 0). */
 typedef struct {
@@ -566,13 +584,24 @@ tyn_summed tyn_coulomb_all(tyn_units units, double cutoff, tyn_cell cell, const 
 tyn_summed tyn_bonds_all(tyn_bond bond, tyn_cell cell, const uint32_t *bonds, size_t bonds_len, const double *lengths, size_t lengths_len,
     const double *ks, size_t ks_len, const double *positions, size_t positions_len, double *forces, size_t forces_len);
 
-/* The list brought up to date, then each present term, Lennard-Jones, Coulomb, bonds, merged in this order into zero. Refusals 1, 2, 6, 3, 4, 5, 7,
- * 8. */
+/* The list brought up to date, then each present term, Lennard-Jones, Coulomb, bonds, angles, merged in this order into zero. Refusals 1, 2, 6, 3, 4,
+ * 5, 7, 8. */
 tyn_evaluated tyn_evaluate(tyn_setting setting, tyn_state s, const uint32_t *ids, size_t ids_len, const double *params, size_t params_len,
     const uint32_t *species, size_t species_len, const double *charges, size_t charges_len, const uint32_t *bonds, size_t bonds_len,
-    const double *lengths, size_t lengths_len, const double *ks, size_t ks_len, const double *positions, size_t positions_len,
-    const uint32_t *exclusions, size_t exclusions_len, uint32_t *pairs, size_t pairs_len, double *references, size_t references_len,
-    uint32_t *starts, size_t starts_len, uint32_t *items, size_t items_len, double *forces, size_t forces_len);
+    const double *lengths, size_t lengths_len, const double *ks, size_t ks_len, const uint32_t *angles, size_t angles_len, const double *per_angle,
+    size_t per_angle_len, const double *positions, size_t positions_len, const uint32_t *exclusions, size_t exclusions_len, uint32_t *pairs,
+    size_t pairs_len, double *references, size_t references_len, uint32_t *starts, size_t starts_len, uint32_t *items, size_t items_len,
+    double *forces, size_t forces_len);
+
+/* ---- Cosine angles. */
+
+/* Angle numbers, the same for each angle. Refusal 3. */
+tyn_angle_answer tyn_uniform_angles(double k, double rest);
+
+/* Cosine angles, three atoms a row, the apex second: forces overwritten, from zero. An angle past the end of per_angle, which has k and rest cosine a
+ * row, takes angle's own numbers. Refusals 1, 2, 3, 4. */
+tyn_summed tyn_angles_all(tyn_angle angle, tyn_cell cell, const uint32_t *angles, size_t angles_len, const double *per_angle, size_t per_angle_len,
+    const double *positions, size_t positions_len, double *forces, size_t forces_len);
 
 /* ---- Kinetic energy, temperature and thermostat (verlet.rs). */
 
@@ -593,19 +622,19 @@ tyn_done tyn_berendsen(tyn_units units, double dt, double target_k, double tau_f
  * tyn_finish with more room. Refusals 1, 2, 6, 3, 4, 5, the drift (3, place 1), 7, 8. */
 tyn_stepped tyn_step(tyn_setting setting, tyn_pace pace, tyn_state s, double potential, const uint32_t *ids, size_t ids_len, const double *params,
     size_t params_len, const uint32_t *species, size_t species_len, const double *charges, size_t charges_len, const uint32_t *bonds,
-    size_t bonds_len, const double *lengths, size_t lengths_len, const double *ks, size_t ks_len, const double *masses, size_t masses_len,
-    const uint32_t *exclusions, size_t exclusions_len, double *positions, size_t positions_len, double *velocities, size_t velocities_len,
-    uint32_t *pairs, size_t pairs_len, double *references, size_t references_len, uint32_t *starts, size_t starts_len, uint32_t *items,
-    size_t items_len, double *forces, size_t forces_len);
+    size_t bonds_len, const double *lengths, size_t lengths_len, const double *ks, size_t ks_len, const uint32_t *angles, size_t angles_len,
+    const double *per_angle, size_t per_angle_len, const double *masses, size_t masses_len, const uint32_t *exclusions, size_t exclusions_len,
+    double *positions, size_t positions_len, double *velocities, size_t velocities_len, uint32_t *pairs, size_t pairs_len, double *references,
+    size_t references_len, uint32_t *starts, size_t starts_len, uint32_t *items, size_t items_len, double *forces, size_t forces_len);
 
 /* The rest of a step that a 7 or 8 stopped: the evaluation, the second half kick, the thermostat. Velocities to 2^500. Refusals 1, 2, 6, 3, 4, 5, 7,
  * 8. */
 tyn_stepped tyn_finish(tyn_setting setting, tyn_pace pace, tyn_state s, double potential, const uint32_t *ids, size_t ids_len, const double *params,
     size_t params_len, const uint32_t *species, size_t species_len, const double *charges, size_t charges_len, const uint32_t *bonds,
-    size_t bonds_len, const double *lengths, size_t lengths_len, const double *ks, size_t ks_len, const double *masses, size_t masses_len,
-    const uint32_t *exclusions, size_t exclusions_len, const double *positions, size_t positions_len, double *velocities, size_t velocities_len,
-    uint32_t *pairs, size_t pairs_len, double *references, size_t references_len, uint32_t *starts, size_t starts_len, uint32_t *items,
-    size_t items_len, double *forces, size_t forces_len);
+    size_t bonds_len, const double *lengths, size_t lengths_len, const double *ks, size_t ks_len, const uint32_t *angles, size_t angles_len,
+    const double *per_angle, size_t per_angle_len, const double *masses, size_t masses_len, const uint32_t *exclusions, size_t exclusions_len,
+    const double *positions, size_t positions_len, double *velocities, size_t velocities_len, uint32_t *pairs, size_t pairs_len, double *references,
+    size_t references_len, uint32_t *starts, size_t starts_len, uint32_t *items, size_t items_len, double *forces, size_t forces_len);
 
 #ifdef __cplusplus
 }

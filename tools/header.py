@@ -9,12 +9,12 @@ import textwrap
 
 ROOT = os.path.dirname(os.path.dirname(os.path.abspath(__file__)))
 HEADER = os.path.join(ROOT, "include", "tyngyrlak.h")
-GROUPS = ["floats", "cells", "virials", "pairs", "boxes", "parts", "frames", "skins", "counts", "clumps", "sheets", "forces", "speeds", "motion"]
-STRUCTS = ["cell/src/lib", "virial/src/lib", "potentials/src/lib", "frame/src/lib", "field_structs/src/lib"]
+GROUPS = ["floats", "cells", "virials", "pairs", "boxes", "parts", "frames", "skins", "counts", "clumps", "sheets", "forces", "angles", "speeds", "motion"]
+STRUCTS = ["cell/src/lib", "virial/src/lib", "potentials/src/lib", "potentials_angle/src/lib", "frame/src/lib", "field_structs/src/lib"]
 NUMBERS = {"f64": "double", "u8": "uint8_t", "u32": "uint32_t", "u64": "uint64_t", "i32": "int32_t", "i64": "int64_t", "usize": "size_t"}
 
 TOP = """\
-/* Tyngyrlak for C: pair lists, Lennard-Jones, Coulomb, bonds, Verlet with Berendsen. Made by tools/header.py from the library's sources; do not edit.
+/* Tyngyrlak for C: pair lists, Lennard-Jones, Coulomb, bonds, angles, Verlet with Berendsen. Made by tools/header.py from the library's sources; do not edit.
  *
  * Answers. Every answer has a `done`: number 0 and place 0 where the call is answered, else a refusal's number (tyn_refusal) and its place, which is 0
  * unless the number names one. The other values are zeros where the call is refused, but for a list's state and a step's potential, which come back in every case.
@@ -29,7 +29,7 @@ TOP = """\
  * The library keeps no pointer, takes no memory of its own but the stack (half a megabyte in tyn_evaluate, tyn_step and tyn_finish) and asks fmod, memcpy
  * and memset of the C library (link with -lm), nothing else.
  *
- * Three floats an atom (x, y, z), two numbers a pair, bond or exclusion. At most 16384 atoms. docs/DECISIONS.md and the scope paper have the ranges. */
+ * Three floats an atom (x, y, z), two numbers a pair, bond or exclusion, three an angle. At most 16384 atoms. docs/DECISIONS.md and the scope paper have the ranges. */
 """
 
 

@@ -1,5 +1,5 @@
 #!/usr/bin/env python3
-"""record_cases.py cell|virial|exclusions|neighbor|frame|half|write|potentials|verlet|step: hand-made edges of the calls 10 to 1a, 20 to 27, 30 to 37, 40 to 42, 50 to 54, and 60 to 64 for the fixed list of
+"""record_cases.py cell|virial|exclusions|neighbor|frame|half|write|potentials|angles|verlet|step: hand-made edges of the calls 10 to 1a, 20 to 27, 30 to 37, 40 to 42, 50 to 54, and 60 to 64 for the fixed list of
 the program replay (crates/replay/stdin). The answers come from a judge, not from here."""
 import struct
 import sys
@@ -529,6 +529,85 @@ def potentials():
         yield line[:-17]
         yield line + ' 0000000000000000'
     yield lj_all([0.0103, 3.4, 8.5, 2])
+
+
+# ---- cosine angles
+CORNERS = [1, 0, 2, 0, 1, 3, 2, 3, 0, 3, 2, 1]
+
+
+def angles(k=20.0, rest=-0.5, at=CELLS[1], rows=CORNERS, per=(), xs=PLACES, room=ROOM):
+    return case('56', k, rest, at, table(rows), table(per), table(xs), table(room))
+
+
+def angle_shapes():
+    for at in CELLS:
+        for per in ((), (5.0, 0.25), [7.0, -0.75] * 4, [3.0, 1.0] * 6):
+            yield angles(at=at, per=per)
+    for mask in MASKS:
+        yield angles(at=[1] + BOX + mask)
+    for k in (0.0, -0.0, -20.0, ENTRY, -ENTRY, 5e-324):
+        for rest in (-1.0, 0.0, 1.0):
+            yield angles(k, rest)
+    # atoms of one row that are the same; rows turned round and twice; no rows; no atoms
+    for rows in ([0, 1, 0], [1, 1, 0], [0, 1, 1], [2, 2, 2], [2, 0, 1, 1, 0, 2, 1, 0, 2], []):
+        yield angles(rows=rows)
+    yield angles(rows=[], xs=[], room=[])
+    yield angles(rows=[], per=[1.0, 0.5], xs=[], room=[])
+
+
+def corner(a, b, **more):
+    return angles(at=[0], rows=[0, 1, 2], xs=a + [0.0] * 3 + b, room=[0.0] * 9, **more)
+
+
+def angle_arms():
+    # an arm of 1e-9 and its neighbours, on either side
+    for x in (NANO, up(NANO), down(NANO), up(up(NANO)), 1e-10, 0.0, 2e-9):
+        yield corner([x, 0.0, 0.0], [0.0, 1.0, 0.0])
+        yield corner([0.0, 1.0, 0.5], [0.0, 0.0, -x])
+        yield corner([x, 0.0, 0.0], [x, x, 0.0])
+    # straight and folded arms: a cosine that rounds past 1 is held
+    for n in range(12):
+        v = [(n * 37 % 19 + 1) / 7, (n * 53 % 23 + 1) / 11, -(n * 29 % 17 + 1) / 13]
+        for scale in (3.0, -3.0, 1.0, -0.1):
+            yield corner(v, [scale * x for x in v], rest=(-1.0, 0.5, 1.0)[n % 3])
+    yield corner([ENTRY, ENTRY, ENTRY], [-ENTRY, ENTRY, -ENTRY])
+
+
+def angle_limits():
+    for x in ends(ENTRY):
+        yield angles(k=x)
+        yield angles(per=[1.0, 0.5, x, 0.5])
+        yield angles(per=[1.0, 0.5] * 5 + [x, 0.5])
+        yield angles(xs=PLACES[:5] + [x] + PLACES[6:])
+        yield angles(at=[1] + CUBIC[:4] + [x] + CUBIC[5:] + ALL)
+    for x in (1.0, up(1.0), down(1.0), -1.0, -up(1.0), -down(1.0), 2.0, NAN, INF, -INF):
+        yield angles(rest=x)
+        yield angles(per=[1.0, x])
+        yield angles(per=[1.0, 0.5] * 4 + [2.0, x])
+
+
+def angle_refusals():
+    lengths = [dict(xs=PLACES[:11]), dict(rows=CORNERS[:11]), dict(rows=CORNERS[:10]), dict(per=[1.0]), dict(per=[1.0, 0.5, 2.0]), dict(room=ROOM[:9]), dict(room=ROOM + [0.0] * 3), dict(room=[])]
+    ranges = [dict(k=NAN), dict(rest=up(1.0)), dict(per=[1.0, -up(1.0)]), dict(at=[1] + CUBIC[:8] + [INF] + ALL), dict(xs=[up(ENTRY)] + PLACES[1:])]
+    named = [dict(rows=CORNERS[:k] + [4 if k % 2 else 0xffffffff] + CORNERS[k + 1:]) for k in range(12)]
+    for one in (lengths, ranges, named):
+        for a in one:
+            yield angles(**a)
+    for one, later in ((lengths, ranges + named[:3]), (ranges, named[:3])):
+        for a in one:
+            for b in later:
+                if not set(a) & set(b):
+                    yield angles(**{**a, **b})
+    line = angles()
+    yield line[:-17]
+    yield line + ' 0000000000000000'
+    yield case('56', 1.0, 0.5)
+    yield case('56', 1.0, 0.5, [2])
+
+
+def angle_cases():
+    for group in (angle_shapes, angle_arms, angle_limits, angle_refusals):
+        yield from group()
 
 
 # ---- the pair list
@@ -1159,7 +1238,7 @@ def write():
 
 
 if __name__ == '__main__':
-    groups = {'write': write, 'cell': cell, 'virial': virial, 'exclusions': exclusions, 'neighbor': neighbor, 'frame': frame, 'half': half, 'potentials': potentials, 'verlet': verlet,
+    groups = {'write': write, 'cell': cell, 'virial': virial, 'exclusions': exclusions, 'neighbor': neighbor, 'frame': frame, 'half': half, 'potentials': potentials, 'angles': angles, 'verlet': verlet,
               'step': step}
     for line in groups[sys.argv[1]]():
         print(line)

@@ -1,6 +1,6 @@
 //! The inputs, the same for both sides: a liquid of 0.021 atoms an Å³ on a shaken grid, two species, charges of both signs, a bond for every two atoms,
-//! one exclusion an atom (each atom and the next).
-use tyngyrlak::{Berendsen, Coulomb, HarmonicBonds, Lattice, LennardJones, Terms};
+//! an angle for every three, one exclusion an atom (each atom and the next).
+use tyngyrlak::{Berendsen, CosineAngles, Coulomb, HarmonicBonds, Lattice, LennardJones, Terms};
 
 pub struct Data {
     pub n: usize,
@@ -16,6 +16,7 @@ pub struct Data {
     pub lj: LennardJones,
     pub coulomb: Coulomb,
     pub hb: HarmonicBonds,
+    pub angles: CosineAngles,
 }
 
 pub const CUTOFF: f64 = 8.5;
@@ -69,6 +70,7 @@ pub fn data(n: usize, shuffle: bool) -> Data {
         lj: LennardJones { params: [(0, (0.0103, 3.4)), (1, (0.0141, 3.6))].into(), ..LennardJones::monatomic(0.0103, 3.4, CUTOFF) },
         coulomb: Coulomb { cutoff: CUTOFF },
         hb: HarmonicBonds::uniform(0.5, 3.6),
+        angles: CosineAngles::uniform((0..n / 3).map(|i| (3 * i, 3 * i + 1, 3 * i + 2)).collect(), 4.1, -0.35),
     }
 }
 
@@ -78,6 +80,7 @@ impl Data {
             lennard_jones: Some((self.lj.clone(), self.numbers.clone())),
             coulomb: every.then(|| (self.coulomb.clone(), self.charges.clone())),
             bonds: every.then(|| (self.hb.clone(), self.bonds.clone())),
+            angles: None,
         }
     }
 }

@@ -23,9 +23,10 @@ enum Unit {
     Atom,
     Pair,
     Bond,
+    Angle,
 }
 
-const LINES: [Line; 15] = [
+const LINES: [Line; 17] = [
     ("build", Unit::Check, "0.6"),
     ("build, an exclusion an atom", Unit::Check, "0.2"),
     ("build, tilted", Unit::Check, "0.8"),
@@ -35,6 +36,8 @@ const LINES: [Line; 15] = [
     ("Lennard-Jones, handed pairs()", Unit::Pair, ""),
     ("Coulomb", Unit::Pair, "3"),
     ("bonds", Unit::Bond, "3"),
+    ("angles", Unit::Angle, ""),
+    ("angles, the library's root on both sides", Unit::Angle, "1.3"),
     ("evaluator, every term", Unit::Pair, ""),
     ("step, list kept, Lennard-Jones", Unit::Atom, "0.8"),
     ("step, list kept, every term", Unit::Atom, "1.5"),
@@ -54,6 +57,8 @@ fn sides<'a>(line: &str, d: &'a Data) -> Sides<'a> {
         "Lennard-Jones, handed pairs()" => sides::lennard_jones(d, true),
         "Coulomb" => sides::coulomb(d),
         "bonds" => sides::bonds(d),
+        "angles" => sides::angles(d, f64::sqrt),
+        "angles, the library's root on both sides" => sides::angles(d, sides::root),
         "evaluator, every term" => sides::evaluator(d),
         "step, list kept, Lennard-Jones" => sides::step(d, false, true),
         "step, list kept, every term" => sides::step(d, true, true),
@@ -72,6 +77,7 @@ fn units(line: &Line, d: &Data) -> usize {
         Unit::Atom => d.n,
         Unit::Pair => pairs,
         Unit::Bond => d.bonds.len(),
+        Unit::Angle => d.angles.triples.len(),
     }
 }
 
@@ -128,6 +134,7 @@ fn row(line: &Line, d: &Data, o: &Options) -> bool {
         Unit::Atom => "atom",
         Unit::Pair => "pair",
         Unit::Bond => "bond",
+        Unit::Angle => "angle",
     };
     if o.side.is_some() {
         println!("| {} | {} | {unit} | {:.1} |", line.0, d.n, a.min(b) / each);

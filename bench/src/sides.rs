@@ -138,6 +138,51 @@ pub fn bonds(d: &Data) -> Sides<'_> {
     (first, plain(Default::default(), run, of_term))
 }
 
+/// The library's root.
+pub fn root(x: f64) -> f64 {
+    extern "C" {
+        fn tyn_root(x: f64) -> f64;
+    }
+    // SAFETY: the declaration is the header's; it takes every float.
+    unsafe { tyn_root(x) }
+}
+
+/// The original has no cosine angles: its `HarmonicAngles::compute_all` with their energy and factor, and the root as it is given.
+fn their_angles(d: &Data, cell: &ocell::Lattice, root: impl Fn(f64) -> f64) -> ovirial::Contribution {
+    use ocell::{min_image, vec3};
+    let (p, a) = (black_box(&d.positions), &d.angles);
+    let mut acc = ovirial::Contribution::zeros(p.len());
+    for (row, &(i, apex, k)) in a.triples.iter().enumerate() {
+        let (strength, rest) = a.per_angle.get(row).copied().unwrap_or((a.k, a.rest));
+        let rij = min_image(vec3::sub(p[i], p[apex]), Some(cell));
+        let rkj = min_image(vec3::sub(p[k], p[apex]), Some(cell));
+        let lij = root(vec3::norm2(rij));
+        let lkj = root(vec3::norm2(rkj));
+        if lij < 1e-9 || lkj < 1e-9 {
+            continue;
+        }
+        let c = (vec3::dot(rij, rkj) / (lij * lkj)).clamp(-1.0, 1.0);
+        let off = c - rest;
+        acc.energy += 0.5 * strength * off * off;
+        let coef = -(strength * off);
+        let fi = vec3::scale(vec3::sub(vec3::scale(rkj, 1.0 / (lij * lkj)), vec3::scale(rij, c / (lij * lij))), coef);
+        let fk = vec3::scale(vec3::sub(vec3::scale(rij, 1.0 / (lij * lkj)), vec3::scale(rkj, c / (lkj * lkj))), coef);
+        vec3::add_assign(&mut acc.forces[i], fi);
+        vec3::add_assign(&mut acc.forces[k], fk);
+        vec3::add_assign(&mut acc.forces[apex], vec3::scale(vec3::add(fi, fk), -1.0));
+        acc.virial_from_pair(rij, fi);
+        acc.virial_from_pair(rkj, fk);
+    }
+    acc
+}
+
+pub fn angles<'a>(d: &'a Data, root: impl Fn(f64) -> f64 + Copy + 'a) -> Sides<'a> {
+    let of = theirs(&d.cube);
+    let first = plain(Default::default(), move |c| *c = their_angles(d, &of, root), of_their_term);
+    let run = move |c: &mut Contribution| *c = d.angles.compute_all(black_box(&d.positions), Some(&d.cube)).expect("answered");
+    (first, plain(Default::default(), run, of_term))
+}
+
 fn their_lj(d: &Data) -> opotentials::LennardJones {
     opotentials::LennardJones { params: d.lj.params.clone(), default: d.lj.default, cutoff: d.lj.cutoff, shift: d.lj.shift }
 }

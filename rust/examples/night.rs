@@ -15,6 +15,9 @@
 //! coulomb CUTOFF
 //! bonds K R0
 //! bond I J                         also left out of the list
+//! angles K REST                    cosine angles: force constant and rest cosine
+//! angle I APEX K                   I and K are left out of the list, too
+//! angle I APEX K STRENGTH REST     with numbers of its own: such angles come first
 //! exclude I J
 //! thermostat KELVIN TAU
 //! steps COUNT DT [SHOWN]           every so many steps a line of progress
@@ -38,6 +41,7 @@ struct Run {
     coulomb: Option<Coulomb>,
     bonds: Option<HarmonicBonds>,
     bonded: Vec<(usize, usize)>,
+    angles: Option<CosineAngles>,
     thermostat: Option<Berendsen>,
     steps: usize,
     dt: f64,
@@ -117,6 +121,16 @@ impl Run {
                 self.bonded.push((i as usize, j as usize));
                 self.excluded.push((i as usize, j as usize));
             }
+            ("angles", &[k, rest]) => self.angles = Some(CosineAngles::uniform(vec![], k, rest)),
+            ("angle", &[i, apex, k]) => self.angle(i, apex, k)?,
+            ("angle", &[i, apex, k, strength, rest]) => {
+                self.angle(i, apex, k)?;
+                let angles = self.angles.as_mut().ok_or("an angle comes after angles")?;
+                angles.per_angle.push((strength, rest));
+                if angles.per_angle.len() != angles.triples.len() {
+                    return Err("angles with numbers of their own come first".into());
+                }
+            }
             ("exclude", &[i, j]) => self.excluded.push((i as usize, j as usize)),
             ("thermostat", &[target_k, tau_fs]) => self.thermostat = Some(Berendsen { target_k, tau_fs }),
             ("steps", &[steps, dt]) => (self.steps, self.dt) = (steps as usize, dt),
@@ -127,6 +141,12 @@ impl Run {
             ("grid", &[nx, ny, nz, mass, species, kelvin]) => self.grid([nx, ny, nz], mass, species, kelvin)?,
             _ => return Err(format!("`{what}` with {} numbers is nothing", x.len()).into()),
         }
+        Ok(())
+    }
+
+    fn angle(&mut self, i: f64, apex: f64, k: f64) -> Result<(), Box<dyn Error>> {
+        self.angles.as_mut().ok_or("an angle comes after angles")?.triples.push((i as usize, apex as usize, k as usize));
+        self.excluded.push((i as usize, k as usize));
         Ok(())
     }
 
@@ -163,6 +183,7 @@ impl Run {
             lennard_jones: self.lj.take().map(|lj| (lj, self.numbers)),
             coulomb: self.coulomb.take().map(|q| (q, self.charges)),
             bonds: self.bonds.take().map(|b| (b, self.bonded)),
+            angles: self.angles.take(),
         };
         self.list.set_exclusions(self.excluded);
         let mut eval = Evaluator::new(self.list, &terms, self.cell);

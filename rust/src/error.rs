@@ -26,7 +26,7 @@ impl Error {
             (2, _) => "too many atoms: 16,384 is the most, 1,024 on a sheet",
             (3, 1) => "a coordinate would drift out of range",
             (3, _) => "a number is out of range, or not finite",
-            (4, _) => "a pair or a bond names an atom that is not there",
+            (4, _) => "a pair, a bond or an angle names an atom that is not there",
             (5, _) => "a table is not strictly ascending",
             (6, _) => "the list claims more than its room",
             (7, _) => "the grid needs more than 32,768 cells",

@@ -12,6 +12,6 @@ pub use cell::{min_image, min_image_counted, Boxes, Lattice};
 pub use clumps::{clumps, sheet_clumps, Clumps};
 pub use evaluate::{Evaluator, Terms};
 pub use neighbor::{NeighborList, PairRows};
-pub use potentials::{Coulomb, HarmonicBonds, LennardJones};
+pub use potentials::{CosineAngles, Coulomb, HarmonicBonds, LennardJones};
 pub use verlet::{apply_berendsen, kinetic_energy, temperature, verlet_finish, verlet_step, Berendsen};
 pub use virial::{pressure, pressure_tensor, to_gpa, Contribution};

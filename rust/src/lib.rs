@@ -16,6 +16,7 @@
 //! - A pair list can be handed to `compute_pairs` itself (`&list` for `list.pairs()`), which spares a copy.
 //! - [`sheet`] is added: job sheets of a whole-number frame, written and rewritten.
 //! - Not carried over: `reciprocal`, the tail terms, angles, torsions, Nosé-Hoover, the barostat, the minimizer.
+//! - Not carried over: `reciprocal`, the tail terms, angles (but [`CosineAngles`], which the original lacks), torsions, Nosé-Hoover, the barostat, the minimizer.
 //! - The original's `units` are constants of its own; [`field::units`] has CODATA's unless the crate is built with TYNGYRLAK_UNITS.
 //!
 //! Beside the original's calls: whole-number frames and their job sheets ([`frame`]), and how many of their pairs sit at each distance ([`shells`]).
@@ -26,9 +27,10 @@
 //! |---|---|
 //! | atoms | 0 to 16,384 |
 //! | cells of a grid | to 32,768 |
-//! | coordinates, cell entries, velocities, bond numbers, skin | magnitude to 2^20 |
+//! | coordinates, cell entries, velocities, bond numbers, force constants of angles, skin | magnitude to 2^20 |
 //! | cutoffs | 0 to 2^20 |
 //! | masses | 2^-10 to 2^20 |
+//! | rest cosines | -1 to 1 |
 //! | epsilon, sigma | 0 to 2^10 |
 //! | charges, time step | magnitude to 2^10 |
 //! | target temperature; coupling time | 0 to 2^20; 2^-10 to 2^20 |

@@ -25,12 +25,14 @@ structs! {
     State { cutoff: f64, skin: f64, pairs: u32, references: u32, checks: u32, fallback: u32, builds: u32, built_in: Cell }
     Lj { epsilon: f64, sigma: f64, cutoff: f64, shift: u32 }
     Bond { k: f64, r0: f64 }
+    Angle { k: f64, rest: f64 }
     LjTerm { present: u32, lj: Lj }
     CoulombTerm { present: u32, cutoff: f64 }
     BondTerm { present: u32, bond: Bond }
+    AngleTerm { present: u32, angle: Angle }
     Thermostat { present: u32, target_k: f64, tau_fs: f64 }
     /// What an evaluation goes by besides its tables.
-    Setting { lj: LjTerm, coulomb: CoulombTerm, bond: BondTerm, units: Units, cell: Cell }
+    Setting { lj: LjTerm, coulomb: CoulombTerm, bond: BondTerm, angle: AngleTerm, units: Units, cell: Cell }
     Pace { dt: f64, thermostat: Thermostat }
     Frame { ex: u32, ey: u32, ez: u32, px: u32, py: u32, pz: u32, radius: u32 }
     Spot { x: u32, y: u32, z: u32 }
@@ -121,8 +123,9 @@ calls! {
     fn tyn_coulomb_pairs(units: Units, cutoff: f64, cell: Cell, charges: &[f64], positions: &[f64], pairs: &[u32], forces: &mut [f64]) -> Summed;
     fn tyn_coulomb_all(units: Units, cutoff: f64, cell: Cell, charges: &[f64], positions: &[f64], forces: &mut [f64]) -> Summed;
     fn tyn_bonds_all(bond: Bond, cell: Cell, bonds: &[u32], lengths: &[f64], ks: &[f64], positions: &[f64], forces: &mut [f64]) -> Summed;
+    fn tyn_angles_all(angle: Angle, cell: Cell, angles: &[u32], per_angle: &[f64], positions: &[f64], forces: &mut [f64]) -> Summed;
     fn tyn_evaluate(setting: Setting, s: State, ids: &[u32], params: &[f64], species: &[u32], charges: &[f64], bonds: &[u32], lengths: &[f64], ks: &[f64],
-        positions: &[f64], exclusions: &[u32], pairs: &mut [u32], references: &mut [f64], starts: &mut [u32], items: &mut [u32],
+        angles: &[u32], per_angle: &[f64], positions: &[f64], exclusions: &[u32], pairs: &mut [u32], references: &mut [f64], starts: &mut [u32], items: &mut [u32],
         forces: &mut [f64]) -> Evaluated;
 
     fn tyn_squared_distance(f: Frame, p: Spot, q: Spot) -> Whole;
@@ -138,10 +141,10 @@ calls! {
     fn tyn_temperature(units: Units, dof: f64, velocities: &[f64], masses: &[f64]) -> Number;
     fn tyn_berendsen(units: Units, dt: f64, target_k: f64, tau_fs: f64, masses: &[f64], velocities: &mut [f64]) -> Done;
     fn tyn_step(setting: Setting, pace: Pace, s: State, potential: f64, ids: &[u32], params: &[f64], species: &[u32], charges: &[f64], bonds: &[u32],
-        lengths: &[f64], ks: &[f64], masses: &[f64], exclusions: &[u32], positions: &mut [f64], velocities: &mut [f64], pairs: &mut [u32],
+        lengths: &[f64], ks: &[f64], angles: &[u32], per_angle: &[f64], masses: &[f64], exclusions: &[u32], positions: &mut [f64], velocities: &mut [f64], pairs: &mut [u32],
         references: &mut [f64], starts: &mut [u32], items: &mut [u32], forces: &mut [f64]) -> Stepped;
     fn tyn_finish(setting: Setting, pace: Pace, s: State, potential: f64, ids: &[u32], params: &[f64], species: &[u32], charges: &[f64], bonds: &[u32],
-        lengths: &[f64], ks: &[f64], masses: &[f64], exclusions: &[u32], positions: &[f64], velocities: &mut [f64], pairs: &mut [u32],
+        lengths: &[f64], ks: &[f64], angles: &[u32], per_angle: &[f64], masses: &[f64], exclusions: &[u32], positions: &[f64], velocities: &mut [f64], pairs: &mut [u32],
         references: &mut [f64], starts: &mut [u32], items: &mut [u32], forces: &mut [f64]) -> Stepped;
 }
 
@@ -190,4 +193,9 @@ pub fn atom(i: usize) -> u32 {
 /// Pairs or bonds, two numbers a row.
 pub fn rows(pairs: &[(usize, usize)]) -> Vec<u32> {
     pairs.iter().map(|&(i, j)| [atom(i), atom(j)]).collect::<Vec<_>>().into_flattened()
+}
+
+/// Angles, three numbers a row.
+pub fn triple_rows(triples: &[(usize, usize, usize)]) -> Vec<u32> {
+    triples.iter().map(|&(i, apex, k)| [atom(i), atom(apex), atom(k)]).collect::<Vec<_>>().into_flattened()
 }

@@ -84,6 +84,7 @@ mod compare {
                 lennard_jones: Some((self.lj.clone(), self.numbers.clone())),
                 coulomb: Some((self.coulomb.clone(), self.charges.clone())),
                 bonds: Some((self.hb.clone(), self.bonds.clone())),
+                angles: None,
             }
         }
 

@@ -28,12 +28,22 @@ joined : (t : Total) (a b : List Total) → mergedInto t (a ++ b) ≡ mergedInto
 unfolding mergedInto
 joined t a b = foldl-append merged t a b
 
--- three terms, from zero
-pub merged-three : (room : ℕ) (a b c : List Total) {sum : Sum} {forces : List Float} → forces ≡ zeroForces room → sum ≡ zeroSum → {x y z : Total}
-    → x ≡ mergedInto (held sum forces) a → y ≡ mergedInto x b → z ≡ mergedInto y c → z ≡ mergedAll room (a ++ (b ++ c))
+-- four terms, from zero
+pub merged-four : (room : ℕ) (a b c d : List Total) {sum : Sum} {forces : List Float} → forces ≡ zeroForces room → sum ≡ zeroSum → {w x y z : Total}
+    → w ≡ mergedInto (held sum forces) a → x ≡ mergedInto w b → y ≡ mergedInto x c → z ≡ mergedInto y d → z ≡ mergedAll room (a ++ (b ++ (c ++ d)))
 unfolding mergedAll zeroTotal
-merged-three room a b c f s p q r =
-    rw (joined (held zeroSum (zeroForces room)) a (b ++ c), joined (mergedInto (held zeroSum (zeroForces room)) a) b c, ← f, ← s, ← p, ← q) r
+merged-four room a b c d f s p q r t =
+    rw (
+      joined (held zeroSum (zeroForces room)) a (b ++ (c ++ d)),
+      joined (mergedInto (held zeroSum (zeroForces room)) a) b (c ++ d),
+      joined (mergedInto (mergedInto (held zeroSum (zeroForces room)) a) b) c d,
+      ← f,
+      ← s,
+      ← p,
+      ← q,
+      ← r,
+    )
+    t
 
 -- a sum has as many forces as it began with
 into-length : (t : Total) (l : List Total) → length (mergedInto t l .forces) ≡ length (t .forces)

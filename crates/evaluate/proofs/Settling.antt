@@ -36,7 +36,7 @@ use Rattle.neighbor.proofs.Source.{passed, both-passed, first-told, lengths-tol
 use Rattle.evaluate.proofs.Folding.{merged-room}
 use Rattle.evaluate.specs.declared.Evaluated.{Evaluated}
 use Rattle.evaluate.specs.Terms.{Terms, ljGives, contributions, mergedAll}
-use Rattle.evaluate.specs.Asked.{termsFit, bondsAsked, idsAsked, namesAsked, inTurn, jobAsked}
+use Rattle.evaluate.specs.Asked.{termsFit, bondsAsked, anglesNamed, idsAsked, namesAsked, inTurn, jobAsked}
 use Rattle.evaluate.specs.Calls.{Job, Outcome, totalOf, afterList, settledBy, settledOf, afterAsked, evaluatedOf, shown}
 use Rattle.evaluate.specs.Steps.{scratchLength, settledIn, evaluatedFrom, totalAfter}
 
@@ -107,14 +107,15 @@ module _ (fits : Bool) (first : Done) (ok : Bool) (kept names : Done) (e : inTur
   unfolding inTurn
   turn-names = both-passed kept names (both-passed _ _ (both-passed first _ (both-passed _ _ e .1) .1) .1) .1
 
-names-rising : (n : ℕ) (bonds table ids : List ℕ) → namesAsked n bonds table ids ≡ Answered → rising ids ≡ true
+names-rising : (n : ℕ) (bonds angles table ids : List ℕ) → namesAsked n bonds angles table ids ≡ Answered → rising ids ≡ true
 unfolding namesAsked idsAsked
-names-rising n bonds table ids e = passed (rising ids) Order (both-passed (tableAsked table) _ (both-passed (bondsAsked n bonds) _ e .1) .1)
+names-rising n bonds angles table ids e =
+    passed (rising ids) Order (both-passed (tableAsked table) _ (both-passed (anglesNamed n angles) _ (both-passed (bondsAsked n bonds) _ e .1) .1) .1)
 
-fit-forces : (ids params species charges bonds xs forces : ℕ) → termsFit ids params species charges bonds xs forces ≡ true → forces ≡ xs
+fit-forces : (ids params species charges bonds angles per xs forces : ℕ) → termsFit ids params species charges bonds angles per xs forces ≡ true → forces ≡ xs
 unfolding termsFit
-fit-forces ids params species charges bonds xs forces e =
-    eqb-true forces xs (and-both (eqb (params / 2) ids && eqb (params % 2) 0 && eqb species (xs / 3) && eqb charges (xs / 3) && eqb (bonds % 2) 0) (eqb forces xs) e .1)
+fit-forces ids params species charges bonds angles per xs forces e =
+    eqb-true forces xs (and-both (eqb (params / 2) ids && eqb (params % 2) 0 && eqb species (xs / 3) && eqb charges (xs / 3) && eqb (bonds % 2) 0 && eqb (angles % 3) 0 && eqb (per % 2) 0) (eqb forces xs) e .1)
 
 first-room : (s : State) (cell : Cell) (xs : List Float) (table pairs refs items : ℕ) → firstOf s cell xs table pairs refs items ≡ Answered → (length xs % 3 ≡ 0) × (length xs ≤ 49152)
 first-room s cell xs table pairs refs items e =
@@ -128,11 +129,11 @@ first-room s cell xs table pairs refs items e =
 module _ (fits inRange : Bool) (t : Terms) (g : Given) (forces : ℕ) (e : jobAsked fits inRange t g forces ≡ Answered) where
   pub asked-rising : rising (t .ids) ≡ true
   unfolding jobAsked
-  asked-rising = names-rising _ _ _ _ (turn-names _ _ _ _ _ e)
+  asked-rising = names-rising _ _ _ _ _ (turn-names _ _ _ _ _ e)
 
   pub asked-forces : forces ≡ length (g .positions)
   unfolding jobAsked
-  asked-forces = fit-forces _ _ _ _ _ _ _ (and-both fits _ (turn-fits _ _ _ _ _ e) .1)
+  asked-forces = fit-forces _ _ _ _ _ _ _ _ _ (and-both fits _ (turn-fits _ _ _ _ _ e) .1)
 
   pub asked-few : length (g .positions) ≤ 49152
   unfolding jobAsked

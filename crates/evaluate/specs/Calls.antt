@@ -35,9 +35,9 @@ abbrev pub job : Terms → Given → List Float → Job
 job t g forces = record { terms = t; given = g; forces = forces }
 
 -- that of a call, from what it is handed
-abbrev pub jobOf : Setting → State → (ids : List ℕ) (params : List Float) (species : List ℕ) (charges : List Float) (bonds : List ℕ) (lengths ks positions : List Float) (exclusions pairs : List ℕ) (references : List Float) (starts items : List ℕ) (forces : List Float) → Job
-jobOf setting s ids params species charges bonds lengths ks positions exclusions pairs references starts items forces =
-    job (terms setting ids params species charges bonds lengths ks) (given s (setting .cell) positions exclusions pairs references starts items) forces
+abbrev pub jobOf : Setting → State → (ids : List ℕ) (params : List Float) (species : List ℕ) (charges : List Float) (bonds : List ℕ) (lengths ks : List Float) (angles : List ℕ) (perAngle positions : List Float) (exclusions pairs : List ℕ) (references : List Float) (starts items : List ℕ) (forces : List Float) → Job
+jobOf setting s ids params species charges bonds lengths ks angles perAngle positions exclusions pairs references starts items forces =
+    job (terms setting ids params species charges bonds lengths ks angles perAngle) (given s (setting .cell) positions exclusions pairs references starts items) forces
 
 -- its tests, with what a step asks besides
 abbrev pub askedOf : (fits inRange : Bool) → Job → Done

@@ -14,6 +14,9 @@ use Rattle.potentials.specs.declared.CoulombTerm as CoulombTerm
 use Rattle.potentials.specs.declared.CoulombTerm.the-variants as CoulombTerm·cases
 use Rattle.potentials.specs.declared.BondTerm as BondTerm
 use Rattle.potentials.specs.declared.BondTerm.the-variants as BondTerm·cases
+use Rattle.potentials_angle.specs.declared.AngleTerm as AngleTerm
+use Rattle.potentials_angle.specs.declared.AngleTerm.the-variants as AngleTerm·cases
+use Rattle.potentials_angle.specs.Terms.{anglesOver}
 use Rattle.potentials.specs.Terms.{zeroTotal, ljOver, coulombOver, bondsOver}
 use Rattle.evaluate.specs.declared.Setting.{Setting}
 
@@ -22,6 +25,7 @@ pub record Terms : Type 0 where
   pub lj : LjTerm.LjTerm
   pub coulomb : CoulombTerm.CoulombTerm
   pub bond : BondTerm.BondTerm
+  pub angle : AngleTerm.AngleTerm
   pub units : Units
   pub ids : List ℕ
   pub params : List Float
@@ -30,14 +34,17 @@ pub record Terms : Type 0 where
   pub bonds : List ℕ
   pub lengths : List Float
   pub ks : List Float
+  pub angles : List ℕ
+  pub perAngle : List Float
 
 -- those of a setting, with their tables
-abbrev pub terms : Setting → (ids : List ℕ) → (params : List Float) → (species : List ℕ) → (charges : List Float) → (bonds : List ℕ) → (lengths ks : List Float) → Terms
-terms setting ids params species charges bonds lengths ks =
+abbrev pub terms : Setting → (ids : List ℕ) → (params : List Float) → (species : List ℕ) → (charges : List Float) → (bonds : List ℕ) → (lengths ks : List Float) → (angles : List ℕ) → (perAngle : List Float) → Terms
+terms setting ids params species charges bonds lengths ks angles perAngle =
     record {
       lj = setting .lj;
       coulomb = setting .coulomb;
       bond = setting .bond;
+      angle = setting .angle;
       units = setting .units;
       ids = ids;
       params = params;
@@ -46,6 +53,8 @@ terms setting ids params species charges bonds lengths ks =
       bonds = bonds;
       lengths = lengths;
       ks = ks;
+      angles = angles;
+      perAngle = perAngle;
     }
 
 -- ---- what a term gives over pairs l: one contribution from zero, with so many floats, where it is present; none where it is absent
@@ -63,12 +72,17 @@ unfoldable pub bondGives : BondTerm.BondTerm → Cell → (bonds : List ℕ) →
 bondGives BondTerm·cases.Absent cell bonds lengths ks xs room = []
 bondGives (BondTerm·cases.Present bond) cell bonds lengths ks xs room = bondsOver bond cell bonds lengths ks xs room ∷ []
 
--- "The evaluator (added) runs Lennard-Jones, Coulomb, bonds"
+unfoldable pub angleGives : AngleTerm.AngleTerm → Cell → (angles : List ℕ) → (perAngle xs : List Float) → (room : ℕ) → List Total
+angleGives AngleTerm·cases.Absent cell angles perAngle xs room = []
+angleGives (AngleTerm·cases.Present angle) cell angles perAngle xs room = anglesOver angle cell angles perAngle xs room ∷ []
+
+-- "The evaluator (added) runs Lennard-Jones, Coulomb, bonds"; 02, No. 1: angles "after bonds"
 unfoldable pub contributions : (look : List ℕ → List Float → Lj → ℕ → Mixed) → Terms → Cell → (xs : List Float) → (room : ℕ) → List (ℕ × ℕ) → List Total
 contributions look t cell xs room l =
     ljGives (look (t .ids) (t .params)) (t .lj) cell (t .species) xs room l
     ++ (coulombGives (t .coulomb) (t .units .«ke_coulomb») cell (t .charges) xs room l
-    ++ bondGives (t .bond) cell (t .bonds) (t .lengths) (t .ks) xs room)
+    ++ (bondGives (t .bond) cell (t .bonds) (t .lengths) (t .ks) xs room
+    ++ angleGives (t .angle) cell (t .angles) (t .perAngle) xs room))
 
 -- ---- merged in that order into zero
 

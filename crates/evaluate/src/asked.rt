@@ -8,9 +8,10 @@ use potentials::BondTerm;
 use potentials::CoulombTerm;
 use potentials::LjTerm;
 use potentials::ranged;
+use potentials_angle::AngleTerm;
 ghost use mathlib.Core.Path.{_≡_};
 ghost use Rattle.neighbor.specs.Update.{andThen};
-ghost use Rattle.evaluate.specs.Asked.{termsFit, ljOk, coulombOk, bondOk, numbersOk, bondsAsked, idsAsked, namesAsked, inTurn};
+ghost use Rattle.evaluate.specs.Asked.{termsFit, ljOk, coulombOk, bondOk, angleOk, numbersOk, bondsAsked, anglesNamed, idsAsked, namesAsked, inTurn};
 ghost use Rattle.evaluate.specs.Calls.{jobOf, askedOf};
 
 fn terms_fit(
@@ -19,16 +20,20 @@ fn terms_fit(
     species: usize,
     charges: usize,
     bonds: usize,
+    angles: usize,
+    per_angle: usize,
     xs: usize,
     forces: usize,
 ) -> bool
-    ensures { λ r. ⌜ r ≡ termsFit ids params species charges bonds xs forces ⌝ }
+    ensures { λ r. ⌜ r ≡ termsFit ids params species charges bonds angles «per_angle» xs forces ⌝ }
 {
     (params / 2 == ids)
         & (params % 2 == 0)
         & (species == xs / 3)
         & (charges == xs / 3)
         & (bonds % 2 == 0)
+        & (angles % 3 == 0)
+        & (per_angle % 2 == 0)
         & (forces == xs)
 }
 
@@ -59,27 +64,40 @@ fn bond_ok(bond: BondTerm) -> bool
     }
 }
 
+fn angle_ok(angle: AngleTerm) -> bool
+    ensures { λ r. ⌜ r ≡ angleOk angle ⌝ }
+{
+    match angle {
+        AngleTerm::Absent => true,
+        AngleTerm::Present(t) => potentials_angle::ranged::angle_in_range(t),
+    }
+}
+
 fn numbers_ok(
     setting: Setting,
     params: &[f64],
     charges: &[f64],
     lengths: &[f64],
     ks: &[f64],
+    per_angle: &[f64],
 ) -> bool
-    ensures { λ r. ⌜ r ≡ numbersOk (setting .lj) (setting .coulomb) (setting .bond) (setting .units) (now (params .entry)) (now (charges .entry)) (now (lengths .entry)) (now (ks .entry)) ⌝ }
+    ensures { λ r. ⌜ r ≡ numbersOk (setting .lj) (setting .coulomb) (setting .bond) (setting .angle) (setting .units) (now (params .entry)) (now (charges .entry)) (now (lengths .entry)) (now (ks .entry)) (now («per_angle» .entry)) ⌝ }
 {
     let lj = setting.lj;
     let coulomb = setting.coulomb;
     let bond = setting.bond;
+    let angle = setting.angle;
     let units = setting.units;
     lj_ok(lj)
         & coulomb_ok(coulomb)
         & bond_ok(bond)
+        & angle_ok(angle)
         & virial::ranged::units_in_range(units)
         & ranged::params_in_range(params)
         & ranged::charges_in_range(charges)
         & ranged::entries_in_range(lengths)
         & ranged::entries_in_range(ks)
+        & potentials_angle::ranged::per_angle_in_range(per_angle)
 }
 
 // Refusal 4 of a bond.
@@ -88,6 +106,17 @@ fn asked_bonds(n: usize, bonds: &[u32]) -> Done
 {
     let row = ranges::rows::first_absent(bonds, n);
     if row < bonds.len() / 2 {
+        return Done::Refused(Refusal::NotThere { row: row });
+    }
+    Done::Answered
+}
+
+// Refusal 4 of an angle.
+fn asked_angles(n: usize, angles: &[u32]) -> Done
+    ensures { λ r. ⌜ r ≡ anglesNamed n (now (angles .entry)) ⌝ }
+{
+    let row = potentials_angle::rows::first_missing(angles, n);
+    if row < angles.len() / 3 {
         return Done::Refused(Refusal::NotThere { row: row });
     }
     Done::Answered
@@ -113,14 +142,15 @@ fn and_then(a: Done, b: Done) -> Done
     }
 }
 
-// A bond's 4; 5 of the exclusions, of the species.
-fn asked_names(n: usize, bonds: &[u32], table: &[u32], ids: &[u32]) -> Done
-    ensures { λ r. ⌜ r ≡ namesAsked n (now (bonds .entry)) (now (table .entry)) (now (ids .entry)) ⌝ }
+// A bond's 4, an angle's; 5 of the exclusions, of the species.
+fn asked_names(n: usize, bonds: &[u32], angles: &[u32], table: &[u32], ids: &[u32]) -> Done
+    ensures { λ r. ⌜ r ≡ namesAsked n (now (bonds .entry)) (now (angles .entry)) (now (table .entry)) (now (ids .entry)) ⌝ }
 {
     let a = asked_bonds(n, bonds);
-    let b = neighbor::asked::asked_table(table);
-    let c = asked_ids(ids);
-    and_then(a, and_then(b, c))
+    let b = asked_angles(n, angles);
+    let c = neighbor::asked::asked_table(table);
+    let d = asked_ids(ids);
+    and_then(a, and_then(b, and_then(c, d)))
 }
 
 fn in_turn(fits: bool, first: Done, ok: bool, kept: Done, names: Done) -> Done
@@ -148,6 +178,8 @@ pub fn asked(
     bonds: &[u32],
     lengths: &[f64],
     ks: &[f64],
+    angles: &[u32],
+    per_angle: &[f64],
     positions: &[f64],
     exclusions: &[u32],
     pairs: &[u32],
@@ -156,7 +188,7 @@ pub fn asked(
     items: &[u32],
     forces: &[f64],
 ) -> Done
-    ensures { λ r. ⌜ r ≡ askedOf fits inside (jobOf setting s (now (ids .entry)) (now (params .entry)) (now (species .entry)) (now (charges .entry)) (now (bonds .entry)) (now (lengths .entry)) (now (ks .entry)) (now (positions .entry)) (now (exclusions .entry)) (now (pairs .entry)) (now (references .entry)) (now (starts .entry)) (now (items .entry)) (now (forces .entry))) ⌝ }
+    ensures { λ r. ⌜ r ≡ askedOf fits inside (jobOf setting s (now (ids .entry)) (now (params .entry)) (now (species .entry)) (now (charges .entry)) (now (bonds .entry)) (now (lengths .entry)) (now (ks .entry)) (now (angles .entry)) (now («per_angle» .entry)) (now (positions .entry)) (now (exclusions .entry)) (now (pairs .entry)) (now (references .entry)) (now (starts .entry)) (now (items .entry)) (now (forces .entry))) ⌝ }
 {
     let cell = setting.cell;
     let n = positions.len() / 3;
@@ -166,6 +198,8 @@ pub fn asked(
         species.len(),
         charges.len(),
         bonds.len(),
+        angles.len(),
+        per_angle.len(),
         positions.len(),
         forces.len(),
     );
@@ -178,8 +212,8 @@ pub fn asked(
         references.len(),
         items.len(),
     );
-    let ok = numbers_ok(setting, params, charges, lengths, ks);
+    let ok = numbers_ok(setting, params, charges, lengths, ks, per_angle);
     let kept = neighbor::asked::asked_kept(s, n, pairs, references);
-    let names = asked_names(n, bonds, exclusions, ids);
+    let names = asked_names(n, bonds, angles, exclusions, ids);
     in_turn(fits & fit, first, inside & ok, kept, names)
 }

@@ -32,11 +32,13 @@ fn combine(
     bonds: &[u32],
     lengths: &[f64],
     ks: &[f64],
+    angles: &[u32],
+    per_angle: &[f64],
     xs: &[f64],
     pairs: &[u32],
     forces: &mut [f64],
 ) -> Sum
-    ensures { λ r. ⌜ held r (now (forces .exit)) ≡ termsOver (terms setting (now (ids .entry)) (now (params .entry)) (now (species .entry)) (now (charges .entry)) (now (bonds .entry)) (now (lengths .entry)) (now (ks .entry))) (setting .cell) (now (xs .entry)) (now (pairs .entry)) (min (length (now (forces .entry))) scratchLength) (length (now (forces .entry))) ⌝ }
+    ensures { λ r. ⌜ held r (now (forces .exit)) ≡ termsOver (terms setting (now (ids .entry)) (now (params .entry)) (now (species .entry)) (now (charges .entry)) (now (bonds .entry)) (now (lengths .entry)) (now (ks .entry)) (now (angles .entry)) (now («per_angle» .entry))) (setting .cell) (now (xs .entry)) (now (pairs .entry)) (min (length (now (forces .entry))) scratchLength) (length (now (forces .entry))) ⌝ }
 {
     let n = virial::ranged::shorter(forces.len(), 49152);
     let mut room = scratch();
@@ -50,6 +52,8 @@ fn combine(
         bonds,
         lengths,
         ks,
+        angles,
+        per_angle,
         xs,
         pairs,
         forces,
@@ -82,10 +86,12 @@ fn after_list(
     bonds: &[u32],
     lengths: &[f64],
     ks: &[f64],
+    angles: &[u32],
+    per_angle: &[f64],
     xs: &[f64],
     pairs: &[u32],
 ) -> Evaluated
-    ensures { λ r. ⌜ AfterListSays u (terms setting (now (ids .entry)) (now (params .entry)) (now (species .entry)) (now (charges .entry)) (now (bonds .entry)) (now (lengths .entry)) (now (ks .entry))) (setting .cell) (now (xs .entry)) (now (pairs .entry)) (now (forces .entry)) r (now (forces .exit)) ⌝ }
+    ensures { λ r. ⌜ AfterListSays u (terms setting (now (ids .entry)) (now (params .entry)) (now (species .entry)) (now (charges .entry)) (now (bonds .entry)) (now (lengths .entry)) (now (ks .entry)) (now (angles .entry)) (now («per_angle» .entry))) (setting .cell) (now (xs .entry)) (now (pairs .entry)) (now (forces .entry)) r (now (forces .exit)) ⌝ }
 {
     let done = u.done;
     if let Done::Refused(_) = done {
@@ -102,6 +108,8 @@ fn after_list(
         bonds,
         lengths,
         ks,
+        angles,
+        per_angle,
         xs,
         part,
         forces,
@@ -120,6 +128,8 @@ pub fn settle(
     bonds: &[u32],
     lengths: &[f64],
     ks: &[f64],
+    angles: &[u32],
+    per_angle: &[f64],
     positions: &[f64],
     exclusions: &[u32],
     pairs: &mut [u32],
@@ -128,7 +138,7 @@ pub fn settle(
     items: &mut [u32],
     forces: &mut [f64],
 ) -> Evaluated
-    ensures { λ r. ⌜ SettleSays (jobOf setting s (now (ids .entry)) (now (params .entry)) (now (species .entry)) (now (charges .entry)) (now (bonds .entry)) (now (lengths .entry)) (now (ks .entry)) (now (positions .entry)) (now (exclusions .entry)) (now (pairs .entry)) (now (references .entry)) (now (starts .entry)) (now (items .entry)) (now (forces .entry))) r (now (pairs .exit)) (now (references .exit)) (now (starts .exit)) (now (items .exit)) (now (forces .exit)) ⌝ }
+    ensures { λ r. ⌜ SettleSays (jobOf setting s (now (ids .entry)) (now (params .entry)) (now (species .entry)) (now (charges .entry)) (now (bonds .entry)) (now (lengths .entry)) (now (ks .entry)) (now (angles .entry)) (now («per_angle» .entry)) (now (positions .entry)) (now (exclusions .entry)) (now (pairs .entry)) (now (references .entry)) (now (starts .entry)) (now (items .entry)) (now (forces .entry))) r (now (pairs .exit)) (now (references .exit)) (now (starts .exit)) (now (items .exit)) (now (forces .exit)) ⌝ }
 {
     let cell = setting.cell;
     let u = neighbor::kernel::update(
@@ -153,6 +163,8 @@ pub fn settle(
         bonds,
         lengths,
         ks,
+        angles,
+        per_angle,
         positions,
         pairs,
     )

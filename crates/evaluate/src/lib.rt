@@ -1,4 +1,4 @@
-// The evaluator, which replaces the Rust's closure: the pair list brought up to date, then each present term, Lennard-Jones, Coulomb, bonds, from zero and
+// The evaluator, which replaces the Rust's closure: the pair list brought up to date, then each present term, Lennard-Jones, Coulomb, bonds, angles, from zero and
 // merged in this order. specs/Calls.antt says what it answers and leaves; `kernel` has the work and `asked` the tests, for the crates above.
 use answer::Done;
 use answer::Refusal;
@@ -7,6 +7,7 @@ use neighbor::State;
 use potentials::BondTerm;
 use potentials::CoulombTerm;
 use potentials::LjTerm;
+use potentials_angle::AngleTerm;
 use virial::Sum;
 use virial::Units;
 
@@ -25,6 +26,7 @@ pub struct Setting {
     pub lj: LjTerm,
     pub coulomb: CoulombTerm,
     pub bond: BondTerm,
+    pub angle: AngleTerm,
     pub units: Units,
     pub cell: Cell,
 }
@@ -62,6 +64,8 @@ pub fn evaluate(
     bonds: &[u32],
     lengths: &[f64],
     ks: &[f64],
+    angles: &[u32],
+    per_angle: &[f64],
     positions: &[f64],
     exclusions: &[u32],
     pairs: &mut [u32],
@@ -70,8 +74,8 @@ pub fn evaluate(
     items: &mut [u32],
     forces: &mut [f64],
 ) -> Evaluated
-    ensures says { λ r. ⌜ EvaluateSays (jobOf setting s (now (ids .entry)) (now (params .entry)) (now (species .entry)) (now (charges .entry)) (now (bonds .entry)) (now (lengths .entry)) (now (ks .entry)) (now (positions .entry)) (now (exclusions .entry)) (now (pairs .entry)) (now (references .entry)) (now (starts .entry)) (now (items .entry)) (now (forces .entry))) r (now (pairs .exit)) (now (references .exit)) (now (starts .exit)) (now (items .exit)) (now (forces .exit)) ⌝ }
-    ensures lists { λ r. ⌜ EvaluateLists (jobOf setting s (now (ids .entry)) (now (params .entry)) (now (species .entry)) (now (charges .entry)) (now (bonds .entry)) (now (lengths .entry)) (now (ks .entry)) (now (positions .entry)) (now (exclusions .entry)) (now (pairs .entry)) (now (references .entry)) (now (starts .entry)) (now (items .entry)) (now (forces .entry))) r (now (pairs .exit)) ⌝ }
+    ensures says { λ r. ⌜ EvaluateSays (jobOf setting s (now (ids .entry)) (now (params .entry)) (now (species .entry)) (now (charges .entry)) (now (bonds .entry)) (now (lengths .entry)) (now (ks .entry)) (now (angles .entry)) (now («per_angle» .entry)) (now (positions .entry)) (now (exclusions .entry)) (now (pairs .entry)) (now (references .entry)) (now (starts .entry)) (now (items .entry)) (now (forces .entry))) r (now (pairs .exit)) (now (references .exit)) (now (starts .exit)) (now (items .exit)) (now (forces .exit)) ⌝ }
+    ensures lists { λ r. ⌜ EvaluateLists (jobOf setting s (now (ids .entry)) (now (params .entry)) (now (species .entry)) (now (charges .entry)) (now (bonds .entry)) (now (lengths .entry)) (now (ks .entry)) (now (angles .entry)) (now («per_angle» .entry)) (now (positions .entry)) (now (exclusions .entry)) (now (pairs .entry)) (now (references .entry)) (now (starts .entry)) (now (items .entry)) (now (forces .entry))) r (now (pairs .exit)) ⌝ }
 {
     let a = asked::asked(
         true,
@@ -85,6 +89,8 @@ pub fn evaluate(
         bonds,
         lengths,
         ks,
+        angles,
+        per_angle,
         positions,
         exclusions,
         pairs,
@@ -106,6 +112,8 @@ pub fn evaluate(
         bonds,
         lengths,
         ks,
+        angles,
+        per_angle,
         positions,
         exclusions,
         pairs,

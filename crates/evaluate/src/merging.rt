@@ -4,6 +4,7 @@ use cell::Cell;
 use potentials::BondTerm;
 use potentials::CoulombTerm;
 use potentials::LjTerm;
+use potentials_angle::AngleTerm;
 use virial::Sum;
 use virial::Units;
 ghost use mathlib.Core.Path.{_≡_};
@@ -11,7 +12,7 @@ ghost use lib.ListN.{length};
 ghost use Rattle.lists.specs.Lists.{rows};
 ghost use Rattle.potentials_pair.specs.Species.{lookBy};
 ghost use Rattle.potentials_pair.specs.Pull.{held};
-ghost use Rattle.evaluate.specs.Terms.{terms, ljGives, coulombGives, bondGives, merged, mergedInto};
+ghost use Rattle.evaluate.specs.Terms.{terms, ljGives, coulombGives, bondGives, angleGives, merged, mergedInto};
 ghost use Rattle.evaluate.specs.Steps.{termsOver};
 
 // A term's own sum and forces, added.
@@ -83,6 +84,25 @@ fn with_bonds(
     merge(sum, forces, own, scratch)
 }
 
+fn with_angles(
+    scratch: &mut [f64],
+    forces: &mut [f64],
+    sum: Sum,
+    angle: AngleTerm,
+    cell: Cell,
+    angles: &[u32],
+    per_angle: &[f64],
+    xs: &[f64],
+) -> Sum
+    ensures { λ r. ⌜ held r (now (forces .exit)) ≡ mergedInto (held sum (now (forces .entry))) (angleGives angle cell (now (angles .entry)) (now («per_angle» .entry)) (now (xs .entry)) (length (now (scratch .entry)))) ⌝ }
+{
+    let AngleTerm::Present(t) = angle else {
+        return sum;
+    };
+    let own = potentials_angle::kernel::angles_all(t, cell, angles, per_angle, xs, scratch);
+    merge(sum, forces, own, scratch)
+}
+
 // The present terms, merged in order into zero.
 pub(crate) fn all(
     scratch: &mut [f64],
@@ -94,15 +114,18 @@ pub(crate) fn all(
     bonds: &[u32],
     lengths: &[f64],
     ks: &[f64],
+    angles: &[u32],
+    per_angle: &[f64],
     xs: &[f64],
     pairs: &[u32],
     forces: &mut [f64],
 ) -> Sum
-    ensures { λ r. ⌜ held r (now (forces .exit)) ≡ termsOver (terms setting (now (ids .entry)) (now (params .entry)) (now (species .entry)) (now (charges .entry)) (now (bonds .entry)) (now (lengths .entry)) (now (ks .entry))) (setting .cell) (now (xs .entry)) (now (pairs .entry)) (length (now (scratch .entry))) (length (now (forces .entry))) ⌝ }
+    ensures { λ r. ⌜ held r (now (forces .exit)) ≡ termsOver (terms setting (now (ids .entry)) (now (params .entry)) (now (species .entry)) (now (charges .entry)) (now (bonds .entry)) (now (lengths .entry)) (now (ks .entry)) (now (angles .entry)) (now («per_angle» .entry))) (setting .cell) (now (xs .entry)) (now (pairs .entry)) (length (now (scratch .entry))) (length (now (forces .entry))) ⌝ }
 {
     let lj = setting.lj;
     let coulomb = setting.coulomb;
     let bond = setting.bond;
+    let angle = setting.angle;
     let units = setting.units;
     let cell = setting.cell;
     virial::kernel::clear(forces);
@@ -120,5 +143,6 @@ pub(crate) fn all(
         pairs,
     );
     let b = with_coulomb(scratch, forces, a, coulomb, units, cell, charges, xs, pairs);
-    with_bonds(scratch, forces, b, bond, cell, bonds, lengths, ks, xs)
+    let c = with_bonds(scratch, forces, b, bond, cell, bonds, lengths, ks, xs);
+    with_angles(scratch, forces, c, angle, cell, angles, per_angle, xs)
 }

@@ -10,6 +10,7 @@ use Rattle.bins.proofs.Only.{asked-only as atoms-asked-only}
 use Rattle.neighbor.proofs.Only.{new-only, search-radius-only, needs-rebuild-only, outdated-only, update-only, listed-asked-only}
 use Rattle.neighbor.specs.declared.Question.the-variants.{Unasked, NeedsRebuild}
 use Rattle.potentials.proofs.Only.{monatomic-only, uniform-only, lj-pairs-only, lj-all-only, coulomb-pairs-only, coulomb-all-only, bonds-all-only}
+use Rattle.potentials_angle.proofs.Only.{uniform-angles-only, angles-all-only}
 use Rattle.evaluate.proofs.Only.{evaluate-only}
 use Rattle.verlet.proofs.Only.{kinetic-energy-only, temperature-only, berendsen-only}
 use Rattle.verlet_step.proofs.Only.{step-only, finish-only}
@@ -88,6 +89,8 @@ use Rattle.field.proofs.forces.tyn_lj_all as lj-all
 use Rattle.field.proofs.forces.tyn_coulomb_pairs as coulomb-pairs
 use Rattle.field.proofs.forces.tyn_coulomb_all as coulomb-all
 use Rattle.field.proofs.forces.tyn_bonds_all as bonds-all
+use Rattle.field.proofs.angles.tyn_uniform_angles as uniform-angles
+use Rattle.field.proofs.angles.tyn_angles_all as angles-all
 use Rattle.field.proofs.forces.tyn_evaluate as evaluate
 use Rattle.field.proofs.speeds.tyn_kinetic_energy as kinetic-energy
 use Rattle.field.proofs.speeds.tyn_temperature as temperature
@@ -259,11 +262,13 @@ tyn-solve-only l a r s m n p q = shown-only p q (λ u v h k. let b = solve-only 
 
 pub tyn-add-shells-only : OneOutcome add-shells.ended add-shells.Reads.Post
 tyn-add-shells-only l a r s m n p q = shown-only p q (λ u v h k. let b = add-shells-only _ u v _ _ _ _ _ _ _ _ h k in (b .0, λ i. (tt, (tt, (tt, (tt, (b .1 i, (b .2 i, (b .3 i, (b .4 i, tt))))))))))
+
 pub tyn-label-only : OneOutcome label.ended label.Reads.Post
 tyn-label-only l a r s m n p q = shown-only p q (λ u v h k. let b = label-only _ _ _ u v _ _ h k in (b .0, λ i. (tt, (tt, (b .1 i, tt)))))
 
 pub tyn-solve-clumps-only : OneOutcome solve-clumps.ended solve-clumps.Reads.Post
 tyn-solve-clumps-only l a r s m n p q = shown-only p q (λ u v h k. let b = solve-clumps-only _ _ u v _ _ (h .0) (k .0) in (b .0, λ i. (tt, (b .1 i, tt))))
+
 -- ---- written sheets
 pub tyn-write-only : OneOutcome write.ended write.Reads.Post
 tyn-write-only l a r s m n p q = shown-only p q (λ u v h k. let b = write-only _ _ _ _ u v _ _ h k in (b .0, λ i. (tt, (tt, (tt, (b .1 i, tt))))))
@@ -296,8 +301,14 @@ tyn-coulomb-all-only l a r s m n p q = shown-only p q (λ u v h k. let b = coulo
 pub tyn-bonds-all-only : OneOutcome bonds-all.ended bonds-all.Reads.Post
 tyn-bonds-all-only l a r s m n p q = shown-only p q (λ u v h k. let b = bonds-all-only u v _ _ (a .1 .1 .1 .1 .1 .0 .now) (a .1 .1 .1 .1 .1 .1 .0 .now) _ _ (a .1 .1 .0 .now) (a .1 .1 .1 .0 .now) (a .1 .1 .1 .1 .0 .now) h k in (b .0, λ i. (tt, (tt, (tt, (tt, (tt, (tt, (b .1 i, tt)))))))))
 
+pub tyn-uniform-angles-only : OneOutcome uniform-angles.ended uniform-angles.Reads.Post
+tyn-uniform-angles-only l a r s m n p q = (shown-alone p q (uniform-angles-only _ _), refl)
+
+pub tyn-angles-all-only : OneOutcome angles-all.ended angles-all.Reads.Post
+tyn-angles-all-only l a r s m n p q = shown-only p q (λ u v h k. let b = angles-all-only u v _ _ (a .1 .1 .1 .1 .0 .now) (a .1 .1 .1 .1 .1 .0 .now) _ _ (a .1 .1 .0 .now) (a .1 .1 .1 .0 .now) h k in (b .0, λ i. (tt, (tt, (tt, (tt, (tt, (b .1 i, tt))))))))
+
 pub tyn-evaluate-only : OneOutcome evaluate.ended evaluate.Reads.Post
-tyn-evaluate-only l a r s m n p q = shown-only p q (λ u v h k. let b = evaluate-only _ u v _ _ _ _ _ _ _ _ _ _ (h .0) (k .0) in (b .0, λ i. (tt, (tt, (tt, (tt, (tt, (tt, (tt, (tt, (tt, (tt, (tt, (b .1 i, (b .2 i, (b .3 i, (b .4 i, (b .5 i, tt))))))))))))))))))
+tyn-evaluate-only l a r s m n p q = shown-only p q (λ u v h k. let b = evaluate-only _ u v _ _ _ _ _ _ _ _ _ _ (h .0) (k .0) in (b .0, λ i. (tt, (tt, (tt, (tt, (tt, (tt, (tt, (tt, (tt, (tt, (tt, (tt, (tt, (b .1 i, (b .2 i, (b .3 i, (b .4 i, (b .5 i, tt))))))))))))))))))))
 
 -- ---- kinetic energy, temperature, thermostat
 pub tyn-kinetic-energy-only : OneOutcome kinetic-energy.ended kinetic-energy.Reads.Post
@@ -311,7 +322,7 @@ tyn-berendsen-only l a r s m n p q = shown-only p q (λ u v h k. let b = berends
 
 -- ---- the step
 pub tyn-step-only : OneOutcome step.ended step.Reads.Post
-tyn-step-only l a r s m n p q = shown-only p q (λ u v h k. let b = step-only _ _ u v _ _ _ _ _ _ _ _ _ _ _ _ _ _ (h .0) (k .0) in (b .0, λ i. (tt, (tt, (tt, (tt, (tt, (tt, (tt, (tt, (tt, (tt, (tt, (tt, (tt, (b .1 i, (b .2 i, (b .3 i, (b .4 i, (b .5 i, (b .6 i, (b .7 i, tt))))))))))))))))))))))
+tyn-step-only l a r s m n p q = shown-only p q (λ u v h k. let b = step-only _ _ u v _ _ _ _ _ _ _ _ _ _ _ _ _ _ (h .0) (k .0) in (b .0, λ i. (tt, (tt, (tt, (tt, (tt, (tt, (tt, (tt, (tt, (tt, (tt, (tt, (tt, (tt, (tt, (b .1 i, (b .2 i, (b .3 i, (b .4 i, (b .5 i, (b .6 i, (b .7 i, tt))))))))))))))))))))))))
 
 pub tyn-finish-only : OneOutcome finish.ended finish.Reads.Post
-tyn-finish-only l a r s m n p q = shown-only p q (λ u v h k. let b = finish-only _ _ u v _ _ _ _ _ _ _ _ _ _ _ _ (h .0) (k .0) in (b .0, λ i. (tt, (tt, (tt, (tt, (tt, (tt, (tt, (tt, (tt, (tt, (tt, (tt, (tt, (tt, (b .1 i, (b .2 i, (b .3 i, (b .4 i, (b .5 i, (b .6 i, tt))))))))))))))))))))))
+tyn-finish-only l a r s m n p q = shown-only p q (λ u v h k. let b = finish-only _ _ u v _ _ _ _ _ _ _ _ _ _ _ _ (h .0) (k .0) in (b .0, λ i. (tt, (tt, (tt, (tt, (tt, (tt, (tt, (tt, (tt, (tt, (tt, (tt, (tt, (tt, (tt, (tt, (b .1 i, (b .2 i, (b .3 i, (b .4 i, (b .5 i, (b .6 i, tt))))))))))))))))))))))))

@@ -163,7 +163,7 @@ pub extern "C" fn tyn_bonds_all(
     ))
 }
 
-// The list brought up to date, then each present term, Lennard-Jones, Coulomb, bonds, merged in this order into zero. Refusals 1, 2, 6, 3, 4, 5, 7, 8.
+// The list brought up to date, then each present term, Lennard-Jones, Coulomb, bonds, angles, merged in this order into zero. Refusals 1, 2, 6, 3, 4, 5, 7, 8.
 #[no_mangle]
 pub extern "C" fn tyn_evaluate(
     setting: FlatSetting,
@@ -175,6 +175,8 @@ pub extern "C" fn tyn_evaluate(
     bonds: &[u32],
     lengths: &[f64],
     ks: &[f64],
+    angles: &[u32],
+    per_angle: &[f64],
     positions: &[f64],
     exclusions: &[u32],
     pairs: &mut [u32],
@@ -183,7 +185,7 @@ pub extern "C" fn tyn_evaluate(
     items: &mut [u32],
     forces: &mut [f64],
 ) -> FlatEvaluated
-    ensures { λ r. ⌜ (let j = jobOf (settingOf setting) (stateOf s) (now (ids .entry)) (now (params .entry)) (now (species .entry)) (now (charges .entry)) (now (bonds .entry)) (now (lengths .entry)) (now (ks .entry)) (now (positions .entry)) (now (exclusions .entry)) (now (pairs .entry)) (now (references .entry)) (now (starts .entry)) (now (items .entry)) (now (forces .entry)) in Shown flatEvaluated (λ a. EvaluateSays j a (now (pairs .exit)) (now (references .exit)) (now (starts .exit)) (now (items .exit)) (now (forces .exit)) × EvaluateLists j a (now (pairs .exit))) r) ⌝ }
+    ensures { λ r. ⌜ (let j = jobOf (settingOf setting) (stateOf s) (now (ids .entry)) (now (params .entry)) (now (species .entry)) (now (charges .entry)) (now (bonds .entry)) (now (lengths .entry)) (now (ks .entry)) (now (angles .entry)) (now («per_angle» .entry)) (now (positions .entry)) (now (exclusions .entry)) (now (pairs .entry)) (now (references .entry)) (now (starts .entry)) (now (items .entry)) (now (forces .entry)) in Shown flatEvaluated (λ a. EvaluateSays j a (now (pairs .exit)) (now (references .exit)) (now (starts .exit)) (now (items .exit)) (now (forces .exit)) × EvaluateLists j a (now (pairs .exit))) r) ⌝ }
 {
     give::evaluated(evaluate::evaluate(
         take::setting(setting),
@@ -195,6 +197,8 @@ pub extern "C" fn tyn_evaluate(
         bonds,
         lengths,
         ks,
+        angles,
+        per_angle,
         positions,
         exclusions,
         pairs,

@@ -26,6 +26,8 @@ pub extern "C" fn tyn_step(
     bonds: &[u32],
     lengths: &[f64],
     ks: &[f64],
+    angles: &[u32],
+    per_angle: &[f64],
     masses: &[f64],
     exclusions: &[u32],
     positions: &mut [f64],
@@ -36,7 +38,7 @@ pub extern "C" fn tyn_step(
     items: &mut [u32],
     forces: &mut [f64],
 ) -> FlatStepped
-    ensures { λ r. ⌜ (let m = motionOf (settingOf setting) (paceOf pace .dt) (stateOf s) potential (now (ids .entry)) (now (params .entry)) (now (species .entry)) (now (charges .entry)) (now (bonds .entry)) (now (lengths .entry)) (now (ks .entry)) (now (masses .entry)) (now (exclusions .entry)) (now (positions .entry)) (now (velocities .entry)) (now (pairs .entry)) (now (references .entry)) (now (starts .entry)) (now (items .entry)) (now (forces .entry)) in Shown flatStepped (λ a. StepSays (paceOf pace .thermostat) m a (now (positions .exit)) (now (velocities .exit)) (now (pairs .exit)) (now (references .exit)) (now (starts .exit)) (now (items .exit)) (now (forces .exit)) × StepLists m a (now (positions .exit)) (now (pairs .exit))) r) ⌝ }
+    ensures { λ r. ⌜ (let m = motionOf (settingOf setting) (paceOf pace .dt) (stateOf s) potential (now (ids .entry)) (now (params .entry)) (now (species .entry)) (now (charges .entry)) (now (bonds .entry)) (now (lengths .entry)) (now (ks .entry)) (now (angles .entry)) (now («per_angle» .entry)) (now (masses .entry)) (now (exclusions .entry)) (now (positions .entry)) (now (velocities .entry)) (now (pairs .entry)) (now (references .entry)) (now (starts .entry)) (now (items .entry)) (now (forces .entry)) in Shown flatStepped (λ a. StepSays (paceOf pace .thermostat) m a (now (positions .exit)) (now (velocities .exit)) (now (pairs .exit)) (now (references .exit)) (now (starts .exit)) (now (items .exit)) (now (forces .exit)) × StepLists m a (now (positions .exit)) (now (pairs .exit))) r) ⌝ }
 {
     give::stepped(verlet_step::step(
         take::setting(setting),
@@ -50,6 +52,8 @@ pub extern "C" fn tyn_step(
         bonds,
         lengths,
         ks,
+        angles,
+        per_angle,
         masses,
         exclusions,
         positions,
@@ -76,6 +80,8 @@ pub extern "C" fn tyn_finish(
     bonds: &[u32],
     lengths: &[f64],
     ks: &[f64],
+    angles: &[u32],
+    per_angle: &[f64],
     masses: &[f64],
     exclusions: &[u32],
     positions: &[f64],
@@ -86,7 +92,7 @@ pub extern "C" fn tyn_finish(
     items: &mut [u32],
     forces: &mut [f64],
 ) -> FlatStepped
-    ensures { λ r. ⌜ (let m = motionOf (settingOf setting) (paceOf pace .dt) (stateOf s) potential (now (ids .entry)) (now (params .entry)) (now (species .entry)) (now (charges .entry)) (now (bonds .entry)) (now (lengths .entry)) (now (ks .entry)) (now (masses .entry)) (now (exclusions .entry)) (now (positions .entry)) (now (velocities .entry)) (now (pairs .entry)) (now (references .entry)) (now (starts .entry)) (now (items .entry)) (now (forces .entry)) in Shown flatStepped (λ a. FinishSays (paceOf pace .thermostat) m a (now (velocities .exit)) (now (pairs .exit)) (now (references .exit)) (now (starts .exit)) (now (items .exit)) (now (forces .exit)) × StepLists m a (now (positions .entry)) (now (pairs .exit))) r) ⌝ }
+    ensures { λ r. ⌜ (let m = motionOf (settingOf setting) (paceOf pace .dt) (stateOf s) potential (now (ids .entry)) (now (params .entry)) (now (species .entry)) (now (charges .entry)) (now (bonds .entry)) (now (lengths .entry)) (now (ks .entry)) (now (angles .entry)) (now («per_angle» .entry)) (now (masses .entry)) (now (exclusions .entry)) (now (positions .entry)) (now (velocities .entry)) (now (pairs .entry)) (now (references .entry)) (now (starts .entry)) (now (items .entry)) (now (forces .entry)) in Shown flatStepped (λ a. FinishSays (paceOf pace .thermostat) m a (now (velocities .exit)) (now (pairs .exit)) (now (references .exit)) (now (starts .exit)) (now (items .exit)) (now (forces .exit)) × StepLists m a (now (positions .entry)) (now (pairs .exit))) r) ⌝ }
 {
     give::stepped(verlet_step::finish(
         take::setting(setting),
@@ -100,6 +106,8 @@ pub extern "C" fn tyn_finish(
         bonds,
         lengths,
         ks,
+        angles,
+        per_angle,
         masses,
         exclusions,
         positions,

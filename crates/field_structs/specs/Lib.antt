@@ -1,3 +1,4 @@
+pub mod Angles
 pub mod Flat
 pub mod FlatCounted
 pub mod Taken

@@ -27,6 +27,9 @@ use Rattle.field_structs.specs.declared.FlatState.{FlatState}
 use Rattle.field_structs.specs.declared.FlatLj.{FlatLj}
 use Rattle.field_structs.specs.declared.FlatLjTerm.{FlatLjTerm}
 use Rattle.field_structs.specs.declared.FlatCoulombTerm.{FlatCoulombTerm}
+use Rattle.potentials_angle.specs.declared.AngleTerm.{AngleTerm}
+use Rattle.potentials_angle.specs.declared.AngleTerm.the-variants as AngleTerm·cases
+use Rattle.field_structs.specs.declared.FlatAngleTerm.{FlatAngleTerm}
 use Rattle.field_structs.specs.declared.FlatBondTerm.{FlatBondTerm}
 use Rattle.field_structs.specs.declared.FlatThermostat.{FlatThermostat}
 use Rattle.field_structs.specs.declared.FlatSetting.{FlatSetting}
@@ -68,12 +71,15 @@ coulombTermOf term = cond (isSet (term .present)) (CoulombTerm·cases.Present (t
 unfoldable pub bondTermOf : FlatBondTerm → BondTerm
 bondTermOf term = cond (isSet (term .present)) (BondTerm·cases.Present (term .bond)) BondTerm·cases.Absent
 
+unfoldable pub angleTermOf : FlatAngleTerm → AngleTerm
+angleTermOf term = cond (isSet (term .present)) (AngleTerm·cases.Present (term .angle)) AngleTerm·cases.Absent
+
 unfoldable pub thermostatOf : FlatThermostat → Thermostat
 thermostatOf t = cond (isSet (t .present)) (Thermostat·cases.Present (t .«target_k») (t .«tau_fs»)) Thermostat·cases.Absent
 
 unfoldable pub settingOf : FlatSetting → Setting
 settingOf s =
-    record { lj = ljTermOf (s .lj); coulomb = coulombTermOf (s .coulomb); bond = bondTermOf (s .bond); units = s .units; cell = cellOf (s .cell) }
+    record { lj = ljTermOf (s .lj); coulomb = coulombTermOf (s .coulomb); bond = bondTermOf (s .bond); angle = angleTermOf (s .angle); units = s .units; cell = cellOf (s .cell) }
 
 unfoldable pub paceOf : FlatPace → Pace
 paceOf p = record { dt = p .dt; thermostat = thermostatOf (p .thermostat) }

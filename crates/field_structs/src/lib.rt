@@ -4,9 +4,11 @@
 use cell::Rows;
 use cell::Vec3;
 use potentials::Bond;
+use potentials_angle::Angle;
 use virial::Sum;
 use virial::Units;
 
+pub mod angles;
 pub mod give;
 pub mod give_counted;
 pub mod take;
@@ -75,6 +77,13 @@ pub struct FlatBondTerm {
     pub bond: Bond,
 }
 
+// No angles (present 0), or angles (present not 0).
+#[repr(C)]
+pub struct FlatAngleTerm {
+    pub present: u32,
+    pub angle: Angle,
+}
+
 // No thermostat (present 0), or Berendsen's (present not 0).
 #[repr(C)]
 pub struct FlatThermostat {
@@ -89,6 +98,7 @@ pub struct FlatSetting {
     pub lj: FlatLjTerm,
     pub coulomb: FlatCoulombTerm,
     pub bond: FlatBondTerm,
+    pub angle: FlatAngleTerm,
     pub units: Units,
     pub cell: FlatCell,
 }
@@ -227,6 +237,12 @@ pub struct FlatLjAnswer {
 pub struct FlatBondAnswer {
     pub done: FlatDone,
     pub bond: Bond,
+}
+
+#[repr(C)]
+pub struct FlatAngleAnswer {
+    pub done: FlatDone,
+    pub angle: Angle,
 }
 
 // Whether the list was built anew (a flag), its state, which comes back in every case, and energy and virial; the forces stand in what was lent.

@@ -10,6 +10,7 @@ use crate::FlatPace;
 use crate::FlatSetting;
 use crate::FlatState;
 use crate::FlatThermostat;
+use crate::angles;
 use cell::Cell;
 use cell::Lattice;
 use cell::Rows;
@@ -128,12 +129,14 @@ pub fn setting(s: FlatSetting) -> Setting
     let lj = s.lj;
     let coulomb = s.coulomb;
     let bond = s.bond;
+    let angle = s.angle;
     let units = s.units;
     let held = s.cell;
     Setting {
         lj: lj_term(lj),
         coulomb: coulomb_term(coulomb),
         bond: bond_term(bond),
+        angle: angles::angle_term(angle),
         units,
         cell: cell(held),
     }

@@ -1,6 +1,7 @@
 // Which call a case asks for, by its number. A new call is a function NAME_case(ws, out) in the module of its group and a line in that module's `answer`; a
 // new group is a module and a line here. A case takes its arguments one after the other, each from the place that the one before left; where it does not
 // end at the number of words it is no case, and answers no words (0). Then it calls, and puts its answer together in `out`.
+use crate::angles;
 use crate::boxes;
 use crate::cells;
 use crate::counts;
@@ -54,6 +55,9 @@ pub(crate) fn answer(call: u64, ws: &[u64], out: &mut [u64; 8208]) -> usize {
     }
     if call < 85 {
         return forces::answer(call, ws, out);
+    }
+    if call == 86 {
+        return angles::angles_all_case(ws, out);
     }
     if call < 96 {
         return evaluations::answer(call, ws, out);

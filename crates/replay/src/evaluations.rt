@@ -19,11 +19,13 @@ struct Tables {
     bonds: Table,
     lengths: Table,
     ks: Table,
+    angles: Table,
+    per_angle: Table,
     positions: Table,
     exclusions: Table,
 }
 
-fn take_tables(ws: &[u64], at: usize) -> Tables {
+fn take_tables(parts: Parts, ws: &[u64], at: usize) -> Tables {
     let ids = replay_words::take_u32s(ws, at);
     let params = replay_words::take_floats(ws, ids.next);
     let species = replay_words::take_u32s(ws, params.next);
@@ -31,7 +33,9 @@ fn take_tables(ws: &[u64], at: usize) -> Tables {
     let bonds = replay_words::take_u32s(ws, charges.next);
     let lengths = replay_words::take_floats(ws, bonds.next);
     let ks = replay_words::take_floats(ws, lengths.next);
-    let positions = replay_words::take_floats(ws, ks.next);
+    let angles = masks::take_u32s_if(parts.angles, ws, ks.next);
+    let per_angle = masks::take_floats_if(parts.angles, ws, angles.next);
+    let positions = replay_words::take_floats(ws, per_angle.next);
     let exclusions = replay_words::take_u32s(ws, positions.next);
     Tables {
         ids,
@@ -41,6 +45,8 @@ fn take_tables(ws: &[u64], at: usize) -> Tables {
         bonds,
         lengths,
         ks,
+        angles,
+        per_angle,
         positions,
         exclusions,
     }
@@ -69,6 +75,8 @@ fn evaluated(
         tables::part_u32(us, t.bonds),
         tables::part(fs, t.lengths),
         tables::part(fs, t.ks),
+        tables::part_u32(us, t.angles),
+        tables::part(fs, t.per_angle),
         tables::part(fs, t.positions),
         tables::part_u32(us, t.exclusions),
         pairs,
@@ -99,7 +107,7 @@ fn tell_values(out: &mut [u64; 8208], parts: Parts, r: Evaluated) -> usize {
 
 fn evaluate_case(parts: Parts, from: usize, ws: &[u64], out: &mut [u64; 8208]) -> usize {
     let settings = records::take_settings(parts, ws, from);
-    let t = take_tables(ws, settings.next);
+    let t = take_tables(parts, ws, settings.next);
     let after = t.exclusions;
     let a = replay_words::take_u32s(ws, after.next);
     let b = replay_words::take_floats(ws, a.next);

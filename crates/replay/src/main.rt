@@ -2,6 +2,7 @@
 use libc::STDIN_FILENO;
 use libc::STDOUT_FILENO;
 
+mod angles;
 mod answers;
 mod boxes;
 mod calls;
@@ -17,8 +18,8 @@ mod lines;
 mod masks;
 mod neighbors;
 mod records;
-mod skins;
 mod sheets;
+mod skins;
 mod steps;
 mod tables;
 mod velocities;

@@ -1,6 +1,8 @@
 // The first word of 57, 67 and 68: which further parts stand in the line.
+use replay_words::Table;
 
 pub(crate) struct Parts {
+    pub(crate) angles: bool, // 1: the term of angles after bonds', and its two tables after theirs
     pub(crate) cell: bool, // 2: a cell at the end of State
 }
 
@@ -12,14 +14,35 @@ pub(crate) struct MaskArg {
 
 // The parts of the commands without a mask.
 pub(crate) fn none() -> Parts {
-    Parts { cell: false }
+    Parts {
+        angles: false,
+        cell: false,
+    }
 }
 
 pub(crate) fn take_mask(ws: &[u64]) -> MaskArg {
     let w = replay_words::take_word(ws, 0);
     MaskArg {
-        parts: Parts { cell: w.value == 2 },
-        known: w.value == 0 || w.value == 2,
+        parts: Parts {
+            angles: w.value % 2 == 1,
+            cell: w.value / 2 == 1,
+        },
+        known: w.value < 4,
         next: w.next,
     }
+}
+
+// A table, and an empty one where it does not stand in the line.
+pub(crate) fn take_u32s_if(there: bool, ws: &[u64], at: usize) -> Table {
+    if there {
+        return replay_words::take_u32s(ws, at);
+    }
+    Table { from: at, next: at }
+}
+
+pub(crate) fn take_floats_if(there: bool, ws: &[u64], at: usize) -> Table {
+    if there {
+        return replay_words::take_floats(ws, at);
+    }
+    Table { from: at, next: at }
 }

@@ -9,6 +9,8 @@ use potentials::Bond;
 use potentials::BondTerm;
 use potentials::CoulombTerm;
 use potentials::LjTerm;
+use potentials_angle::Angle;
+use potentials_angle::AngleTerm;
 use potentials_pair::Lj;
 use virial::Sum;
 use virial::Units;
@@ -61,6 +63,11 @@ pub(crate) struct CoulombTermArg {
 
 pub(crate) struct BondTermArg {
     pub(crate) value: BondTerm,
+    pub(crate) next: usize,
+}
+
+pub(crate) struct AngleTermArg {
+    pub(crate) value: AngleTerm,
     pub(crate) next: usize,
 }
 
@@ -305,16 +312,49 @@ fn take_bond_term(ws: &[u64], at: usize) -> BondTermArg {
     }
 }
 
+fn take_angle_term(ws: &[u64], at: usize) -> AngleTermArg {
+    let there = replay_words::take_bool(ws, at);
+    if there.value {
+        let k = replay_words::take_float(ws, there.next);
+        let rest = replay_words::take_float(ws, k.next);
+        let angle = Angle {
+            k: k.value,
+            rest: rest.value,
+        };
+        return AngleTermArg {
+            value: AngleTerm::Present(angle),
+            next: rest.next,
+        };
+    }
+    AngleTermArg {
+        value: AngleTerm::Absent,
+        next: there.next,
+    }
+}
+
+// Absent where the line has none.
+fn take_angle_term_if(there: bool, ws: &[u64], at: usize) -> AngleTermArg {
+    if there {
+        return take_angle_term(ws, at);
+    }
+    AngleTermArg {
+        value: AngleTerm::Absent,
+        next: at,
+    }
+}
+
 pub(crate) fn take_settings(parts: Parts, ws: &[u64], at: usize) -> SettingsArg {
     let a = take_lj_term(ws, at);
     let b = take_coulomb_term(ws, a.next);
     let c = take_bond_term(ws, b.next);
-    let d = take_units(ws, c.next);
+    let g = take_angle_term_if(parts.angles, ws, c.next);
+    let d = take_units(ws, g.next);
     let e = take_state_and(parts.cell, ws, d.next);
     let f = take_cell(ws, e.next);
     let lj = a.value;
     let coulomb = b.value;
     let bond = c.value;
+    let angle = g.value;
     let units = d.value;
     let state = e.value;
     let cell = f.value;
@@ -323,6 +363,7 @@ pub(crate) fn take_settings(parts: Parts, ws: &[u64], at: usize) -> SettingsArg 
             lj,
             coulomb,
             bond,
+            angle,
             units,
             cell,
         },

@@ -47,6 +47,8 @@ struct Given {
     bonds: Table,
     lengths: Table,
     ks: Table,
+    angles: Table,
+    per_angle: Table,
     masses: Table,
     exclusions: Table,
     potential: f64,
@@ -64,7 +66,9 @@ fn take_given(finishing: bool, parts: Parts, from: usize, ws: &[u64]) -> Given {
     let bonds = replay_words::take_u32s(ws, charges.next);
     let lengths = replay_words::take_floats(ws, bonds.next);
     let ks = replay_words::take_floats(ws, lengths.next);
-    let masses = replay_words::take_floats(ws, ks.next);
+    let angles = masks::take_u32s_if(parts.angles, ws, ks.next);
+    let per_angle = masks::take_floats_if(parts.angles, ws, angles.next);
+    let masses = replay_words::take_floats(ws, per_angle.next);
     let exclusions = replay_words::take_u32s(ws, masses.next);
     let potential = replay_words::take_float(ws, exclusions.next);
     let thermostat = t.value;
@@ -80,6 +84,8 @@ fn take_given(finishing: bool, parts: Parts, from: usize, ws: &[u64]) -> Given {
         bonds,
         lengths,
         ks,
+        angles,
+        per_angle,
         masses,
         exclusions,
         potential: potential.value,
@@ -114,6 +120,8 @@ fn moved(
     let bonds = tables::part_u32(us, g.bonds);
     let lengths = tables::part(fs, g.lengths);
     let ks = tables::part(fs, g.ks);
+    let angles = tables::part_u32(us, g.angles);
+    let per_angle = tables::part(fs, g.per_angle);
     let masses = tables::part(fs, g.masses);
     let exclusions = tables::part_u32(us, g.exclusions);
     if g.finishing {
@@ -129,6 +137,8 @@ fn moved(
             bonds,
             lengths,
             ks,
+            angles,
+            per_angle,
             masses,
             exclusions,
             positions,
@@ -152,6 +162,8 @@ fn moved(
         bonds,
         lengths,
         ks,
+        angles,
+        per_angle,
         masses,
         exclusions,
         positions,

@@ -10,6 +10,7 @@ use potentials::Bond;
 use potentials::BondTerm;
 use potentials::CoulombTerm;
 use potentials::LjTerm;
+use potentials_angle::AngleTerm;
 use potentials_pair::Lj;
 use virial::Sum;
 use virial::Summed;
@@ -102,12 +103,14 @@ fn setting() -> Setting {
     let lj = LjTerm::Present(lj());
     let coulomb = CoulombTerm::Present { cutoff: 1.0 };
     let bond = BondTerm::Present(bond());
+    let angle = AngleTerm::Absent;
     let units = speeds::ones();
     let cell = Cell::Absent;
     Setting {
         lj,
         coulomb,
         bond,
+        angle,
         units,
         cell,
     }
@@ -138,6 +141,8 @@ fn evaluated(species: &[u32], charges: &[f64], xs: &[f64], forces: &mut [f64]) {
         &[],
         species,
         charges,
+        &[],
+        &[],
         &[],
         &[],
         &[],

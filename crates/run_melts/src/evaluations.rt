@@ -61,6 +61,8 @@ pub(crate) fn evaluated(
         bonds,
         &terms::lengths(),
         &terms::ks(),
+        &[],
+        &[],
         xs,
         bonds,
         pairs,

@@ -8,6 +8,7 @@ use potentials::Bond;
 use potentials::BondTerm;
 use potentials::CoulombTerm;
 use potentials::LjTerm;
+use potentials_angle::AngleTerm;
 use potentials_pair::Lj;
 use virial::Units;
 
@@ -44,12 +45,14 @@ pub(crate) fn setting(shift: bool, edge: f64) -> Setting {
     let lj = lj(shift);
     let coulomb = coulomb();
     let bond = bond();
+    let angle = AngleTerm::Absent;
     let units = units();
     let cell = liquid::boxed(shift, edge);
     Setting {
         lj,
         coulomb,
         bond,
+        angle,
         units,
         cell,
     }

@@ -21,7 +21,8 @@ use Rattle.neighbor.specs.Rebuild.{rangesOk}
 use Rattle.evaluate.specs.Terms.{Terms}
 use Rattle.potentials.specs.Ranged.{depth, charge}
 use Rattle.potentials.specs.Ranged as Limits
-use Rattle.evaluate.specs.Asked.{ljOk, coulombOk, bondOk, numbersOk}
+use Rattle.evaluate.specs.Asked.{ljOk, coulombOk, bondOk, angleOk, numbersOk}
+use Rattle.potentials_angle.specs.Ranged.{perAngleInRange}
 use Rattle.verlet_step.specs.Asked.{stepLimit, finishLimit, motionOk}
 use Rattle.verlet_step.specs.Calls.{Motion, unitsOf, moved}
 use Rattle.verlet_step.specs.Source.{BySource}
@@ -42,17 +43,18 @@ module _ (limit dt : Float) (t : Thermostat) (ms vs fs : List Float) (p : Float)
       let e = and-both _ _ (d .0) in
       (e .0, e .1, d .1, c .1, b .1, a .1)
 
-second : (a u b c d e : Bool) → a && u && b && c && d && e ≡ true → u ≡ true
-second a u b c d e h = and-both a u (and-both (a && u) b (and-both (a && u && b) c (and-both (a && u && b && c) d (and-both (a && u && b && c && d) e h .0) .0) .0) .0) .1
+second : (a u b c d e f : Bool) → a && u && b && c && d && e && f ≡ true → u ≡ true
+second a u b c d e f h =
+    and-both a u (and-both (a && u) b (and-both (a && u && b) c (and-both (a && u && b && c) d (and-both (a && u && b && c && d) e (and-both (a && u && b && c && d && e) f h .0) .0) .0) .0) .0) .1
 
-units-told : (t : Terms) → numbersOk (t .lj) (t .coulomb) (t .bond) (t .units) (t .params) (t .charges) (t .lengths) (t .ks) ≡ true → unitsInRange (t .units) ≡ true
+units-told : (t : Terms) → numbersOk (t .lj) (t .coulomb) (t .bond) (t .angle) (t .units) (t .params) (t .charges) (t .lengths) (t .ks) (t .perAngle) ≡ true → unitsInRange (t .units) ≡ true
 unfolding numbersOk
 units-told t h =
-    second (ljOk (t .lj) && coulombOk (t .coulomb) && bondOk (t .bond)) (unitsInRange (t .units)) (every depth (t .params)) (every charge (t .charges)) (every Limits.coordinate (t .lengths)) (every Limits.coordinate (t .ks)) h
+    second (ljOk (t .lj) && coulombOk (t .coulomb) && bondOk (t .bond) && angleOk (t .angle)) (unitsInRange (t .units)) (every depth (t .params)) (every charge (t .charges)) (every Limits.coordinate (t .lengths)) (every Limits.coordinate (t .ks)) (perAngleInRange (t .perAngle)) h
 
 module _ (limit : Float) (t : Thermostat) (m : Motion) (a : Passed limit t m) where
   asked-numbers : (motionOk limit (m .dt) t (m .masses) (m .velocities) (m .job .forces) (m .potential) ≡ true)
-      × (numbersOk (m .job .terms .lj) (m .job .terms .coulomb) (m .job .terms .bond) (m .job .terms .units) (m .job .terms .params) (m .job .terms .charges) (m .job .terms .lengths) (m .job .terms .ks) ≡ true)
+      × (numbersOk (m .job .terms .lj) (m .job .terms .coulomb) (m .job .terms .bond) (m .job .terms .angle) (m .job .terms .units) (m .job .terms .params) (m .job .terms .charges) (m .job .terms .lengths) (m .job .terms .ks) (m .job .terms .perAngle) ≡ true)
   asked-numbers = and-both _ _ (a .numbers)
 
   asked-motion : (timeStep (m .dt) ≡ true) × (thermostatInRange t ≡ true) × (every mass (m .masses) ≡ true) × (every (within limit) (m .velocities) ≡ true) × (every plain (m .job .forces) ≡ true) × (plain (m .potential) ≡ true)

@@ -36,9 +36,9 @@ abbrev pub motion : (dt : Float) → Job → (masses : List Float) → (potentia
 motion dt j masses potential velocities = record { dt = dt; job = j; masses = masses; potential = potential; velocities = velocities }
 
 -- that of a call, from what it is handed
-abbrev pub motionOf : Setting → (dt : Float) → State → (potential : Float) → (ids : List ℕ) (params : List Float) (species : List ℕ) (charges : List Float) (bonds : List ℕ) (lengths ks masses : List Float) (exclusions : List ℕ) (positions velocities : List Float) (pairs : List ℕ) (references : List Float) (starts items : List ℕ) (forces : List Float) → Motion
-motionOf setting dt s potential ids params species charges bonds lengths ks masses exclusions positions velocities pairs references starts items forces =
-    motion dt (jobOf setting s ids params species charges bonds lengths ks positions exclusions pairs references starts items forces) masses potential velocities
+abbrev pub motionOf : Setting → (dt : Float) → State → (potential : Float) → (ids : List ℕ) (params : List Float) (species : List ℕ) (charges : List Float) (bonds : List ℕ) (lengths ks : List Float) (angles : List ℕ) (perAngle masses : List Float) (exclusions : List ℕ) (positions velocities : List Float) (pairs : List ℕ) (references : List Float) (starts items : List ℕ) (forces : List Float) → Motion
+motionOf setting dt s potential ids params species charges bonds lengths ks angles perAngle masses exclusions positions velocities pairs references starts items forces =
+    motion dt (jobOf setting s ids params species charges bonds lengths ks angles perAngle positions exclusions pairs references starts items forces) masses potential velocities
 
 abbrev pub unitsOf : Motion → Units
 unitsOf m = m .job .terms .units

@@ -47,6 +47,8 @@ pub(crate) fn asked(
     bonds: &[u32],
     lengths: &[f64],
     ks: &[f64],
+    angles: &[u32],
+    per_angle: &[f64],
     masses: &[f64],
     exclusions: &[u32],
     positions: &[f64],
@@ -57,7 +59,7 @@ pub(crate) fn asked(
     items: &[u32],
     forces: &[f64],
 ) -> Done
-    ensures { λ r. ⌜ r ≡ motionAsked limit (pace .thermostat) (motionOf setting (pace .dt) s potential (now (ids .entry)) (now (params .entry)) (now (species .entry)) (now (charges .entry)) (now (bonds .entry)) (now (lengths .entry)) (now (ks .entry)) (now (masses .entry)) (now (exclusions .entry)) (now (positions .entry)) (now (velocities .entry)) (now (pairs .entry)) (now (references .entry)) (now (starts .entry)) (now (items .entry)) (now (forces .entry))) ⌝ }
+    ensures { λ r. ⌜ r ≡ motionAsked limit (pace .thermostat) (motionOf setting (pace .dt) s potential (now (ids .entry)) (now (params .entry)) (now (species .entry)) (now (charges .entry)) (now (bonds .entry)) (now (lengths .entry)) (now (ks .entry)) (now (angles .entry)) (now («per_angle» .entry)) (now (masses .entry)) (now (exclusions .entry)) (now (positions .entry)) (now (velocities .entry)) (now (pairs .entry)) (now (references .entry)) (now (starts .entry)) (now (items .entry)) (now (forces .entry))) ⌝ }
 {
     let fits = motion_fits(positions.len(), velocities.len(), masses.len());
     let inside = motion_ok(limit, pace, masses, velocities, forces, potential);
@@ -73,6 +75,8 @@ pub(crate) fn asked(
         bonds,
         lengths,
         ks,
+        angles,
+        per_angle,
         positions,
         exclusions,
         pairs,

@@ -61,6 +61,8 @@ pub fn land(
     bonds: &[u32],
     lengths: &[f64],
     ks: &[f64],
+    angles: &[u32],
+    per_angle: &[f64],
     masses: &[f64],
     exclusions: &[u32],
     positions: &[f64],
@@ -71,7 +73,7 @@ pub fn land(
     items: &mut [u32],
     forces: &mut [f64],
 ) -> Stepped
-    ensures { λ r. ⌜ LandSays (motionOf setting dt s potential (now (ids .entry)) (now (params .entry)) (now (species .entry)) (now (charges .entry)) (now (bonds .entry)) (now (lengths .entry)) (now (ks .entry)) (now (masses .entry)) (now (exclusions .entry)) (now (positions .entry)) (now (velocities .entry)) (now (pairs .entry)) (now (references .entry)) (now (starts .entry)) (now (items .entry)) (now (forces .entry))) r (now (velocities .exit)) (now (pairs .exit)) (now (references .exit)) (now (starts .exit)) (now (items .exit)) (now (forces .exit)) ⌝ }
+    ensures { λ r. ⌜ LandSays (motionOf setting dt s potential (now (ids .entry)) (now (params .entry)) (now (species .entry)) (now (charges .entry)) (now (bonds .entry)) (now (lengths .entry)) (now (ks .entry)) (now (angles .entry)) (now («per_angle» .entry)) (now (masses .entry)) (now (exclusions .entry)) (now (positions .entry)) (now (velocities .entry)) (now (pairs .entry)) (now (references .entry)) (now (starts .entry)) (now (items .entry)) (now (forces .entry))) r (now (velocities .exit)) (now (pairs .exit)) (now (references .exit)) (now (starts .exit)) (now (items .exit)) (now (forces .exit)) ⌝ }
 {
     let units = setting.units;
     let e = evaluate::kernel::settle(
@@ -84,6 +86,8 @@ pub fn land(
         bonds,
         lengths,
         ks,
+        angles,
+        per_angle,
         positions,
         exclusions,
         pairs,
@@ -108,6 +112,8 @@ pub fn advance(
     bonds: &[u32],
     lengths: &[f64],
     ks: &[f64],
+    angles: &[u32],
+    per_angle: &[f64],
     masses: &[f64],
     exclusions: &[u32],
     positions: &mut [f64],
@@ -118,7 +124,7 @@ pub fn advance(
     items: &mut [u32],
     forces: &mut [f64],
 ) -> Stepped
-    ensures { λ r. ⌜ AdvanceSays (motionOf setting dt s potential (now (ids .entry)) (now (params .entry)) (now (species .entry)) (now (charges .entry)) (now (bonds .entry)) (now (lengths .entry)) (now (ks .entry)) (now (masses .entry)) (now (exclusions .entry)) (now (positions .entry)) (now (velocities .entry)) (now (pairs .entry)) (now (references .entry)) (now (starts .entry)) (now (items .entry)) (now (forces .entry))) r (now (positions .exit)) (now (velocities .exit)) (now (pairs .exit)) (now (references .exit)) (now (starts .exit)) (now (items .exit)) (now (forces .exit)) ⌝ }
+    ensures { λ r. ⌜ AdvanceSays (motionOf setting dt s potential (now (ids .entry)) (now (params .entry)) (now (species .entry)) (now (charges .entry)) (now (bonds .entry)) (now (lengths .entry)) (now (ks .entry)) (now (angles .entry)) (now («per_angle» .entry)) (now (masses .entry)) (now (exclusions .entry)) (now (positions .entry)) (now (velocities .entry)) (now (pairs .entry)) (now (references .entry)) (now (starts .entry)) (now (items .entry)) (now (forces .entry))) r (now (positions .exit)) (now (velocities .exit)) (now (pairs .exit)) (now (references .exit)) (now (starts .exit)) (now (items .exit)) (now (forces .exit)) ⌝ }
 {
     let units = setting.units;
     if !moves::drifts(units, dt, forces, masses, positions, velocities) {
@@ -137,6 +143,8 @@ pub fn advance(
         bonds,
         lengths,
         ks,
+        angles,
+        per_angle,
         masses,
         exclusions,
         positions,

@@ -1,11 +1,11 @@
 //! The evaluator, which stands where the original's step takes a closure: pair list and terms in one call of the library.
 use super::cell::Lattice;
 use super::neighbor::NeighborList;
-use super::potentials::{Coulomb, HarmonicBonds, LennardJones};
+use super::potentials::{CosineAngles, Coulomb, HarmonicBonds, LennardJones};
 use super::units;
 use super::verlet::Berendsen;
 use super::virial::Contribution;
-use crate::raw::{self, BondTerm, CoulombTerm, LjTerm, Pace, Setting};
+use crate::raw::{self, AngleTerm, BondTerm, CoulombTerm, LjTerm, Pace, Setting};
 use crate::Error;
 
 /// The terms of an [`Evaluator`], each absent or present with what it reads of the atoms.
@@ -17,12 +17,14 @@ pub struct Terms {
     pub coulomb: Option<(Coulomb, Vec<f64>)>,
     /// Bonds, and the two atoms of each.
     pub bonds: Option<(HarmonicBonds, Vec<(usize, usize)>)>,
+    /// Angles, which have their atoms.
+    pub angles: Option<CosineAngles>,
 }
 
-/// Brings its pair list up to date and runs its terms: Lennard-Jones, Coulomb, bonds, each present one merged in this order into zero.
+/// Brings its pair list up to date and runs its terms: Lennard-Jones, Coulomb, bonds, angles, each present one merged in this order into zero.
 ///
 /// In the original's words: `list.maybe_build(positions, cell)`, or `list.build(positions, cell)` where the cell is not the one that the list was built in
-/// ([`NeighborList::outdated`]), then `compute_pairs`, `compute_pairs`, `compute_all`, each merged into
+/// ([`NeighborList::outdated`]), then `compute_pairs`, `compute_pairs`, `compute_all`, `compute_all`, each merged into
 /// `Contribution::zeros(n)`.
 #[derive(Debug, Clone)]
 pub struct Evaluator {
@@ -45,6 +47,8 @@ struct Tables {
     bonds: Vec<u32>,
     lengths: Vec<f64>,
     ks: Vec<f64>,
+    angles: Vec<u32>,
+    per_angle: Vec<f64>,
 }
 
 /// What a step reads and writes beside the evaluator.
@@ -78,7 +82,7 @@ impl Evaluator {
             let (exclusions, room) = self.list.lent();
             let t = &self.tables;
             #[rustfmt::skip]
-            let r = raw::tyn_evaluate(setting, s, &t.ids, &t.params, &t.species, &t.charges, &t.bonds, &t.lengths, &t.ks, positions.as_flattened(),
+            let r = raw::tyn_evaluate(setting, s, &t.ids, &t.params, &t.species, &t.charges, &t.bonds, &t.lengths, &t.ks, &t.angles, &t.per_angle, positions.as_flattened(),
                 exclusions, &mut room.pairs, &mut room.references, &mut room.starts, &mut room.items, forces.as_flattened_mut());
             if !self.list.took(r.done, r.state) {
                 return Contribution::of("tyn_evaluate", raw::Summed { done: r.done, sum: r.sum }, forces);
@@ -93,7 +97,7 @@ impl Evaluator {
         let (exclusions, room) = self.list.lent();
         let t = &self.tables;
         #[rustfmt::skip]
-        let r = raw::tyn_step(setting, m.pace(), s, *m.potential, &t.ids, &t.params, &t.species, &t.charges, &t.bonds, &t.lengths, &t.ks, m.masses,
+        let r = raw::tyn_step(setting, m.pace(), s, *m.potential, &t.ids, &t.params, &t.species, &t.charges, &t.bonds, &t.lengths, &t.ks, &t.angles, &t.per_angle, m.masses,
             exclusions, m.positions.as_flattened_mut(), m.velocities.as_flattened_mut(), &mut room.pairs, &mut room.references, &mut room.starts,
             &mut room.items, m.forces.as_flattened_mut());
         if self.list.took(r.done, r.state) {
@@ -111,7 +115,7 @@ impl Evaluator {
             let (exclusions, room) = self.list.lent();
             let t = &self.tables;
             #[rustfmt::skip]
-            let r = raw::tyn_finish(setting, m.pace(), s, *m.potential, &t.ids, &t.params, &t.species, &t.charges, &t.bonds, &t.lengths, &t.ks, m.masses,
+            let r = raw::tyn_finish(setting, m.pace(), s, *m.potential, &t.ids, &t.params, &t.species, &t.charges, &t.bonds, &t.lengths, &t.ks, &t.angles, &t.per_angle, m.masses,
                 exclusions, m.positions.as_flattened(), m.velocities.as_flattened_mut(), &mut room.pairs, &mut room.references, &mut room.starts,
                 &mut room.items, m.forces.as_flattened_mut());
             if !self.list.took(r.done, r.state) {
@@ -154,6 +158,10 @@ impl Tables {
         if let Some((bonds, pairs)) = &terms.bonds {
             t.setting.bond = BondTerm { present: 1, bond: bonds.numbers() };
             (t.bonds, t.lengths, t.ks) = (raw::rows(pairs), bonds.per_bond.clone(), bonds.per_bond_k.clone());
+        }
+        if let Some(angles) = &terms.angles {
+            t.setting.angle = AngleTerm { present: 1, angle: angles.numbers() };
+            (t.angles, t.per_angle) = (raw::triple_rows(&angles.triples), angles.table());
         }
         t
     }

@@ -115,6 +115,50 @@ impl HarmonicBonds {
     }
 }
 
+/// Cosine angle bending, the GROMOS-96 form: `E = 0.5 k (cos θ - rest)²` over `(i, apex, k)` triples. It is shaped as the original's `HarmonicAngles`,
+/// with a rest cosine in place of the angle, and needs no arc cosine. An arm shorter than 1e-9 Å adds nothing.
+#[derive(Debug, Clone, Default)]
+pub struct CosineAngles {
+    /// `(i, apex, k)` atom-index triples.
+    pub triples: Vec<(usize, usize, usize)>,
+    /// Force constant in eV, of magnitude to 2^20.
+    pub k: f64,
+    /// Cosine at rest, -1 to 1.
+    pub rest: f64,
+    /// Optional per-triple `(k, rest)` overrides, matching `triples` order. Each is tested, also past the last triple.
+    pub per_angle: Vec<(f64, f64)>,
+}
+
+impl CosineAngles {
+    /// Uniform cosine angles over the given triples.
+    pub fn uniform(triples: Vec<(usize, usize, usize)>, k: f64, rest: f64) -> Self {
+        Self { triples, k, rest, per_angle: Vec::new() }
+    }
+
+    /// Energy, forces, and virial over the stored triples.
+    pub fn compute_all(&self, positions: &[[f64; 3]], cell: Option<&Lattice>) -> Result<Contribution, Error> {
+        let mut forces = vec![[0.0; 3]; positions.len()];
+        let (rows, at) = (raw::triple_rows(&self.triples), positions.as_flattened());
+        let r = raw::tyn_angles_all(self.numbers(), cell.into(), &rows, &self.table(), at, forces.as_flattened_mut());
+        Contribution::of("tyn_angles_all", r, forces)
+    }
+
+    /// Total energy and per-atom forces over the stored triples.
+    pub fn compute(&self, positions: &[[f64; 3]], cell: Option<&Lattice>) -> Result<EnergyAndForces, Error> {
+        let c = self.compute_all(positions, cell)?;
+        Ok((c.energy, c.forces))
+    }
+
+    pub(super) fn numbers(&self) -> raw::Angle {
+        raw::Angle { k: self.k, rest: self.rest }
+    }
+
+    /// k and rest of each row of `per_angle`.
+    pub(super) fn table(&self) -> Vec<f64> {
+        self.per_angle.iter().flat_map(|&row| <[f64; 2]>::from(row)).collect()
+    }
+}
+
 /// Direct (cutoff) Coulomb interaction: `E = KE q_i q_j / r`. The plain real-space sum: right for isolated clusters, not for a periodic charged system.
 #[derive(Debug, Clone)]
 pub struct Coulomb {

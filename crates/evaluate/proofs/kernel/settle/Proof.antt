@@ -5,7 +5,7 @@ use Rattle.evaluate.proofs.kernel.settle.Statement.{statement}
 use Rattle.evaluate.proofs.kernel.settle.Tie as tie
 
 returns : tie.Need-returns
-returns c = let a = c .before .before .before .before .before .before .before .before .before .before .before .before .before .before .before .before .before .before .before .before .before .before .before .before .before .before .before .before .before .before .before .before .args in let j : Job = jobOf (a .setting) (a .s) (a .ids .now) (a .params .now) (a .species .now) (a .charges .now) (a .bonds .now) (a .lengths .now) (a .ks .now) (a .positions .now) (a .exclusions .now) (a .pairs .now) (a .references .now) (a .starts .now) (a .items .now) (a .forces .now) in settled-by j (c .before .before .before .before .before .before .before .before .before .before .before .before .before .update .ensures) (c .before .before .after-list .ensures .0) (c .before .before .after-list .ensures .1)
+returns c = let a = c .before .before .before .before .before .before .before .before .before .before .before .before .before .before .before .before .before .before .before .before .before .before .before .before .before .before .before .before .before .before .before .before .before .before .args in let j : Job = jobOf (a .setting) (a .s) (a .ids .now) (a .params .now) (a .species .now) (a .charges .now) (a .bonds .now) (a .lengths .now) (a .ks .now) (a .angles .now) (a .per-angle .now) (a .positions .now) (a .exclusions .now) (a .pairs .now) (a .references .now) (a .starts .now) (a .items .now) (a .forces .now) in settled-by j (c .before .before .before .before .before .before .before .before .before .before .before .before .before .update .ensures) (c .before .before .after-list .ensures .0) (c .before .before .after-list .ensures .1)
 
 pub settle-spec : {M : Type 1} → statement M
 settle-spec =

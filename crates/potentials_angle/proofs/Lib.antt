@@ -1,0 +1,4 @@
+pub mod Kernels
+pub mod Newton
+pub mod Only
+pub mod Source
