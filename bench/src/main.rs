@@ -24,9 +24,10 @@ enum Unit {
     Pair,
     Bond,
     Angle,
+    Random,
 }
 
-const LINES: [Line; 17] = [
+const LINES: [Line; 18] = [
     ("build", Unit::Check, "0.6"),
     ("build, an exclusion an atom", Unit::Check, "0.2"),
     ("build, tilted", Unit::Check, "0.8"),
@@ -34,16 +35,17 @@ const LINES: [Line; 17] = [
     ("rebuild question", Unit::Atom, ""),
     ("Lennard-Jones", Unit::Pair, "0.5"),
     ("Lennard-Jones, handed pairs()", Unit::Pair, ""),
-    ("Coulomb", Unit::Pair, "3"),
-    ("bonds", Unit::Bond, "3"),
+    ("Coulomb", Unit::Pair, "1.3"),
+    ("bonds", Unit::Bond, "1.8"),
     ("angles", Unit::Angle, ""),
-    ("angles, the library's root on both sides", Unit::Angle, "1.3"),
+    ("angles, the same root on both sides", Unit::Angle, "1.3"),
     ("evaluator, every term", Unit::Pair, ""),
     ("step, list kept, Lennard-Jones", Unit::Atom, "0.8"),
     ("step, list kept, every term", Unit::Atom, "1.5"),
     ("step, list built, Lennard-Jones", Unit::Atom, "0.6"),
     ("step, list built, every term", Unit::Atom, ""),
     ("clumps, beside the same in Rust", Unit::Pair, "1.3"),
+    ("clumps of 50 random pairs an atom", Unit::Random, "1.3"),
 ];
 
 fn sides<'a>(line: &str, d: &'a Data) -> Sides<'a> {
@@ -58,13 +60,14 @@ fn sides<'a>(line: &str, d: &'a Data) -> Sides<'a> {
         "Coulomb" => sides::coulomb(d),
         "bonds" => sides::bonds(d),
         "angles" => sides::angles(d, f64::sqrt),
-        "angles, the library's root on both sides" => sides::angles(d, sides::root),
+        "angles, the same root on both sides" => sides::angles(d, sides::root),
         "evaluator, every term" => sides::evaluator(d),
         "step, list kept, Lennard-Jones" => sides::step(d, false, true),
         "step, list kept, every term" => sides::step(d, true, true),
         "step, list built, Lennard-Jones" => sides::step(d, false, false),
         "step, list built, every term" => sides::step(d, true, false),
         "clumps, beside the same in Rust" => sides::clumps(d),
+        "clumps of 50 random pairs an atom" => sides::clumps_at_random(d),
         _ => unreachable!("every line is above"),
     }
 }
@@ -78,6 +81,7 @@ fn units(line: &Line, d: &Data) -> usize {
         Unit::Pair => pairs,
         Unit::Bond => d.bonds.len(),
         Unit::Angle => d.angles.triples.len(),
+        Unit::Random => sides::RANDOM * d.n,
     }
 }
 
@@ -132,7 +136,7 @@ fn row(line: &Line, d: &Data, o: &Options) -> bool {
     let unit = match line.1 {
         Unit::Check => "check",
         Unit::Atom => "atom",
-        Unit::Pair => "pair",
+        Unit::Pair | Unit::Random => "pair",
         Unit::Bond => "bond",
         Unit::Angle => "angle",
     };

@@ -138,42 +138,41 @@ pub fn bonds(d: &Data) -> Sides<'_> {
     (first, plain(Default::default(), run, of_term))
 }
 
-/// The library's root.
+/// `float::quick_root` in Rust, of a normal number above zero: an estimate by Newton's steps, confirmed in whole numbers; the machine's where it is not.
 pub fn root(x: f64) -> f64 {
-    extern "C" {
-        fn tyn_root(x: f64) -> f64;
+    const LEAD: u64 = 1 << 52;
+    let (half, bits) = (0.5 * x, x.to_bits());
+    let mut y = f64::from_bits(6910469410427058089 - bits / 2);
+    for _ in 0..3 {
+        y *= 1.5 - half * y * y;
     }
-    // SAFETY: the declaration is the header's; it takes every float.
-    unsafe { tyn_root(x) }
+    let s = x * y;
+    let s = (s + 0.5 * y * (x - s * s)).to_bits() % LEAD + LEAD;
+    let odd = (bits / LEAD + 1) % 2;
+    let v = (bits % LEAD + LEAD) << odd;
+    let (a, b) = (s >> 26, s % (1 << 26));
+    let p = a * a + (a * b >> 25);
+    let q = ((a * b % (1 << 25)) << 27) + b * b;
+    let d = v + (1 << 56) + 8 - p;
+    let left = d % 16 * LEAD + (1 << 57) - (1 << 55) - q;
+    let (up, down) = (((1 << 57) + s < left) as u64, (left + s <= 1 << 57) as u64);
+    let near = (d / 16 == LEAD) & (left <= (1 << 57) + 2 + 3 * s) & ((1 << 57) + 2 < left + 3 * s);
+    if near {
+        f64::from_bits((bits / LEAD + 1023 - odd) / 2 * LEAD + s + up - down - LEAD)
+    } else {
+        x.sqrt()
+    }
 }
 
-/// The original has no cosine angles: its `HarmonicAngles::compute_all` with their energy and factor, and the root as it is given.
+mod beside {
+    use crate::original::cell::{min_image, vec3, Lattice};
+    use crate::original::virial::Contribution;
+    include!("../../rust/original_angles.rs");
+}
+
 fn their_angles(d: &Data, cell: &ocell::Lattice, root: impl Fn(f64) -> f64) -> ovirial::Contribution {
-    use ocell::{min_image, vec3};
-    let (p, a) = (black_box(&d.positions), &d.angles);
-    let mut acc = ovirial::Contribution::zeros(p.len());
-    for (row, &(i, apex, k)) in a.triples.iter().enumerate() {
-        let (strength, rest) = a.per_angle.get(row).copied().unwrap_or((a.k, a.rest));
-        let rij = min_image(vec3::sub(p[i], p[apex]), Some(cell));
-        let rkj = min_image(vec3::sub(p[k], p[apex]), Some(cell));
-        let lij = root(vec3::norm2(rij));
-        let lkj = root(vec3::norm2(rkj));
-        if lij < 1e-9 || lkj < 1e-9 {
-            continue;
-        }
-        let c = (vec3::dot(rij, rkj) / (lij * lkj)).clamp(-1.0, 1.0);
-        let off = c - rest;
-        acc.energy += 0.5 * strength * off * off;
-        let coef = -(strength * off);
-        let fi = vec3::scale(vec3::sub(vec3::scale(rkj, 1.0 / (lij * lkj)), vec3::scale(rij, c / (lij * lij))), coef);
-        let fk = vec3::scale(vec3::sub(vec3::scale(rij, 1.0 / (lij * lkj)), vec3::scale(rkj, c / (lkj * lkj))), coef);
-        vec3::add_assign(&mut acc.forces[i], fi);
-        vec3::add_assign(&mut acc.forces[k], fk);
-        vec3::add_assign(&mut acc.forces[apex], vec3::scale(vec3::add(fi, fk), -1.0));
-        acc.virial_from_pair(rij, fi);
-        acc.virial_from_pair(rkj, fk);
-    }
-    acc
+    let a = &d.angles;
+    beside::over_angles(&a.triples, &a.per_angle, (a.k, a.rest), black_box(&d.positions), Some(cell), root, beside::cosine)
 }
 
 pub fn angles<'a>(d: &'a Data, root: impl Fn(f64) -> f64 + Copy + 'a) -> Sides<'a> {
@@ -340,11 +339,26 @@ fn labelled(rows: &[[u32; 2]], labels: &mut [u32]) -> Option<usize> {
     Some(clumps)
 }
 
+/// How many pairs an atom [`clumps_at_random`] has: 800,000 of 16,000 atoms.
+pub const RANDOM: usize = 50;
+
 /// The clumps of the list, by its rows.
 pub fn clumps(d: &Data) -> Sides<'_> {
-    let (a, b) = built(d, false);
-    let rows: Vec<[u32; 2]> = a.pairs().iter().map(|&(i, j)| [i as u32, j as u32]).collect();
-    let flat: Vec<u32> = b.pairs().iter().flat_map(|&(i, j)| [i as u32, j as u32]).collect();
+    clumps_of(d, built(d, false).0.pairs().iter().map(|&(i, j)| [i as u32, j as u32]).collect())
+}
+
+/// .. and of atoms taken at random.
+pub fn clumps_at_random(d: &Data) -> Sides<'_> {
+    let mut seed = 7u64;
+    let mut atom = || {
+        seed = seed.wrapping_mul(6364136223846793005).wrapping_add(1442695040888963407);
+        ((seed >> 33) % d.n as u64) as u32
+    };
+    clumps_of(d, (0..RANDOM * d.n).map(|_| [atom(), atom()]).collect())
+}
+
+fn clumps_of(d: &Data, rows: Vec<[u32; 2]>) -> Sides<'_> {
+    let flat = rows.as_flattened().to_vec();
     let of = |s: &(Vec<u32>, usize)| s.0.iter().fold(Digest(s.1 as u64), |h, &l| h.word(l as u64)).0;
     let first = plain((vec![0; d.n], 0), move |s| s.1 = labelled(black_box(&rows), &mut s.0).expect("answered"), of);
     let second = plain((vec![0; d.n], 0), move |s| s.1 = tyngyrlak::clumps::label(black_box(&flat), &mut s.0).expect("answered"), of);

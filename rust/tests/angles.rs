@@ -14,28 +14,10 @@ mod compare {
     pub use super::original::potentials::HarmonicAngles;
     pub use super::original::virial::Contribution;
 
-    /// `HarmonicAngles::compute_all`; `of` gives energy and factor of k, the row's second number and the cosine.
+    include!("../original_angles.rs");
+
     pub fn over(h: &HarmonicAngles, p: &[[f64; 3]], cell: Option<&Lattice>, of: impl Fn(f64, f64, f64) -> (f64, f64)) -> Contribution {
-        let mut acc = Contribution::zeros(p.len());
-        for (row, &(i, apex, k)) in h.triples.iter().enumerate() {
-            let (strength, rest) = h.per_angle.get(row).copied().unwrap_or((h.k, h.theta0));
-            let (rij, rkj) = (min_image(vec3::sub(p[i], p[apex]), cell), min_image(vec3::sub(p[k], p[apex]), cell));
-            let (lij, lkj) = (vec3::norm(rij), vec3::norm(rkj));
-            if lij < 1e-9 || lkj < 1e-9 {
-                continue;
-            }
-            let c = (vec3::dot(rij, rkj) / (lij * lkj)).clamp(-1.0, 1.0);
-            let (energy, coef) = of(strength, rest, c);
-            acc.energy += energy;
-            let fi = vec3::scale(vec3::sub(vec3::scale(rkj, 1.0 / (lij * lkj)), vec3::scale(rij, c / (lij * lij))), coef);
-            let fk = vec3::scale(vec3::sub(vec3::scale(rij, 1.0 / (lij * lkj)), vec3::scale(rkj, c / (lkj * lkj))), coef);
-            vec3::add_assign(&mut acc.forces[i], fi);
-            vec3::add_assign(&mut acc.forces[k], fk);
-            vec3::add_assign(&mut acc.forces[apex], vec3::scale(vec3::add(fi, fk), -1.0));
-            acc.virial_from_pair(rij, fi);
-            acc.virial_from_pair(rkj, fk);
-        }
-        acc
+        over_angles(&h.triples, &h.per_angle, (h.k, h.theta0), p, cell, f64::sqrt, of)
     }
 
     pub fn bits(energy: f64, forces: &[[f64; 3]], virial: &[[f64; 3]; 3]) -> Vec<u64> {
@@ -71,10 +53,7 @@ compared! {
             });
             let said = h.compute_all(&p, theirs.as_ref());
             assert_eq!(bits(harmonic.energy, &harmonic.forces, &harmonic.virial), bits(said.energy, &said.forces, &said.virial), "round {round}");
-            let want = over(&h, &p, theirs.as_ref(), |k, rest, c| {
-                let d = c - rest;
-                (0.5 * k * d * d, -(k * d))
-            });
+            let want = over(&h, &p, theirs.as_ref(), cosine);
             let got = ours.compute_all(&p, cell.as_ref()).unwrap();
             assert_eq!(bits(got.energy, &got.forces, &got.virial), bits(want.energy, &want.forces, &want.virial), "round {round}");
             assert_eq!(ours.compute(&p, cell.as_ref()).unwrap(), (got.energy, got.forces));
