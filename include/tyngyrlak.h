@@ -349,6 +349,26 @@ typedef struct {
     double potential;
 } tyn_stepped;
 
+/* How a box is settled: most iterations (at most 100,000), the force tolerance on the largest component, the first time step and the largest. */
+typedef struct {
+    uint32_t max_iters;
+    double force_tol;
+    double dt;
+    double dt_max;
+} tyn_fire_options;
+
+/* The iterations, or the one that was refused; whether a 7 or 8 stopped it after a drift and whether the tolerance was reached (flags); energy and
+ * largest force component of the last evaluation that was answered, zero where there was none; the list's state, which comes back in every case. */
+typedef struct {
+    tyn_done done;
+    uint32_t iteration;
+    uint32_t stopped;
+    uint32_t converged;
+    double energy;
+    double max_force;
+    tyn_state state;
+} tyn_fired;
+
 /* ---- Helpers on floats: total on every float, no refusal. One not-a-number. */
 
 /* The square root of x, rounded to nearest; of a number below 0 not a number. */
@@ -634,6 +654,18 @@ tyn_stepped tyn_finish(tyn_setting setting, tyn_pace pace, tyn_state s, double p
     size_t bonds_len, const double *lengths, size_t lengths_len, const double *ks, size_t ks_len, const uint32_t *angles, size_t angles_len,
     const double *per_angle, size_t per_angle_len, const double *masses, size_t masses_len, const uint32_t *exclusions, size_t exclusions_len,
     const double *positions, size_t positions_len, double *velocities, size_t velocities_len, uint32_t *pairs, size_t pairs_len, double *references,
+    size_t references_len, uint32_t *starts, size_t starts_len, uint32_t *items, size_t items_len, double *forces, size_t forces_len);
+
+/* ---- Settling a freshly packed box (fire.rs). */
+
+/* Relaxes the positions to a local minimum of the energy by damped steps: the first evaluation, the atoms at rest, then iterations until the largest
+ * force component is within the tolerance or the limit is reached. forces is a room. A refusal inside an iteration tells it and leaves what a step
+ * stopped there leaves. Refusals 1, 2, 6, 3, 4, 5, then 7, 8, in an iteration also the drift (3, place 1). */
+tyn_fired tyn_fire(tyn_fire_options o, tyn_setting setting, tyn_state s, const uint32_t *ids, size_t ids_len, const double *params,
+    size_t params_len, const uint32_t *species, size_t species_len, const double *charges, size_t charges_len, const uint32_t *bonds,
+    size_t bonds_len, const double *lengths, size_t lengths_len, const double *ks, size_t ks_len, const uint32_t *angles, size_t angles_len,
+    const double *per_angle, size_t per_angle_len, const double *masses, size_t masses_len, const uint32_t *exclusions, size_t exclusions_len,
+    double *positions, size_t positions_len, double *velocities, size_t velocities_len, uint32_t *pairs, size_t pairs_len, double *references,
     size_t references_len, uint32_t *starts, size_t starts_len, uint32_t *items, size_t items_len, double *forces, size_t forces_len);
 
 #ifdef __cplusplus

@@ -12,7 +12,7 @@ pub fn write(units: &str) -> bool {
     let out = PathBuf::from(env::var_os("OUT_DIR").expect("cargo sets OUT_DIR")).join("original");
     fs::create_dir_all(&out).expect("OUT_DIR can be written");
     let mut tree = String::from("/// The Rust original.\n#[allow(unexpected_cfgs, dead_code, missing_docs, rustdoc::all, clippy::all)]\npub mod original {\n");
-    for name in ["cell", "neighbor", "potentials", "virial", "verlet"] {
+    for name in ["cell", "neighbor", "potentials", "virial", "verlet", "fire"] {
         let from = folder.join(format!("{name}.rs"));
         let text = fs::read_to_string(&from).unwrap_or_else(|e| panic!("FIELD_SRC names a folder without {name}.rs: {e}"));
         tree += &module(&out, name, &text);

@@ -25,9 +25,10 @@ enum Unit {
     Bond,
     Angle,
     Random,
+    Iteration,
 }
 
-const LINES: [Line; 18] = [
+const LINES: [Line; 20] = [
     ("build", Unit::Check, "0.6"),
     ("build, an exclusion an atom", Unit::Check, "0.2"),
     ("build, tilted", Unit::Check, "0.8"),
@@ -44,6 +45,8 @@ const LINES: [Line; 18] = [
     ("step, list kept, every term", Unit::Atom, "1.5"),
     ("step, list built, Lennard-Jones", Unit::Atom, "0.6"),
     ("step, list built, every term", Unit::Atom, ""),
+    ("iteration, list kept, Lennard-Jones", Unit::Iteration, ""),
+    ("iteration, list kept, every term", Unit::Iteration, ""),
     ("clumps, beside the same in Rust", Unit::Pair, "1.3"),
     ("clumps of 50 random pairs an atom", Unit::Random, "1.3"),
 ];
@@ -66,6 +69,8 @@ fn sides<'a>(line: &str, d: &'a Data) -> Sides<'a> {
         "step, list kept, every term" => sides::step(d, true, true),
         "step, list built, Lennard-Jones" => sides::step(d, false, false),
         "step, list built, every term" => sides::step(d, true, false),
+        "iteration, list kept, Lennard-Jones" => sides::settling(d, false),
+        "iteration, list kept, every term" => sides::settling(d, true),
         "clumps, beside the same in Rust" => sides::clumps(d),
         "clumps of 50 random pairs an atom" => sides::clumps_at_random(d),
         _ => unreachable!("every line is above"),
@@ -82,6 +87,7 @@ fn units(line: &Line, d: &Data) -> usize {
         Unit::Bond => d.bonds.len(),
         Unit::Angle => d.angles.triples.len(),
         Unit::Random => sides::RANDOM * d.n,
+        Unit::Iteration => sides::ITERATIONS * d.n,
     }
 }
 
@@ -135,7 +141,7 @@ fn row(line: &Line, d: &Data, o: &Options) -> bool {
     let each = units(line, d) as f64;
     let unit = match line.1 {
         Unit::Check => "check",
-        Unit::Atom => "atom",
+        Unit::Atom | Unit::Iteration => "atom",
         Unit::Pair | Unit::Random => "pair",
         Unit::Bond => "bond",
         Unit::Angle => "angle",

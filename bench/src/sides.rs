@@ -1,8 +1,8 @@
 //! The two sides, the original and the library, as a user calls them.
 use crate::data::{Data, Digest, CUTOFF, DT, SKIN, THERMOSTAT};
-use crate::original::{cell as ocell, neighbor as oneighbor, potentials as opotentials, verlet as overlet, virial as ovirial};
+use crate::original::{cell as ocell, fire as ofire, neighbor as oneighbor, potentials as opotentials, verlet as overlet, virial as ovirial};
 use std::hint::black_box;
-use tyngyrlak::{verlet_step, Contribution, Evaluator, Lattice, NeighborList};
+use tyngyrlak::{fire, verlet_step, Contribution, Evaluator, FireOptions, Lattice, NeighborList};
 
 /// What is timed: a repetition, and the digest of its answer. `reset` is called before each run of repetitions.
 pub trait Side {
@@ -290,6 +290,11 @@ impl Side for OurStep<'_> {
 /// `every` term, the exclusions with them, or Lennard-Jones alone. `kept`: with the skin, so that the list is kept; else no skin and a cutoff longer by
 /// as much, so that each step builds the same list anew.
 pub fn step(d: &Data, every: bool, kept: bool) -> Sides<'_> {
+    let (a, b) = steps(d, every, kept);
+    (Box::new(a), Box::new(b))
+}
+
+fn steps(d: &Data, every: bool, kept: bool) -> (TheirStep<'_>, OurStep<'_>) {
     let (mut a, mut b) = lists(d, every);
     if !kept {
         (a.cutoff, a.skin) = (CUTOFF + SKIN, 0.0);
@@ -300,7 +305,49 @@ pub fn step(d: &Data, every: bool, kept: bool) -> Sides<'_> {
     let start = (start.energy, start.forces);
     let mut eval = Evaluator::new(b, &d.terms(every), Some(d.cube));
     eval.evaluate(&d.positions).expect("answered");
-    (Box::new(TheirStep(Motion::new(d, start.clone()), terms, a)), Box::new(OurStep(Motion::new(d, start), eval)))
+    (TheirStep(Motion::new(d, start.clone()), terms, a), OurStep(Motion::new(d, start), eval))
+}
+
+/// Iterations of a relaxation that is timed; the first evaluation comes on top of them.
+pub const ITERATIONS: usize = 40;
+/// A time step so short that the list is kept, and no tolerance.
+const SETTLING: FireOptions = FireOptions { max_iters: ITERATIONS, force_tol: 0.0, dt: 0.125, dt_max: 0.125 };
+
+struct TheirFire<'a>(TheirStep<'a>);
+struct OurFire<'a>(OurStep<'a>);
+
+impl Side for TheirFire<'_> {
+    fn rep(&mut self) {
+        let TheirStep(m, terms, list) = &mut self.0;
+        m.reset();
+        let FireOptions { max_iters, force_tol, dt, dt_max } = SETTLING;
+        let opts = ofire::FireOptions { max_iters, force_tol, dt, dt_max };
+        let r = ofire::fire(&mut m.positions, &mut m.velocities, &m.d.masses, &opts, |at| {
+            let sum = terms.run(list, at);
+            (sum.energy, sum.forces)
+        });
+        m.potential = r.energy;
+    }
+    fn digest(&self) -> u64 {
+        self.0.digest()
+    }
+}
+
+impl Side for OurFire<'_> {
+    fn rep(&mut self) {
+        let OurStep(m, eval) = &mut self.0;
+        m.reset();
+        m.potential = fire(&mut m.positions, &mut m.velocities, &m.d.masses, &SETTLING, eval).expect("answered").energy;
+    }
+    fn digest(&self) -> u64 {
+        self.0.digest()
+    }
+}
+
+/// A relaxation over a list that is kept.
+pub fn settling(d: &Data, every: bool) -> Sides<'_> {
+    let (a, b) = steps(d, every, true);
+    (Box::new(TheirFire(a)), Box::new(OurFire(b)))
 }
 
 /// The library's own steps in Rust: the original has no clumps. Every pair is tested first; an atom points at itself or at a lower one of its clump.

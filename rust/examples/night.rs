@@ -20,6 +20,8 @@
 //! angle I APEX K STRENGTH REST     with numbers of its own: such angles come first
 //! exclude I J
 //! thermostat KELVIN TAU
+//! settle COUNT TOLERANCE [SHOWN]   before the steps: at most so many iterations of FIRE, until no force component is past TOLERANCE; in rounds of SHOWN,
+//!                                  each from rest and with a line of progress. The atoms' velocities stay
 //! steps COUNT DT [SHOWN]           every so many steps a line of progress
 //! atom MASS SPECIES CHARGE X Y Z [VX VY VZ]
 //! grid NX NY NZ MASS SPECIES KELVIN      atoms spread evenly over the cell, with velocities of that temperature
@@ -43,6 +45,7 @@ struct Run {
     bonded: Vec<(usize, usize)>,
     angles: Option<CosineAngles>,
     thermostat: Option<Berendsen>,
+    settle: Option<Settle>,
     steps: usize,
     dt: f64,
     shown: usize,
@@ -52,6 +55,13 @@ struct Run {
     positions: Vec<[f64; 3]>,
     velocities: Vec<[f64; 3]>,
     unfold: bool,
+}
+
+/// How a fresh box is settled: the most iterations, the tolerance, and the iterations of a round.
+struct Settle {
+    most: usize,
+    tolerance: f64,
+    shown: usize,
 }
 
 /// An atom's path: where it began, where it was last seen in the cell, and how many boxes it has crossed since.
@@ -133,6 +143,8 @@ impl Run {
             }
             ("exclude", &[i, j]) => self.excluded.push((i as usize, j as usize)),
             ("thermostat", &[target_k, tau_fs]) => self.thermostat = Some(Berendsen { target_k, tau_fs }),
+            ("settle", &[most, tolerance]) => self.settle = Some(Settle { most: most as usize, tolerance, shown: most as usize }),
+            ("settle", &[most, tolerance, shown]) => self.settle = Some(Settle { most: most as usize, tolerance, shown: shown as usize }),
             ("steps", &[steps, dt]) => (self.steps, self.dt) = (steps as usize, dt),
             ("steps", &[steps, dt, shown]) => (self.steps, self.dt, self.shown) = (steps as usize, dt, shown as usize),
             ("atom", &[mass, species, charge, x, y, z]) => self.atom(mass, species, charge, [x, y, z], [0.0; 3]),
@@ -176,17 +188,35 @@ impl Run {
         Ok(())
     }
 
+    /// FIRE's velocities are its own: the atoms keep theirs.
+    fn settle(&mut self, settle: Settle, eval: &mut Evaluator) -> Result<(), Box<dyn Error>> {
+        let mut own = vec![[0.0; 3]; self.positions.len()];
+        let (mut done, round) = (0, settle.shown.max(1));
+        loop {
+            let opts = FireOptions { max_iters: round.min(settle.most - done), force_tol: settle.tolerance, ..FireOptions::default() };
+            let r = fire(&mut self.positions, &mut own, &self.masses, &opts, eval).map_err(|e| format!("settling, after {done} iterations: {e}"))?;
+            done += r.iters;
+            println!("settle {done:>6}  {:14.6e} eV/A  {:14.6} eV  {:>5} builds", r.max_force, r.energy, eval.list.builds());
+            if r.converged || done >= settle.most {
+                return Ok(());
+            }
+        }
+    }
+
     fn go(mut self) -> Result<(), Box<dyn Error>> {
         let n = self.positions.len();
         let dof = 3.0 * n as f64;
         let terms = Terms {
-            lennard_jones: self.lj.take().map(|lj| (lj, self.numbers)),
-            coulomb: self.coulomb.take().map(|q| (q, self.charges)),
-            bonds: self.bonds.take().map(|b| (b, self.bonded)),
+            lennard_jones: self.lj.take().map(|lj| (lj, std::mem::take(&mut self.numbers))),
+            coulomb: self.coulomb.take().map(|q| (q, std::mem::take(&mut self.charges))),
+            bonds: self.bonds.take().map(|b| (b, std::mem::take(&mut self.bonded))),
             angles: self.angles.take(),
         };
-        self.list.set_exclusions(self.excluded);
-        let mut eval = Evaluator::new(self.list, &terms, self.cell);
+        self.list.set_exclusions(std::mem::take(&mut self.excluded));
+        let mut eval = Evaluator::new(std::mem::take(&mut self.list), &terms, self.cell);
+        if let Some(settle) = self.settle.take() {
+            self.settle(settle, &mut eval)?;
+        }
         let start = eval.evaluate(&self.positions)?;
         let (mut forces, mut potential) = (start.forces, start.energy);
         println!("{n} atoms, {} pairs, {} steps of {} fs", eval.list.pair_rows().len(), self.steps, self.dt);

@@ -16,6 +16,8 @@ pub struct Error {
     pub place: u64,
     /// Whether a step stopped after its drift: [`verlet_finish`](crate::field::verlet::verlet_finish) then takes it to its end.
     pub stopped: bool,
+    /// Of [`fire`](crate::field::fire::fire()): the iteration that was refused, 0 before the first. Of other calls 0.
+    pub iteration: u32,
 }
 
 impl Error {
@@ -44,6 +46,9 @@ impl Error {
 impl fmt::Display for Error {
     fn fmt(&self, f: &mut fmt::Formatter<'_>) -> fmt::Result {
         write!(f, "{}: refusal {}, place {}: {}", self.call, self.number, self.place, self.words())?;
+        if self.iteration > 0 {
+            write!(f, " (in iteration {})", self.iteration)?;
+        }
         if self.stopped {
             write!(f, " (the step stopped after its drift)")?;
         }
@@ -58,7 +63,7 @@ impl Done {
     pub(crate) fn of(self, call: &'static str) -> Result<(), Error> {
         match self.number {
             0 => Ok(()),
-            number => Err(Error { call, number: number as u32, place: self.place, stopped: false }),
+            number => Err(Error { call, number: number as u32, place: self.place, stopped: false, iteration: 0 }),
         }
     }
 }

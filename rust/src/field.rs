@@ -2,6 +2,7 @@
 pub mod cell;
 pub mod clumps;
 pub mod evaluate;
+pub mod fire;
 pub mod neighbor;
 pub mod potentials;
 pub mod units;
@@ -11,6 +12,7 @@ pub mod virial;
 pub use cell::{min_image, min_image_counted, Boxes, Lattice};
 pub use clumps::{clumps, sheet_clumps, Clumps};
 pub use evaluate::{Evaluator, Terms};
+pub use fire::{fire, FireOptions, FireResult};
 pub use neighbor::{NeighborList, PairRows};
 pub use potentials::{CosineAngles, Coulomb, HarmonicBonds, LennardJones};
 pub use verlet::{apply_berendsen, kinetic_energy, temperature, verlet_finish, verlet_step, Berendsen};

@@ -34,6 +34,7 @@ structs! {
     /// What an evaluation goes by besides its tables.
     Setting { lj: LjTerm, coulomb: CoulombTerm, bond: BondTerm, angle: AngleTerm, units: Units, cell: Cell }
     Pace { dt: f64, thermostat: Thermostat }
+    FireOptions { max_iters: u32, force_tol: f64, dt: f64, dt_max: f64 }
     Frame { ex: u32, ey: u32, ez: u32, px: u32, py: u32, pz: u32, radius: u32 }
     Spot { x: u32, y: u32, z: u32 }
 
@@ -52,6 +53,7 @@ structs! {
     Sheet { done: Done, job: Job }
     Evaluated { done: Done, rebuilt: u32, state: State, sum: Sum }
     Stepped { done: Done, stopped: u32, rebuilt: u32, state: State, potential: f64 }
+    Fired { done: Done, iteration: u32, stopped: u32, converged: u32, energy: f64, max_force: f64, state: State }
 }
 
 // Splits each argument into what C is handed ([..] of a declaration), the parameter of the safe form, and what it hands on: a slice is a pointer and a length.
@@ -146,6 +148,9 @@ calls! {
     fn tyn_finish(setting: Setting, pace: Pace, s: State, potential: f64, ids: &[u32], params: &[f64], species: &[u32], charges: &[f64], bonds: &[u32],
         lengths: &[f64], ks: &[f64], angles: &[u32], per_angle: &[f64], masses: &[f64], exclusions: &[u32], positions: &[f64], velocities: &mut [f64], pairs: &mut [u32],
         references: &mut [f64], starts: &mut [u32], items: &mut [u32], forces: &mut [f64]) -> Stepped;
+    fn tyn_fire(o: FireOptions, setting: Setting, s: State, ids: &[u32], params: &[f64], species: &[u32], charges: &[f64], bonds: &[u32],
+        lengths: &[f64], ks: &[f64], angles: &[u32], per_angle: &[f64], masses: &[f64], exclusions: &[u32], positions: &mut [f64], velocities: &mut [f64], pairs: &mut [u32],
+        references: &mut [f64], starts: &mut [u32], items: &mut [u32], forces: &mut [f64]) -> Fired;
 }
 
 impl From<[f64; 3]> for Vec3 {

@@ -111,4 +111,48 @@ tests! {
         list.build(&p, None).unwrap();
         assert_eq!((list.pairs(), list.checks()), (&[(0, 2), (0, 3), (1, 3), (2, 3)][..], 4));
     }
+
+    fn settling_starts_again_with_more_room() {
+        // 200 atoms too far apart: they come closer, until more than the first room's 12,800 pairs are within the radius
+        let apart = liquid(&mut Rng(9), 200, 26.0);
+        let within = |radius: f64| {
+            let mut list = NeighborList::new(radius, 0.0);
+            list.build(&apart, None).unwrap();
+            list.pairs().len()
+        };
+        let radius = (0..).map(|k| 17.0 + 0.01 * f64::from(k)).take_while(|&r| within(r) <= 12_800).last().unwrap();
+        let settle = |eval: &mut Evaluator| {
+            let (mut p, mut v) = (apart.clone(), vec![[1e-3, 0.0, -1e-3]; 200]);
+            let r = fire(&mut p, &mut v, &[39.948; 200], &FireOptions { max_iters: 60, ..FireOptions::default() }, eval).unwrap();
+            (p, v, r, eval.list.pairs().to_vec())
+        };
+        let narrow = settle(&mut Evaluator::new(NeighborList::new(radius, 0.0), &argon(200), None));
+        let mut wide = Evaluator::new(NeighborList::new(radius, 0.0), &argon(200), None);
+        wide.evaluate(&dense()).unwrap();
+        assert_eq!(narrow, settle(&mut wide));
+        assert!(narrow.2.iters == 60 && narrow.3.len() > 12_800);
+    }
+
+    fn settling_tells_its_iteration() {
+        let (mut p, mut v, masses) = (vec![[0.0; 3], [4.0, 0.0, 0.0]], vec![[0.5; 3]; 2], vec![40.0; 2]);
+        let mut eval = Evaluator::new(NeighborList::new(1e-3, 0.0), &argon(2), None);
+        let far = [[0.0; 3], [90.0; 3]];
+        let e = fire(&mut far.clone(), &mut v, &masses, &FireOptions::default(), &mut eval).unwrap_err();
+        assert_eq!((e.number, e.iteration, e.stopped), (7, 0, false));
+        assert_eq!(v, vec![[0.5; 3]; 2]);
+        let mut eval = Evaluator::new(NeighborList::new(10.0, 1.0), &argon(2), None);
+        let many = FireOptions { max_iters: 100_001, ..FireOptions::default() };
+        assert_eq!(refused(fire(&mut p, &mut v, &masses, &many, &mut eval)), (3, 0));
+        let far = FireOptions { dt: 1024.0, dt_max: 1024.0, ..FireOptions::default() };
+        let mut near = vec![[0.0; 3], [0.5, 0.0, 0.0]];
+        let e = fire(&mut near, &mut v, &masses, &far, &mut eval).unwrap_err();
+        assert_eq!((e.number, e.place, e.iteration, e.stopped), (3, 1, 1, false));
+        assert!(e.to_string().contains("in iteration 1"), "{e}");
+        assert_eq!((near[1], v[1]), ([0.5, 0.0, 0.0], [0.0; 3]));
+        let r = fire(&mut p, &mut v, &masses, &FireOptions::default(), &mut eval).unwrap();
+        assert!(r.converged && r.iters <= 2000 && r.max_force <= 1e-4 && r.energy < 0.0);
+        let at = eval.evaluate(&p).unwrap();
+        assert_eq!(at.energy, r.energy);
+        assert!(at.forces.iter().flatten().all(|c| c.abs() <= 1e-4));
+    }
 }

@@ -8,7 +8,7 @@ include!(concat!(env!("OUT_DIR"), "/original.rs"));
 #[cfg(original)]
 mod compare {
     pub use super::common::{liquid, Rng};
-    pub use super::original::{cell as ocell, neighbor as oneighbor, potentials as opotentials, verlet as overlet, virial as ovirial};
+    pub use super::original::{cell as ocell, fire as ofire, neighbor as oneighbor, potentials as opotentials, verlet as overlet, virial as ovirial};
     pub use std::collections::HashMap;
     pub use tyngyrlak::*;
 
@@ -279,6 +279,80 @@ compared! {
             }
             same_list("after the steps", &eval.list, &its);
             assert!(its.builds() > 2, "the list is built anew on the way");
+        }
+    }
+
+    // a packed box: every iteration, by as many limits, and to its end
+    fn settlings() {
+        let mut r = Rng(6);
+        let (n, edge) = (120, 22.0);
+        let s = System::new(&mut r, n);
+        let defaults = ofire::FireOptions::default();
+        let ours = FireOptions::default();
+        assert_eq!((ours.max_iters, ours.force_tol, ours.dt, ours.dt_max), (defaults.max_iters, defaults.force_tol, defaults.dt, defaults.dt_max));
+        for cell in cells(edge).into_iter().take(6) {
+            let of = cell.map(|c| theirs(&c));
+            let mut p = liquid(&mut r, n, 1.0);
+            let cart = Lattice::cubic(edge);
+            p.iter_mut().for_each(|x| *x = cell.unwrap_or(cart).to_cartesian(*x).unwrap());
+            let v: Vec<[f64; 3]> = (0..n).map(|_| r.three(-1e-2, 1e-2)).collect();
+            // where an axis is open atoms may fly off, and a grid that spans them all has too many cells (7)
+            let closed = cell.is_some_and(|c| c.periodic == [true; 3]);
+            for (max_iters, force_tol) in (0..24).map(|k| (k, 1e-4)).chain([(5, 100.0), (60, 1e-4), (1000, 0.02)]).filter(|o| o.0 < 24 || closed) {
+                let (mut op, mut ov, mut p, mut v) = (p.clone(), v.clone(), p.clone(), v.clone());
+                let (mut ours, mut its) = (NeighborList::new(6.0, 0.3), oneighbor::NeighborList::new(6.0, 0.3));
+                ours.set_exclusions(s.bonds.iter().copied());
+                its.set_exclusions(s.bonds.iter().copied());
+                let mut eval = Evaluator::new(ours, &s.terms(), cell);
+                let got = fire(&mut p, &mut v, &s.masses, &FireOptions { max_iters, force_tol, ..FireOptions::default() }, &mut eval).unwrap();
+                let want = ofire::fire(&mut op, &mut ov, &s.masses, &ofire::FireOptions { max_iters, force_tol, ..defaults }, |x| {
+                    let c = s.theirs(x, &mut its, of.as_ref());
+                    (c.energy, c.forces)
+                });
+                let what = format!("{cell:?}, {max_iters} iterations to {force_tol}");
+                assert_eq!((got.converged, got.iters), (want.converged, want.iters), "{what}");
+                same(&what, &[got.energy, got.max_force], &[want.energy, want.max_force]);
+                same(&what, p.as_flattened(), op.as_flattened());
+                same(&what, v.as_flattened(), ov.as_flattened());
+                same_list(&what, &eval.list, &its);
+            }
+        }
+    }
+
+    // 500 atoms to convergence, held against each iteration of the original: all of the first ones, then every STRIDE-th and the last
+    fn a_packed_box_settles() {
+        const STRIDE: usize = 10;
+        let mut r = Rng(7);
+        let (n, edge) = (500, 28.0);
+        let (s, cell) = (System::new(&mut r, n), Lattice::cubic(edge));
+        let of = theirs(&cell);
+        let p = liquid(&mut r, n, edge);
+        let mut its = oneighbor::NeighborList::new(8.5, 0.5);
+        its.set_exclusions(s.bonds.iter().copied());
+        let (mut op, mut ov) = (p.clone(), vec![[0.0; 3]; n]);
+        // what the original's closure sees: positions, energy and forces of each iteration
+        let mut seen = Vec::new();
+        let opts = ofire::FireOptions { force_tol: 0.02, ..ofire::FireOptions::default() };
+        let want = ofire::fire(&mut op, &mut ov, &s.masses, &opts, |x| {
+            let c = s.theirs(x, &mut its, Some(&of));
+            seen.push((x.to_vec(), c.energy, c.forces.iter().flatten().fold(0.0, |m: f64, f| m.max(f.abs())), its.builds()));
+            (c.energy, c.forces)
+        });
+        assert!(want.converged && want.iters + 1 == seen.len() && its.builds() > 2, "{want:?}, {} builds", its.builds());
+        for max_iters in (0..=want.iters).filter(|&k| k < 30 || k % STRIDE == 0 || k == want.iters) {
+            let mut list = NeighborList::new(8.5, 0.5);
+            list.set_exclusions(s.bonds.iter().copied());
+            let mut eval = Evaluator::new(list, &s.terms(), Some(cell));
+            let (mut q, mut v) = (p.clone(), vec![[0.5; 3]; n]);
+            let got = fire(&mut q, &mut v, &s.masses, &FireOptions { max_iters, force_tol: 0.02, ..FireOptions::default() }, &mut eval).unwrap();
+            let (x, energy, largest, builds) = &seen[max_iters];
+            assert_eq!((got.iters, got.converged, eval.list.builds()), (max_iters, max_iters == want.iters, *builds));
+            same("energy and force", &[got.energy, got.max_force], &[*energy, *largest]);
+            same("positions", q.as_flattened(), x.as_flattened());
+            if got.converged {
+                same("velocities", v.as_flattened(), ov.as_flattened());
+                same_list("after settling", &eval.list, &its);
+            }
         }
     }
 }

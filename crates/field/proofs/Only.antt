@@ -13,6 +13,7 @@ use Rattle.potentials.proofs.Only.{monatomic-only, uniform-only, lj-pairs-only,
 use Rattle.potentials_angle.proofs.Only.{uniform-angles-only, angles-all-only}
 use Rattle.evaluate.proofs.Only.{evaluate-only}
 use Rattle.verlet.proofs.Only.{kinetic-energy-only, temperature-only, berendsen-only}
+use Rattle.fire.proofs.Only.{fire-only}
 use Rattle.verlet_step.proofs.Only.{step-only, finish-only}
 use Rattle.frame.proofs.Only.{squared-distance-only, build-only}
 use Rattle.skin.proofs.Only.{within-skin-only}
@@ -95,6 +96,7 @@ use Rattle.field.proofs.forces.tyn_evaluate as evaluate
 use Rattle.field.proofs.speeds.tyn_kinetic_energy as kinetic-energy
 use Rattle.field.proofs.speeds.tyn_temperature as temperature
 use Rattle.field.proofs.speeds.tyn_berendsen as berendsen
+use Rattle.field.proofs.settlings.tyn_fire as settling
 use Rattle.field.proofs.motion.tyn_step as step
 use Rattle.field.proofs.motion.tyn_finish as finish
 
@@ -326,3 +328,7 @@ tyn-step-only l a r s m n p q = shown-only p q (λ u v h k. let b = step-only _ 
 
 pub tyn-finish-only : OneOutcome finish.ended finish.Reads.Post
 tyn-finish-only l a r s m n p q = shown-only p q (λ u v h k. let b = finish-only _ _ u v _ _ _ _ _ _ _ _ _ _ _ _ (h .0) (k .0) in (b .0, λ i. (tt, (tt, (tt, (tt, (tt, (tt, (tt, (tt, (tt, (tt, (tt, (tt, (tt, (tt, (tt, (tt, (b .1 i, (b .2 i, (b .3 i, (b .4 i, (b .5 i, (b .6 i, tt))))))))))))))))))))))))
+
+-- ---- settling
+pub tyn-fire-only : OneOutcome settling.ended settling.Reads.Post
+tyn-fire-only l a r s m n p q = shown-only p q (λ u v h k. let b = fire-only _ _ u v _ _ _ _ _ _ _ _ _ _ _ _ _ _ h k in (b .0, λ i. (tt, (tt, (tt, (tt, (tt, (tt, (tt, (tt, (tt, (tt, (tt, (tt, (tt, (tt, (b .1 i, (b .2 i, (b .3 i, (b .4 i, (b .5 i, (b .6 i, (b .7 i, tt)))))))))))))))))))))))

@@ -12,6 +12,7 @@ pub mod frames;
 pub mod motion;
 pub mod pairs;
 pub mod parts;
+pub mod settlings;
 pub mod sheets;
 pub mod skins;
 pub mod speeds;

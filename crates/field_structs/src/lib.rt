@@ -11,6 +11,7 @@ use virial::Units;
 pub mod angles;
 pub mod give;
 pub mod give_counted;
+pub mod settlings;
 pub mod take;
 
 // ---- arguments
@@ -108,6 +109,15 @@ pub struct FlatSetting {
 pub struct FlatPace {
     pub dt: f64,
     pub thermostat: FlatThermostat,
+}
+
+// How a box is settled: most iterations (at most 100,000), the force tolerance on the largest component, the first time step and the largest.
+#[repr(C)]
+pub struct FlatFireOptions {
+    pub max_iters: u32,
+    pub force_tol: f64,
+    pub dt: f64,
+    pub dt_max: f64,
 }
 
 // A whole-number frame: its edges, which axes are periodic (flags), and the radius, at most half of each periodic edge.
@@ -263,6 +273,19 @@ pub struct FlatStepped {
     pub rebuilt: u32,
     pub state: FlatState,
     pub potential: f64,
+}
+
+// The iterations, or the one that was refused; whether a 7 or 8 stopped it after a drift and whether the tolerance was reached (flags); energy and largest force
+// component of the last evaluation that was answered, zero where there was none; the list's state, which comes back in every case.
+#[repr(C)]
+pub struct FlatFired {
+    pub done: FlatDone,
+    pub iteration: u32,
+    pub stopped: u32,
+    pub converged: u32,
+    pub energy: f64,
+    pub max_force: f64,
+    pub state: FlatState,
 }
 
 // What a job sheet says beside its coordinates and exclusions; px, py, pz are flags.

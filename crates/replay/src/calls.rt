@@ -12,6 +12,7 @@ use crate::forces;
 use crate::frames;
 use crate::labels;
 use crate::neighbors;
+use crate::settlings;
 use crate::sheets;
 use crate::skins;
 use crate::steps;
@@ -64,6 +65,9 @@ pub(crate) fn answer(call: u64, ws: &[u64], out: &mut [u64; 8208]) -> usize {
     }
     if call < 99 {
         return velocities::answer(call, ws, out);
+    }
+    if call == 105 {
+        return settlings::answer(ws, out);
     }
     steps::answer(call, ws, out)
 }

@@ -18,6 +18,7 @@ mod lines;
 mod masks;
 mod neighbors;
 mod records;
+mod settlings;
 mod sheets;
 mod skins;
 mod steps;

@@ -187,17 +187,17 @@ fn tell_values(out: &mut [u64; 8208], parts: Parts, r: Stepped) -> usize {
 }
 
 // The rooms and stores.
-struct Rooms {
-    positions: Table,
-    velocities: Table,
-    pairs: Table,
-    references: Table,
-    starts: Table,
-    items: Table,
-    forces: Table,
+pub(crate) struct Rooms {
+    pub(crate) positions: Table,
+    pub(crate) velocities: Table,
+    pub(crate) pairs: Table,
+    pub(crate) references: Table,
+    pub(crate) starts: Table,
+    pub(crate) items: Table,
+    pub(crate) forces: Table,
 }
 
-fn take_rooms(ws: &[u64], at: usize) -> Rooms {
+pub(crate) fn take_rooms(ws: &[u64], at: usize) -> Rooms {
     let positions = replay_words::take_floats(ws, at);
     let velocities = replay_words::take_floats(ws, positions.next);
     let pairs = replay_words::take_u32s(ws, velocities.next);

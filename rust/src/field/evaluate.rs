@@ -1,5 +1,6 @@
 //! The evaluator, which stands where the original's step takes a closure: pair list and terms in one call of the library.
 use super::cell::Lattice;
+use super::fire::{fired, FireOptions, FireResult};
 use super::neighbor::NeighborList;
 use super::potentials::{CosineAngles, Coulomb, HarmonicBonds, LennardJones};
 use super::units;
@@ -122,6 +123,30 @@ impl Evaluator {
                 *m.potential = r.potential;
                 return stepped("tyn_finish", r);
             }
+        }
+    }
+
+    /// A relaxation. Where the pairs did not fit it starts again, with more room and all else as it came.
+    pub(super) fn fire(&mut self, positions: &mut [[f64; 3]], velocities: &mut [[f64; 3]], masses: &[f64], opts: &FireOptions) -> Result<FireResult, Error> {
+        self.make_ready(positions.len());
+        let (list, p, v) = (self.list.clone(), positions.to_vec(), velocities.to_vec());
+        let mut forces = vec![[0.0; 3]; positions.len()];
+        loop {
+            let (setting, s) = (self.setting(), self.list.state());
+            let (exclusions, room) = self.list.lent();
+            let t = &self.tables;
+            #[rustfmt::skip]
+            let r = raw::tyn_fire(opts.into(), setting, s, &t.ids, &t.params, &t.species, &t.charges, &t.bonds, &t.lengths, &t.ks, &t.angles, &t.per_angle, masses,
+                exclusions, positions.as_flattened_mut(), velocities.as_flattened_mut(), &mut room.pairs, &mut room.references, &mut room.starts,
+                &mut room.items, forces.as_flattened_mut());
+            if !self.list.took(r.done, r.state) {
+                return fired(r);
+            }
+            let more = self.list.lent().1.pairs.len();
+            self.list.clone_from(&list);
+            self.list.lent().1.pairs.resize(more, 0);
+            positions.copy_from_slice(&p);
+            velocities.copy_from_slice(&v);
         }
     }
 

@@ -1,0 +1,4 @@
+pub mod Largest
+pub mod Turns
+pub mod Promises
+pub mod Only

@@ -1,0 +1,5 @@
+pub mod Asked
+pub mod Calls
+pub mod Steer
+pub mod Steps
+pub mod Theorems
