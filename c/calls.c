@@ -110,6 +110,26 @@ static void lists(void)
     EXPECT(atoms.done.number == 0 && atoms.start == 1 && atoms.length == 2 && tyn_atoms_in(2, from, 3, items, 3).done.number == TYN_LENGTHS);
 }
 
+/* a desk's own species rows over the house's */
+static void desks(void)
+{
+    const uint32_t own_ids[2] = {3, 7}, ids[3] = {1, 3, 9}, turned[2] = {7, 3}, species[2] = {3, 1}, none = 0;
+    const double own[4] = {0.5, 3.0, 0.25, 2.0}, house[6] = {1.0, 4.0, 2.0, 5.0, 3.0, 6.0}, positions[6] = {0, 0, 0, 4.0, 0, 0}, zero = 0.0;
+    double forces[6] = {0}, before[6] = {0};
+    tyn_row first = tyn_species_row(own_ids, 2, own, 4, ids, 3, house, 6, 3), second = tyn_species_row(own_ids, 2, own, 4, ids, 3, house, 6, 9);
+    tyn_row missing = tyn_species_row(own_ids, 2, own, 4, ids, 3, house, 6, 2);
+    EXPECT(first.done.number == 0 && first.table == 1 && first.epsilon == 0.5 && first.sigma == 3.0);
+    EXPECT(second.table == 2 && second.epsilon == 3.0 && second.sigma == 6.0 && missing.table == 0 && missing.epsilon == 0.0);
+    tyn_row own_order = tyn_species_row(turned, 2, own, 4, turned, 2, own, 4, 3), house_order = tyn_species_row(own_ids, 2, own, 4, turned, 2, own, 4, 3);
+    EXPECT(own_order.done.number == TYN_ORDER && own_order.done.place == 0 && house_order.done.number == TYN_ORDER && house_order.done.place == 1);
+    EXPECT(tyn_species_row(own_ids, 2, own, 3, ids, 3, house, 6, 3).done.number == TYN_LENGTHS);
+    const tyn_lj lj = {0.0, 1.0, 8.0, 0};
+    const tyn_cell open = {0};
+    tyn_summed with = tyn_lj_all(lj, open, own_ids, 2, own, 4, ids, 3, house, 6, species, 2, positions, 6, forces, 6);
+    tyn_summed without = tyn_lj_all(lj, open, &none, 0, &zero, 0, ids, 3, house, 6, species, 2, positions, 6, before, 6);
+    EXPECT(with.done.number == 0 && without.done.number == 0 && with.sum.energy != without.sum.energy && forces[0] != before[0]);
+}
+
 static void settings(void)
 {
     const uint32_t none = 0, rows[2] = {0, 1}, species[2] = {0, 0};
@@ -118,18 +138,18 @@ static void settings(void)
     uint32_t pairs[2] = {0}, starts[2] = {0}, items[2] = {0};
     tyn_setting setting = {.bond = {7, {2.0, 1.5}}, .units = {0.5, 0.25, 14.0, 160.0}};
     tyn_pace pace = {0.5, {7, 0.0, 0.5}};
-    tyn_evaluated pull = tyn_evaluate(setting, tyn_new(1.0, 0.5).state, &none, 0, &zero, 0, species, 2, charges, 2, rows, 2, &zero, 0, &zero, 0, &none, 0, &zero, 0, positions, 6,
+    tyn_evaluated pull = tyn_evaluate(setting, tyn_new(1.0, 0.5).state, &none, 0, &zero, 0, &none, 0, &zero, 0, species, 2, charges, 2, rows, 2, &zero, 0, &zero, 0, &none, 0, &zero, 0, positions, 6,
         &none, 0, pairs, 2, references, 6, starts, 2, items, 2, forces, 6);
     EXPECT(pull.done.number == 0 && pull.rebuilt == 1 && pull.sum.energy == 1.0 && forces[0] == 2.0 && forces[3] == -2.0);
-    tyn_stepped cold = tyn_step(setting, pace, pull.state, pull.sum.energy, &none, 0, &zero, 0, species, 2, charges, 2, rows, 2, &zero, 0, &zero, 0, &none, 0, &zero, 0, masses, 2,
+    tyn_stepped cold = tyn_step(setting, pace, pull.state, pull.sum.energy, &none, 0, &zero, 0, &none, 0, &zero, 0, species, 2, charges, 2, rows, 2, &zero, 0, &zero, 0, &none, 0, &zero, 0, masses, 2,
         &none, 0, positions, 6, velocities, 6, pairs, 2, references, 6, starts, 2, items, 2, forces, 6);
     EXPECT(cold.done.number == 0 && cold.stopped == 0 && cold.potential < 1.0 && positions[0] > 0.0 && velocities[0] == 0.0);
     pace.thermostat.present = 0;
-    tyn_stepped rest = tyn_finish(setting, pace, cold.state, cold.potential, &none, 0, &zero, 0, species, 2, charges, 2, rows, 2, &zero, 0, &zero, 0, &none, 0, &zero, 0, masses, 2,
+    tyn_stepped rest = tyn_finish(setting, pace, cold.state, cold.potential, &none, 0, &zero, 0, &none, 0, &zero, 0, species, 2, charges, 2, rows, 2, &zero, 0, &zero, 0, &none, 0, &zero, 0, masses, 2,
         &none, 0, positions, 6, velocities, 6, pairs, 2, references, 6, starts, 2, items, 2, forces, 6);
     EXPECT(rest.done.number == 0 && velocities[0] > 0.0 && rest.potential == cold.potential);
     setting.bond.present = 0;
-    tyn_evaluated still = tyn_evaluate(setting, rest.state, &none, 0, &zero, 0, species, 2, charges, 2, rows, 2, &zero, 0, &zero, 0, &none, 0, &zero, 0, positions, 6, &none, 0, pairs,
+    tyn_evaluated still = tyn_evaluate(setting, rest.state, &none, 0, &zero, 0, &none, 0, &zero, 0, species, 2, charges, 2, rows, 2, &zero, 0, &zero, 0, &none, 0, &zero, 0, positions, 6, &none, 0, pairs,
         2, references, 6, starts, 2, items, 2, forces, 6);
     EXPECT(still.done.number == 0 && still.sum.energy == 0.0 && forces[0] == 0.0);
 }
@@ -162,6 +182,7 @@ int main(void)
     helpers_and_cells();
     sums();
     lists();
+    desks();
     settings();
     whole_numbers();
     puts(bad ? "not as expected" : "as expected");

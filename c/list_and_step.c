@@ -87,14 +87,14 @@ int main(void)
 
     const tyn_setting setting = {.lj = {1, {0.0103, 3.4, 5.0, 1}}, .units = units, .cell = cell};
     const tyn_pace pace = {2.0, {1, 120.0, 100.0}};
-    tyn_evaluated start = tyn_evaluate(setting, built.state, &none, 0, &zero, 0, species, ATOMS, charges, ATOMS, &none, 0, &zero, 0, &zero, 0, &none, 0, &zero, 0, positions,
+    tyn_evaluated start = tyn_evaluate(setting, built.state, &none, 0, &zero, 0, &none, 0, &zero, 0, species, ATOMS, charges, ATOMS, &none, 0, &zero, 0, &zero, 0, &none, 0, &zero, 0, positions,
         3 * ATOMS, exclusions, 2 * rows, pairs, room, references, 3 * ATOMS, starts, 1024, items, ATOMS, forces, 3 * ATOMS);
     if (refused("tyn_evaluate", start.done))
         return 1;
     show("potential", start.sum.energy);
     show("virial xx", start.sum.xx);
 
-    tyn_stepped next = tyn_step(setting, pace, start.state, start.sum.energy, &none, 0, &zero, 0, species, ATOMS, charges, ATOMS, &none, 0, &zero, 0, &zero, 0, &none, 0, &zero, 0,
+    tyn_stepped next = tyn_step(setting, pace, start.state, start.sum.energy, &none, 0, &zero, 0, &none, 0, &zero, 0, species, ATOMS, charges, ATOMS, &none, 0, &zero, 0, &zero, 0, &none, 0, &zero, 0,
         masses, ATOMS, exclusions, 2 * rows, positions, 3 * ATOMS, velocities, 3 * ATOMS, pairs, room, references, 3 * ATOMS, starts, 1024, items, ATOMS,
         forces, 3 * ATOMS);
     if (refused("tyn_step", next.done))

@@ -35,7 +35,7 @@ enum tyn_refusal {
     TYN_RANGE = 3,
     /* a pair or a bond names an atom that is not there */
     TYN_NOT_THERE = 4,
-    /* a table is not strictly ascending, or an exclusion not low before high */
+    /* a table is not strictly ascending, or an exclusion not low before high; place 1: the house's species */
     TYN_ORDER = 5,
     /* the list state claims more than the lent room */
     TYN_CLAIMS = 6,
@@ -248,6 +248,14 @@ typedef struct {
     tyn_done done;
     tyn_job job;
 } tyn_sheet;
+
+/* A species' row: the table that it is a part of (0 none, 1 a desk's own, 2 the house's), its epsilon and its sigma; zeros where there is none. */
+typedef struct {
+    tyn_done done;
+    uint32_t table;
+    double epsilon;
+    double sigma;
+} tyn_row;
 
 /* Lennard-Jones numbers; epsilon and sigma are those of a species that the table lacks, shift is a flag. */
 typedef struct {
@@ -571,6 +579,13 @@ tyn_whole tyn_write(tyn_frame f, const uint32_t *coordinates, size_t coordinates
 /* The written form of a job sheet, or the line of its refusal, at the front of out (at least 43049 bytes); the value is its length. Refusal 1. */
 tyn_whole tyn_rewrite(const uint8_t *input, size_t input_len, uint8_t *out, size_t out_len);
 
+/* ---- A desk's own species rows over the house's table. */
+
+/* The row of a species: of the desk's own table where that has it, else of the house's, else none. Refusals 1, 3, 5 of both tables (5, place 1, for
+ * the house's ids). */
+tyn_row tyn_species_row(const uint32_t *own_ids, size_t own_ids_len, const double *own_params, size_t own_params_len, const uint32_t *ids,
+    size_t ids_len, const double *params, size_t params_len, uint32_t species);
+
 /* ---- The terms over pairs (potentials.rs), and the evaluator. */
 
 /* Lennard-Jones numbers of a single species, shifted. Refusal 3. */
@@ -582,15 +597,17 @@ tyn_lj tyn_argon(void);
 /* Bond numbers, the same for each bond. Refusal 3. */
 tyn_bond_answer tyn_uniform(double k, double r0);
 
-/* Lennard-Jones over the listed pairs: forces overwritten, from zero. ids are the species that params has epsilon and sigma of; species is an id an
- * atom. Refusals 1, 2, 3, 4, 5. */
-tyn_summed tyn_lj_pairs(tyn_lj lj, tyn_cell cell, const uint32_t *ids, size_t ids_len, const double *params, size_t params_len,
-    const uint32_t *species, size_t species_len, const double *positions, size_t positions_len, const uint32_t *pairs, size_t pairs_len,
-    double *forces, size_t forces_len);
+/* Lennard-Jones over the listed pairs: forces overwritten, from zero. own_ids and ids are the species that own_params and params have epsilon and
+ * sigma of, a desk's own table and the house's; a species' row is the own one where there is one. species is an id an atom. Refusals 1, 2, 3, 4, 5
+ * (place 1 for the house's ids). */
+tyn_summed tyn_lj_pairs(tyn_lj lj, tyn_cell cell, const uint32_t *own_ids, size_t own_ids_len, const double *own_params, size_t own_params_len,
+    const uint32_t *ids, size_t ids_len, const double *params, size_t params_len, const uint32_t *species, size_t species_len,
+    const double *positions, size_t positions_len, const uint32_t *pairs, size_t pairs_len, double *forces, size_t forces_len);
 
 /* Lennard-Jones over every pair, i, then j, rising. Refusals 1, 2, 3, 5. */
-tyn_summed tyn_lj_all(tyn_lj lj, tyn_cell cell, const uint32_t *ids, size_t ids_len, const double *params, size_t params_len,
-    const uint32_t *species, size_t species_len, const double *positions, size_t positions_len, double *forces, size_t forces_len);
+tyn_summed tyn_lj_all(tyn_lj lj, tyn_cell cell, const uint32_t *own_ids, size_t own_ids_len, const double *own_params, size_t own_params_len,
+    const uint32_t *ids, size_t ids_len, const double *params, size_t params_len, const uint32_t *species, size_t species_len,
+    const double *positions, size_t positions_len, double *forces, size_t forces_len);
 
 /* Coulomb over the listed pairs: forces overwritten, from zero. Refusals 1, 2, 3, 4. */
 tyn_summed tyn_coulomb_pairs(tyn_units units, double cutoff, tyn_cell cell, const double *charges, size_t charges_len, const double *positions,
@@ -606,12 +623,12 @@ tyn_summed tyn_bonds_all(tyn_bond bond, tyn_cell cell, const uint32_t *bonds, si
 
 /* The list brought up to date, then each present term, Lennard-Jones, Coulomb, bonds, angles, merged in this order into zero. Refusals 1, 2, 6, 3, 4,
  * 5, 7, 8. */
-tyn_evaluated tyn_evaluate(tyn_setting setting, tyn_state s, const uint32_t *ids, size_t ids_len, const double *params, size_t params_len,
-    const uint32_t *species, size_t species_len, const double *charges, size_t charges_len, const uint32_t *bonds, size_t bonds_len,
-    const double *lengths, size_t lengths_len, const double *ks, size_t ks_len, const uint32_t *angles, size_t angles_len, const double *per_angle,
-    size_t per_angle_len, const double *positions, size_t positions_len, const uint32_t *exclusions, size_t exclusions_len, uint32_t *pairs,
-    size_t pairs_len, double *references, size_t references_len, uint32_t *starts, size_t starts_len, uint32_t *items, size_t items_len,
-    double *forces, size_t forces_len);
+tyn_evaluated tyn_evaluate(tyn_setting setting, tyn_state s, const uint32_t *own_ids, size_t own_ids_len, const double *own_params,
+    size_t own_params_len, const uint32_t *ids, size_t ids_len, const double *params, size_t params_len, const uint32_t *species, size_t species_len,
+    const double *charges, size_t charges_len, const uint32_t *bonds, size_t bonds_len, const double *lengths, size_t lengths_len, const double *ks,
+    size_t ks_len, const uint32_t *angles, size_t angles_len, const double *per_angle, size_t per_angle_len, const double *positions,
+    size_t positions_len, const uint32_t *exclusions, size_t exclusions_len, uint32_t *pairs, size_t pairs_len, double *references,
+    size_t references_len, uint32_t *starts, size_t starts_len, uint32_t *items, size_t items_len, double *forces, size_t forces_len);
 
 /* ---- Cosine angles. */
 
@@ -640,33 +657,36 @@ tyn_done tyn_berendsen(tyn_units units, double dt, double target_k, double tau_f
 /* One step of velocity Verlet: half a kick and the drift, the evaluation, half a kick, the thermostat. forces and potential are those at the
  * positions. Where a 7 or 8 stopped it after the drift (stopped is 1), positions and velocities are drifted, forces and potential old: call
  * tyn_finish with more room. Refusals 1, 2, 6, 3, 4, 5, the drift (3, place 1), 7, 8. */
-tyn_stepped tyn_step(tyn_setting setting, tyn_pace pace, tyn_state s, double potential, const uint32_t *ids, size_t ids_len, const double *params,
-    size_t params_len, const uint32_t *species, size_t species_len, const double *charges, size_t charges_len, const uint32_t *bonds,
-    size_t bonds_len, const double *lengths, size_t lengths_len, const double *ks, size_t ks_len, const uint32_t *angles, size_t angles_len,
-    const double *per_angle, size_t per_angle_len, const double *masses, size_t masses_len, const uint32_t *exclusions, size_t exclusions_len,
-    double *positions, size_t positions_len, double *velocities, size_t velocities_len, uint32_t *pairs, size_t pairs_len, double *references,
-    size_t references_len, uint32_t *starts, size_t starts_len, uint32_t *items, size_t items_len, double *forces, size_t forces_len);
+tyn_stepped tyn_step(tyn_setting setting, tyn_pace pace, tyn_state s, double potential, const uint32_t *own_ids, size_t own_ids_len,
+    const double *own_params, size_t own_params_len, const uint32_t *ids, size_t ids_len, const double *params, size_t params_len,
+    const uint32_t *species, size_t species_len, const double *charges, size_t charges_len, const uint32_t *bonds, size_t bonds_len,
+    const double *lengths, size_t lengths_len, const double *ks, size_t ks_len, const uint32_t *angles, size_t angles_len, const double *per_angle,
+    size_t per_angle_len, const double *masses, size_t masses_len, const uint32_t *exclusions, size_t exclusions_len, double *positions,
+    size_t positions_len, double *velocities, size_t velocities_len, uint32_t *pairs, size_t pairs_len, double *references, size_t references_len,
+    uint32_t *starts, size_t starts_len, uint32_t *items, size_t items_len, double *forces, size_t forces_len);
 
 /* The rest of a step that a 7 or 8 stopped: the evaluation, the second half kick, the thermostat. Velocities to 2^500. Refusals 1, 2, 6, 3, 4, 5, 7,
  * 8. */
-tyn_stepped tyn_finish(tyn_setting setting, tyn_pace pace, tyn_state s, double potential, const uint32_t *ids, size_t ids_len, const double *params,
-    size_t params_len, const uint32_t *species, size_t species_len, const double *charges, size_t charges_len, const uint32_t *bonds,
-    size_t bonds_len, const double *lengths, size_t lengths_len, const double *ks, size_t ks_len, const uint32_t *angles, size_t angles_len,
-    const double *per_angle, size_t per_angle_len, const double *masses, size_t masses_len, const uint32_t *exclusions, size_t exclusions_len,
-    const double *positions, size_t positions_len, double *velocities, size_t velocities_len, uint32_t *pairs, size_t pairs_len, double *references,
-    size_t references_len, uint32_t *starts, size_t starts_len, uint32_t *items, size_t items_len, double *forces, size_t forces_len);
+tyn_stepped tyn_finish(tyn_setting setting, tyn_pace pace, tyn_state s, double potential, const uint32_t *own_ids, size_t own_ids_len,
+    const double *own_params, size_t own_params_len, const uint32_t *ids, size_t ids_len, const double *params, size_t params_len,
+    const uint32_t *species, size_t species_len, const double *charges, size_t charges_len, const uint32_t *bonds, size_t bonds_len,
+    const double *lengths, size_t lengths_len, const double *ks, size_t ks_len, const uint32_t *angles, size_t angles_len, const double *per_angle,
+    size_t per_angle_len, const double *masses, size_t masses_len, const uint32_t *exclusions, size_t exclusions_len, const double *positions,
+    size_t positions_len, double *velocities, size_t velocities_len, uint32_t *pairs, size_t pairs_len, double *references, size_t references_len,
+    uint32_t *starts, size_t starts_len, uint32_t *items, size_t items_len, double *forces, size_t forces_len);
 
 /* ---- Settling a freshly packed box (fire.rs). */
 
 /* Relaxes the positions to a local minimum of the energy by damped steps: the first evaluation, the atoms at rest, then iterations until the largest
  * force component is within the tolerance or the limit is reached. forces is a room. A refusal inside an iteration tells it and leaves what a step
  * stopped there leaves. Refusals 1, 2, 6, 3, 4, 5, then 7, 8, in an iteration also the drift (3, place 1). */
-tyn_fired tyn_fire(tyn_fire_options o, tyn_setting setting, tyn_state s, const uint32_t *ids, size_t ids_len, const double *params,
-    size_t params_len, const uint32_t *species, size_t species_len, const double *charges, size_t charges_len, const uint32_t *bonds,
-    size_t bonds_len, const double *lengths, size_t lengths_len, const double *ks, size_t ks_len, const uint32_t *angles, size_t angles_len,
-    const double *per_angle, size_t per_angle_len, const double *masses, size_t masses_len, const uint32_t *exclusions, size_t exclusions_len,
-    double *positions, size_t positions_len, double *velocities, size_t velocities_len, uint32_t *pairs, size_t pairs_len, double *references,
-    size_t references_len, uint32_t *starts, size_t starts_len, uint32_t *items, size_t items_len, double *forces, size_t forces_len);
+tyn_fired tyn_fire(tyn_fire_options o, tyn_setting setting, tyn_state s, const uint32_t *own_ids, size_t own_ids_len, const double *own_params,
+    size_t own_params_len, const uint32_t *ids, size_t ids_len, const double *params, size_t params_len, const uint32_t *species, size_t species_len,
+    const double *charges, size_t charges_len, const uint32_t *bonds, size_t bonds_len, const double *lengths, size_t lengths_len, const double *ks,
+    size_t ks_len, const uint32_t *angles, size_t angles_len, const double *per_angle, size_t per_angle_len, const double *masses, size_t masses_len,
+    const uint32_t *exclusions, size_t exclusions_len, double *positions, size_t positions_len, double *velocities, size_t velocities_len,
+    uint32_t *pairs, size_t pairs_len, double *references, size_t references_len, uint32_t *starts, size_t starts_len, uint32_t *items,
+    size_t items_len, double *forces, size_t forces_len);
 
 #ifdef __cplusplus
 }

@@ -9,7 +9,7 @@ import textwrap
 
 ROOT = os.path.dirname(os.path.dirname(os.path.abspath(__file__)))
 HEADER = os.path.join(ROOT, "include", "tyngyrlak.h")
-GROUPS = ["floats", "cells", "virials", "pairs", "boxes", "parts", "frames", "skins", "counts", "clumps", "sheets", "forces", "angles", "speeds", "motion", "settlings"]
+GROUPS = ["floats", "cells", "virials", "pairs", "boxes", "parts", "frames", "skins", "counts", "clumps", "sheets", "desks", "forces", "angles", "speeds", "motion", "settlings"]
 STRUCTS = ["cell/src/lib", "virial/src/lib", "potentials/src/lib", "potentials_angle/src/lib", "frame/src/lib", "field_structs/src/lib"]
 NUMBERS = {"f64": "double", "u8": "uint8_t", "u32": "uint32_t", "u64": "uint64_t", "i32": "int32_t", "i64": "int64_t", "usize": "size_t"}
 
@@ -74,10 +74,10 @@ def exports(group):
     lines = text.split("\n")
     found = []
     for at, line in enumerate(lines):
-        m = re.match(r'pub extern "C" fn (\w+)\(', line)
+        m = re.match(r'pub extern "C" fn (\w+)(?:<\'a>)?\(', line)
         if m:
             signature = "\n".join(lines[at:])
-            s = re.match(r'pub extern "C" fn \w+\((.*?)\)(?: -> (\w+))?\n', signature, re.S)
+            s = re.match(r'pub extern "C" fn \w+(?:<\'a>)?\((.*?)\)(?: -> (\w+))?\n', signature, re.S)
             params = [tuple(p.strip().split(": ", 1)) for p in s.group(1).split(",") if p.strip()]
             found.append((m.group(1), comment_before(lines, at), params, s.group(2)))
     return found
@@ -99,7 +99,7 @@ def field(name, t, known):
 
 
 def parameter(name, t, known):
-    m = re.match(r"&(mut )?\[(\w+)\]$", t)
+    m = re.match(r"&(?:'a )?(mut )?\[(\w+)\]$", t)
     if m:
         return ["%s%s *%s" % ("" if m.group(1) else "const ", c_type(m.group(2), known), name), "size_t %s_len" % name]
     return ["%s %s" % (c_type(t, known), name)]
@@ -126,11 +126,13 @@ def refusals():
     numbers = dict(re.findall(r"Refusal::(\w+)(?: \{[^}]*\})? => (\d+),", text[text.index("pub fn number") : text.index("pub fn place")]))
     out = "/* The refusals. */\nenum tyn_refusal {\n    TYN_ANSWERED = 0,\n"
     for words, case in re.findall(r"// \d+(?:, place 1)?: (.*)\n    (\w+)", cases):
-        if case == "Drifted":
+        if case in ("Drifted", "HouseOrder"):
             continue
         name = "TYN_" + re.sub(r"(?<=[a-z])(?=[A-Z])", "_", case).upper()
         if case == "Range":
             words += "; place 1: a drifted coordinate"
+        if case == "Order":
+            words += "; place 1: the house's species"
         out += "    /* %s */\n    %s = %s,\n" % (words, name, numbers[case])
     # 13 is a case of `shells::Counted`: no other call has it
     out += "    /* a total would pass 2^64 - 1: the list is there, the totals are as they came */\n    TYN_FULL = 13,\n"

@@ -51,6 +51,8 @@ structs! {
     Built { done: Done, pairs: u32, checks: u32, fallback: u32 }
     Job { atoms: u32, ex: u32, ey: u32, ez: u32, px: u32, py: u32, pz: u32, radius: u32, count: u32 }
     Sheet { done: Done, job: Job }
+    /// Of table 0 none, 1 a desk's own, 2 the house's.
+    Row { done: Done, table: u32, epsilon: f64, sigma: f64 }
     Evaluated { done: Done, rebuilt: u32, state: State, sum: Sum }
     Stepped { done: Done, stopped: u32, rebuilt: u32, state: State, potential: f64 }
     Fired { done: Done, iteration: u32, stopped: u32, converged: u32, energy: f64, max_force: f64, state: State }
@@ -120,13 +122,14 @@ calls! {
     fn tyn_label(count: u32, pairs: &[u32], labels: &mut [u32]) -> Whole;
     fn tyn_solve_clumps(input: &[u8], out: &mut [u8]) -> Whole;
 
-    fn tyn_lj_pairs(lj: Lj, cell: Cell, ids: &[u32], params: &[f64], species: &[u32], positions: &[f64], pairs: &[u32], forces: &mut [f64]) -> Summed;
-    fn tyn_lj_all(lj: Lj, cell: Cell, ids: &[u32], params: &[f64], species: &[u32], positions: &[f64], forces: &mut [f64]) -> Summed;
+    fn tyn_species_row(own_ids: &[u32], own_params: &[f64], ids: &[u32], params: &[f64], species: u32) -> Row;
+    fn tyn_lj_pairs(lj: Lj, cell: Cell, own_ids: &[u32], own_params: &[f64], ids: &[u32], params: &[f64], species: &[u32], positions: &[f64], pairs: &[u32], forces: &mut [f64]) -> Summed;
+    fn tyn_lj_all(lj: Lj, cell: Cell, own_ids: &[u32], own_params: &[f64], ids: &[u32], params: &[f64], species: &[u32], positions: &[f64], forces: &mut [f64]) -> Summed;
     fn tyn_coulomb_pairs(units: Units, cutoff: f64, cell: Cell, charges: &[f64], positions: &[f64], pairs: &[u32], forces: &mut [f64]) -> Summed;
     fn tyn_coulomb_all(units: Units, cutoff: f64, cell: Cell, charges: &[f64], positions: &[f64], forces: &mut [f64]) -> Summed;
     fn tyn_bonds_all(bond: Bond, cell: Cell, bonds: &[u32], lengths: &[f64], ks: &[f64], positions: &[f64], forces: &mut [f64]) -> Summed;
     fn tyn_angles_all(angle: Angle, cell: Cell, angles: &[u32], per_angle: &[f64], positions: &[f64], forces: &mut [f64]) -> Summed;
-    fn tyn_evaluate(setting: Setting, s: State, ids: &[u32], params: &[f64], species: &[u32], charges: &[f64], bonds: &[u32], lengths: &[f64], ks: &[f64],
+    fn tyn_evaluate(setting: Setting, s: State, own_ids: &[u32], own_params: &[f64], ids: &[u32], params: &[f64], species: &[u32], charges: &[f64], bonds: &[u32], lengths: &[f64], ks: &[f64],
         angles: &[u32], per_angle: &[f64], positions: &[f64], exclusions: &[u32], pairs: &mut [u32], references: &mut [f64], starts: &mut [u32], items: &mut [u32],
         forces: &mut [f64]) -> Evaluated;
 
@@ -142,13 +145,13 @@ calls! {
     fn tyn_kinetic_energy(units: Units, velocities: &[f64], masses: &[f64]) -> Number;
     fn tyn_temperature(units: Units, dof: f64, velocities: &[f64], masses: &[f64]) -> Number;
     fn tyn_berendsen(units: Units, dt: f64, target_k: f64, tau_fs: f64, masses: &[f64], velocities: &mut [f64]) -> Done;
-    fn tyn_step(setting: Setting, pace: Pace, s: State, potential: f64, ids: &[u32], params: &[f64], species: &[u32], charges: &[f64], bonds: &[u32],
+    fn tyn_step(setting: Setting, pace: Pace, s: State, potential: f64, own_ids: &[u32], own_params: &[f64], ids: &[u32], params: &[f64], species: &[u32], charges: &[f64], bonds: &[u32],
         lengths: &[f64], ks: &[f64], angles: &[u32], per_angle: &[f64], masses: &[f64], exclusions: &[u32], positions: &mut [f64], velocities: &mut [f64], pairs: &mut [u32],
         references: &mut [f64], starts: &mut [u32], items: &mut [u32], forces: &mut [f64]) -> Stepped;
-    fn tyn_finish(setting: Setting, pace: Pace, s: State, potential: f64, ids: &[u32], params: &[f64], species: &[u32], charges: &[f64], bonds: &[u32],
+    fn tyn_finish(setting: Setting, pace: Pace, s: State, potential: f64, own_ids: &[u32], own_params: &[f64], ids: &[u32], params: &[f64], species: &[u32], charges: &[f64], bonds: &[u32],
         lengths: &[f64], ks: &[f64], angles: &[u32], per_angle: &[f64], masses: &[f64], exclusions: &[u32], positions: &[f64], velocities: &mut [f64], pairs: &mut [u32],
         references: &mut [f64], starts: &mut [u32], items: &mut [u32], forces: &mut [f64]) -> Stepped;
-    fn tyn_fire(o: FireOptions, setting: Setting, s: State, ids: &[u32], params: &[f64], species: &[u32], charges: &[f64], bonds: &[u32],
+    fn tyn_fire(o: FireOptions, setting: Setting, s: State, own_ids: &[u32], own_params: &[f64], ids: &[u32], params: &[f64], species: &[u32], charges: &[f64], bonds: &[u32],
         lengths: &[f64], ks: &[f64], angles: &[u32], per_angle: &[f64], masses: &[f64], exclusions: &[u32], positions: &mut [f64], velocities: &mut [f64], pairs: &mut [u32],
         references: &mut [f64], starts: &mut [u32], items: &mut [u32], forces: &mut [f64]) -> Fired;
 }

@@ -4,7 +4,7 @@ use mathlib.Core.Bool.{cond}
 use Prim.Native.Nat.{ℕ}
 use lib.Dec.{eqb}
 use Rattle.answer.specs.declared.Refusal.{Refusal}
-use Rattle.answer.specs.declared.Refusal.the-variants.{Lengths, TooMany, Range, Drifted, NotThere, Order, Claims, Cells, Room, Malformed, Again, Absent}
+use Rattle.answer.specs.declared.Refusal.the-variants.{Lengths, TooMany, Range, Drifted, NotThere, Order, HouseOrder, Claims, Cells, Room, Malformed, Again, Absent}
 use Rattle.answer.specs.declared.Done as Done
 use Rattle.answer.specs.declared.Done.the-variants as Done·cases
 use Rattle.answer.specs.declared.Number as Number
@@ -22,7 +22,7 @@ told n p =
     (cond (eqb n 2) (TooMany p)
     (cond (eqb n 3) (cond (eqb p 1) Drifted Range)
     (cond (eqb n 4) (NotThere p)
-    (cond (eqb n 5) Order
+    (cond (eqb n 5) (cond (eqb p 1) HouseOrder Order)
     (cond (eqb n 6) Claims
     (cond (eqb n 7) Cells (cond (eqb n 8) (Room p) (cond (eqb n 9) (Malformed p) (cond (eqb n 10) (Again p) (Absent p))))))))))
 
@@ -33,6 +33,7 @@ told-back Range = refl
 told-back Drifted = refl
 told-back (NotThere k) = refl
 told-back Order = refl
+told-back HouseOrder = refl
 told-back Claims = refl
 told-back Cells = refl
 told-back (Room n) = refl

@@ -3,7 +3,7 @@ use Prim.Native.Nat.{ℕ}
 use mathlib.Core.Bool.{Bool}
 use lib.Ieee.{Float}
 use Rattle.answer.specs.declared.Refusal.{Refusal}
-use Rattle.answer.specs.declared.Refusal.the-variants.{Lengths, TooMany, Range, Drifted, NotThere, Order, Claims, Cells, Room, Malformed, Again, Absent}
+use Rattle.answer.specs.declared.Refusal.the-variants.{Lengths, TooMany, Range, Drifted, NotThere, Order, HouseOrder, Claims, Cells, Room, Malformed, Again, Absent}
 use Rattle.answer.specs.declared.Done as Done
 use Rattle.answer.specs.declared.Done.the-variants as Done·cases
 use Rattle.answer.specs.declared.Number as Number
@@ -21,6 +21,7 @@ numberOf Range = 3
 numberOf Drifted = 3
 numberOf (NotThere k) = 4
 numberOf Order = 5
+numberOf HouseOrder = 5
 numberOf Claims = 6
 numberOf Cells = 7
 numberOf (Room n) = 8
@@ -36,6 +37,7 @@ placeOf Range = 0
 placeOf Drifted = 1
 placeOf (NotThere k) = k
 placeOf Order = 0
+placeOf HouseOrder = 1
 placeOf Claims = 0
 placeOf Cells = 0
 placeOf (Room n) = n

@@ -17,6 +17,8 @@ pub enum Refusal {
     NotThere { row: usize },
     // 5: a table is not strictly ascending, or an exclusion not low before high
     Order,
+    // 5, place 1: the house's species are not strictly ascending
+    HouseOrder,
     // 6: the list state claims more than the lent room
     Claims,
     // 7: the grid needs too many cells
@@ -45,6 +47,7 @@ impl Refusal {
             Refusal::Drifted => 3,
             Refusal::NotThere { row: _ } => 4,
             Refusal::Order => 5,
+            Refusal::HouseOrder => 5,
             Refusal::Claims => 6,
             Refusal::Cells => 7,
             Refusal::Room { count: _ } => 8,
@@ -59,6 +62,7 @@ impl Refusal {
     {
         match self {
             Refusal::Drifted => 1,
+            Refusal::HouseOrder => 1,
             Refusal::TooMany { atoms } => atoms as u64,
             Refusal::NotThere { row } => row as u64,
             Refusal::Room { count } => count as u64,

@@ -12,7 +12,7 @@ use borrow.Author.Tests.{ltb-false, eqb-true, not-false}
 use Rattle.answer.specs.declared.Done.{Done}
 use Rattle.answer.specs.declared.Done.the-variants.{Answered, Refused}
 use Rattle.answer.specs.declared.Refusal.{Refusal}
-use Rattle.answer.specs.declared.Refusal.the-variants.{Lengths, Range, Order}
+use Rattle.answer.specs.declared.Refusal.the-variants.{Lengths, Range}
 use Rattle.answer.specs.Seen.{Seen, answered, refused, seenDone}
 use Rattle.lists.specs.Lists.{rows}
 use Rattle.lists.proofs.Cases.{and-both, or-neither}
@@ -22,11 +22,12 @@ use Rattle.virial.specs.Virial.{zeroSum}
 use Rattle.potentials_pair.specs.declared.Lj.{Lj}
 use Rattle.potentials_pair.specs.declared.Mixed.{Mixed}
 use Rattle.potentials_pair.specs.Pull.{Total, held}
-use Rattle.potentials_pair.specs.Species.{lookBy, lookOf, rising}
+use Rattle.potentials_pair.specs.Species.{Tables, lookBy, lookOf, rising}
 use Rattle.potentials_pair.proofs.Lookup.{looks-all}
 use Rattle.potentials.specs.declared.LjTerm.{LjTerm}
 use Rattle.potentials.specs.declared.LjTerm.the-variants.{Absent, Present}
 use Rattle.potentials.specs.Terms.{ljOver}
+use Rattle.potentials.proofs.Outcomes.{order-told}
 use Rattle.neighbor.specs.declared.Question.the-variants.{Outdated}
 use Rattle.neighbor.specs.declared.State.{State}
 use Rattle.neighbor.specs.declared.Updated.{Updated}
@@ -36,7 +37,7 @@ use Rattle.neighbor.proofs.Source.{passed, both-passed, first-told, lengths-tol
 use Rattle.evaluate.proofs.Folding.{merged-room}
 use Rattle.evaluate.specs.declared.Evaluated.{Evaluated}
 use Rattle.evaluate.specs.Terms.{Terms, ljGives, contributions, mergedAll}
-use Rattle.evaluate.specs.Asked.{termsFit, bondsAsked, anglesNamed, idsAsked, namesAsked, inTurn, jobAsked}
+use Rattle.evaluate.specs.Asked.{termsFit, bondsAsked, anglesNamed, namesAsked, inTurn, jobAsked}
 use Rattle.evaluate.specs.Calls.{Job, Outcome, totalOf, afterList, settledBy, settledOf, afterAsked, evaluatedOf, shown}
 use Rattle.evaluate.specs.Steps.{scratchLength, settledIn, evaluatedFrom, totalAfter}
 
@@ -107,15 +108,15 @@ module _ (fits : Bool) (first : Done) (ok : Bool) (kept names : Done) (e : inTur
   unfolding inTurn
   turn-names = both-passed kept names (both-passed _ _ (both-passed first _ (both-passed _ _ e .1) .1) .1) .1
 
-names-rising : (n : ℕ) (bonds angles table ids : List ℕ) → namesAsked n bonds angles table ids ≡ Answered → rising ids ≡ true
-unfolding namesAsked idsAsked
-names-rising n bonds angles table ids e =
-    passed (rising ids) Order (both-passed (tableAsked table) _ (both-passed (anglesNamed n angles) _ (both-passed (bondsAsked n bonds) _ e .1) .1) .1)
+names-rising : (n : ℕ) (bonds angles table ownIds ids : List ℕ) → namesAsked n bonds angles table ownIds ids ≡ Answered → (rising ownIds ≡ true) × (rising ids ≡ true)
+unfolding namesAsked
+names-rising n bonds angles table ownIds ids e =
+    order-told ownIds ids (both-passed (tableAsked table) _ (both-passed (anglesNamed n angles) _ (both-passed (bondsAsked n bonds) _ e .1) .1) .1)
 
-fit-forces : (ids params species charges bonds angles per xs forces : ℕ) → termsFit ids params species charges bonds angles per xs forces ≡ true → forces ≡ xs
+fit-forces : (tables : Bool) (species charges bonds angles per xs forces : ℕ) → termsFit tables species charges bonds angles per xs forces ≡ true → forces ≡ xs
 unfolding termsFit
-fit-forces ids params species charges bonds angles per xs forces e =
-    eqb-true forces xs (and-both (eqb (params / 2) ids && eqb (params % 2) 0 && eqb species (xs / 3) && eqb charges (xs / 3) && eqb (bonds % 2) 0 && eqb (angles % 3) 0 && eqb (per % 2) 0) (eqb forces xs) e .1)
+fit-forces tables species charges bonds angles per xs forces e =
+    eqb-true forces xs (and-both (tables && eqb species (xs / 3) && eqb charges (xs / 3) && eqb (bonds % 2) 0 && eqb (angles % 3) 0 && eqb (per % 2) 0) (eqb forces xs) e .1)
 
 first-room : (s : State) (cell : Cell) (xs : List Float) (table pairs refs items : ℕ) → firstOf s cell xs table pairs refs items ≡ Answered → (length xs % 3 ≡ 0) × (length xs ≤ 49152)
 first-room s cell xs table pairs refs items e =
@@ -127,13 +128,13 @@ first-room s cell xs table pairs refs items e =
 
 -- what an evaluation, or a step, that passed its tests may count on
 module _ (fits inRange : Bool) (t : Terms) (g : Given) (forces : ℕ) (e : jobAsked fits inRange t g forces ≡ Answered) where
-  pub asked-rising : rising (t .ids) ≡ true
+  pub asked-rising : (rising (t .tables .ownIds) ≡ true) × (rising (t .tables .ids) ≡ true)
   unfolding jobAsked
-  asked-rising = names-rising _ _ _ _ _ (turn-names _ _ _ _ _ e)
+  asked-rising = names-rising _ _ _ _ _ _ (turn-names _ _ _ _ _ e)
 
   pub asked-forces : forces ≡ length (g .positions)
   unfolding jobAsked
-  asked-forces = fit-forces _ _ _ _ _ _ _ _ _ (and-both fits _ (turn-fits _ _ _ _ _ e) .1)
+  asked-forces = fit-forces _ _ _ _ _ _ _ _ (and-both fits _ (turn-fits _ _ _ _ _ e) .1)
 
   pub asked-few : length (g .positions) ≤ 49152
   unfolding jobAsked
@@ -153,16 +154,16 @@ module _ (fits inRange : Bool) (t : Terms) (g : Given) (forces : ℕ) (e : jobAs
   asked-inside = and-both inRange _ (turn-inside _ _ _ _ _ e) .0
 
 -- ---- the lookup by halving is the one by membership
-lj-looked : (ids : List ℕ) (params : List Float) → rising ids ≡ true → (t : LjTerm) (cell : Cell) (species : List ℕ) (xs : List Float) (room : ℕ) (l : List (ℕ × ℕ))
-    → ljGives (lookBy ids params) t cell species xs room l ≡ ljGives (lookOf ids params) t cell species xs room l
+lj-looked : (tab : Tables) → (rising (tab .ownIds) ≡ true) × (rising (tab .ids) ≡ true) → (t : LjTerm) (cell : Cell) (species : List ℕ) (xs : List Float) (room : ℕ) (l : List (ℕ × ℕ))
+    → ljGives (lookBy tab) t cell species xs room l ≡ ljGives (lookOf tab) t cell species xs room l
 unfolding ljGives
-lj-looked ids params h Absent cell species xs room l = refl
-lj-looked ids params h (Present lj) cell species xs room l = ap (λ (look : ℕ → Mixed). ljOver look lj cell species xs room l ∷ []) (looks-all ids params lj h)
+lj-looked tab h Absent cell species xs room l = refl
+lj-looked tab h (Present lj) cell species xs room l = ap (λ (look : ℕ → Mixed). ljOver look lj cell species xs room l ∷ []) (looks-all tab (h .0) (h .1) lj)
 
-module _ (j : Job) (h : rising (j .terms .ids) ≡ true) (room : ℕ) (o : Update.Outcome) where
+module _ (j : Job) (h : (rising (j .terms .tables .ownIds) ≡ true) × (rising (j .terms .tables .ids) ≡ true)) (room : ℕ) (o : Update.Outcome) where
   total-looked : totalOf lookBy room j o ≡ totalOf lookOf room j o
   unfolding totalOf contributions
-  total-looked = rw (lj-looked (j .terms .ids) (j .terms .params) h)
+  total-looked = rw (lj-looked (j .terms .tables) h)
 
   after-looked : (a : Seen (Unit {0})) → afterList lookBy room j a o ≡ afterList lookOf room j a o
   unfolding afterList
@@ -170,14 +171,14 @@ module _ (j : Job) (h : rising (j .terms .ids) ≡ true) (room : ℕ) (o : Updat
   after-looked (refused n p) = refl
 
 -- the kernel's evaluation is the contract's
-pub settled-is : (j : Job) → rising (j .terms .ids) ≡ true → length (j .forces) ≤ 49152 → settledIn j ≡ settledOf j
+pub settled-is : (j : Job) → (rising (j .terms .tables .ownIds) ≡ true) × (rising (j .terms .tables .ids) ≡ true) → length (j .forces) ≤ 49152 → settledIn j ≡ settledOf j
 unfolding settledBy
 settled-is j h l =
     let m : min (length (j .forces)) scratchLength ≡ length (j .forces) = omega arith in
     rw m (after-looked j h (length (j .forces)) _ _)
 
 -- the list's outcome is the evaluation's, and the forces are as many as they were
-module _ (look : List ℕ → List Float → Lj → ℕ → Mixed) (room : ℕ) (j : Job) where
+module _ (look : Tables → Lj → ℕ → Mixed) (room : ℕ) (j : Job) where
   after-list : (a : Seen (Unit {0})) (o : Update.Outcome) → afterList look room j a o .list ≡ o
   unfolding afterList
   after-list (answered u) o = refl

@@ -14,7 +14,7 @@ use Rattle.virial.specs.Virial.{zeroSum}
 use Rattle.potentials_pair.specs.declared.Lj.{Lj}
 use Rattle.potentials_pair.specs.declared.Mixed.{Mixed}
 use Rattle.potentials_pair.specs.Pull.{Total}
-use Rattle.potentials_pair.specs.Species.{lookOf}
+use Rattle.potentials_pair.specs.Species.{Tables, lookOf}
 use Rattle.neighbor.specs.declared.Question.the-variants.{Outdated}
 use Rattle.neighbor.specs.declared.State.{State}
 use Rattle.neighbor.specs.Update.{Given, given, updateOf, listedOf, stays}
@@ -35,9 +35,9 @@ abbrev pub job : Terms → Given → List Float → Job
 job t g forces = record { terms = t; given = g; forces = forces }
 
 -- that of a call, from what it is handed
-abbrev pub jobOf : Setting → State → (ids : List ℕ) (params : List Float) (species : List ℕ) (charges : List Float) (bonds : List ℕ) (lengths ks : List Float) (angles : List ℕ) (perAngle positions : List Float) (exclusions pairs : List ℕ) (references : List Float) (starts items : List ℕ) (forces : List Float) → Job
-jobOf setting s ids params species charges bonds lengths ks angles perAngle positions exclusions pairs references starts items forces =
-    job (terms setting ids params species charges bonds lengths ks angles perAngle) (given s (setting .cell) positions exclusions pairs references starts items) forces
+abbrev pub jobOf : Setting → State → (tab : Tables) (species : List ℕ) (charges : List Float) (bonds : List ℕ) (lengths ks : List Float) (angles : List ℕ) (perAngle positions : List Float) (exclusions pairs : List ℕ) (references : List Float) (starts items : List ℕ) (forces : List Float) → Job
+jobOf setting s tab species charges bonds lengths ks angles perAngle positions exclusions pairs references starts items forces =
+    job (terms setting tab species charges bonds lengths ks angles perAngle) (given s (setting .cell) positions exclusions pairs references starts items) forces
 
 -- its tests, with what a step asks besides
 abbrev pub askedOf : (fits inRange : Bool) → Job → Done
@@ -53,16 +53,16 @@ abbrev pub without : Job → Update.Outcome → Outcome
 without j o = record { list = o; total = record { sum = zeroSum; forces = j .forces } }
 
 -- the terms over the listed pairs; `room` is how many floats a term's own forces have
-unfoldable pub totalOf : (look : List ℕ → List Float → Lj → ℕ → Mixed) → (room : ℕ) → Job → Update.Outcome → Total
+unfoldable pub totalOf : (look : Tables → Lj → ℕ → Mixed) → (room : ℕ) → Job → Update.Outcome → Total
 totalOf look room j o =
     mergedAll (length (j .forces)) (contributions look (j .terms) (j .given .cell) (j .given .positions) room (rows (listedOf (o .state) (o .pairs))))
 
 -- "The pair list is brought up to date first", by the second question (02, No. 6: "the evaluator asks the second one"); where that is refused (7, 8) the forces stay
-unfoldable pub afterList : (look : List ℕ → List Float → Lj → ℕ → Mixed) → (room : ℕ) → Job → Seen (Unit {0}) → Update.Outcome → Outcome
+unfoldable pub afterList : (look : Tables → Lj → ℕ → Mixed) → (room : ℕ) → Job → Seen (Unit {0}) → Update.Outcome → Outcome
 afterList look room j (answered u) o = record { list = o; total = totalOf look room j o }
 afterList look room j (refused n p) o = without j o
 
-unfoldable pub settledBy : (look : List ℕ → List Float → Lj → ℕ → Mixed) → (room : ℕ) → Job → Outcome
+unfoldable pub settledBy : (look : Tables → Lj → ℕ → Mixed) → (room : ℕ) → Job → Outcome
 settledBy look room j = afterList look room j (updateOf Outdated (j .given) .answer) (updateOf Outdated (j .given))
 
 -- an evaluation after its tests

@@ -1,4 +1,5 @@
 pub mod Asked
 pub mod Calls
+pub mod Desks
 pub mod Steps
 pub mod Terms

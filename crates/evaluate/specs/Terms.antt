@@ -8,6 +8,7 @@ use Rattle.virial.specs.Virial.{mergedSum, mergedForces}
 use Rattle.potentials_pair.specs.declared.Lj.{Lj}
 use Rattle.potentials_pair.specs.declared.Mixed.{Mixed}
 use Rattle.potentials_pair.specs.Pull.{Total}
+use Rattle.potentials_pair.specs.Species.{Tables}
 use Rattle.potentials.specs.declared.LjTerm as LjTerm
 use Rattle.potentials.specs.declared.LjTerm.the-variants as LjTerm·cases
 use Rattle.potentials.specs.declared.CoulombTerm as CoulombTerm
@@ -27,8 +28,7 @@ pub record Terms : Type 0 where
   pub bond : BondTerm.BondTerm
   pub angle : AngleTerm.AngleTerm
   pub units : Units
-  pub ids : List ℕ
-  pub params : List Float
+  pub tables : Tables
   pub species : List ℕ
   pub charges : List Float
   pub bonds : List ℕ
@@ -38,16 +38,15 @@ pub record Terms : Type 0 where
   pub perAngle : List Float
 
 -- those of a setting, with their tables
-abbrev pub terms : Setting → (ids : List ℕ) → (params : List Float) → (species : List ℕ) → (charges : List Float) → (bonds : List ℕ) → (lengths ks : List Float) → (angles : List ℕ) → (perAngle : List Float) → Terms
-terms setting ids params species charges bonds lengths ks angles perAngle =
+abbrev pub terms : Setting → (tab : Tables) → (species : List ℕ) → (charges : List Float) → (bonds : List ℕ) → (lengths ks : List Float) → (angles : List ℕ) → (perAngle : List Float) → Terms
+terms setting tab species charges bonds lengths ks angles perAngle =
     record {
       lj = setting .lj;
       coulomb = setting .coulomb;
       bond = setting .bond;
       angle = setting .angle;
       units = setting .units;
-      ids = ids;
-      params = params;
+      tables = tab;
       species = species;
       charges = charges;
       bonds = bonds;
@@ -77,9 +76,9 @@ angleGives AngleTerm·cases.Absent cell angles perAngle xs room = []
 angleGives (AngleTerm·cases.Present angle) cell angles perAngle xs room = anglesOver angle cell angles perAngle xs room ∷ []
 
 -- "The evaluator (added) runs Lennard-Jones, Coulomb, bonds"; 02, No. 1: angles "after bonds"
-unfoldable pub contributions : (look : List ℕ → List Float → Lj → ℕ → Mixed) → Terms → Cell → (xs : List Float) → (room : ℕ) → List (ℕ × ℕ) → List Total
+unfoldable pub contributions : (look : Tables → Lj → ℕ → Mixed) → Terms → Cell → (xs : List Float) → (room : ℕ) → List (ℕ × ℕ) → List Total
 contributions look t cell xs room l =
-    ljGives (look (t .ids) (t .params)) (t .lj) cell (t .species) xs room l
+    ljGives (look (t .tables)) (t .lj) cell (t .species) xs room l
     ++ (coulombGives (t .coulomb) (t .units .«ke_coulomb») cell (t .charges) xs room l
     ++ (bondGives (t .bond) cell (t .bonds) (t .lengths) (t .ks) xs room
     ++ angleGives (t .angle) cell (t .angles) (t .perAngle) xs room))

@@ -11,12 +11,12 @@ use potentials::ranged;
 use potentials_angle::AngleTerm;
 ghost use mathlib.Core.Path.{_≡_};
 ghost use Rattle.neighbor.specs.Update.{andThen};
-ghost use Rattle.evaluate.specs.Asked.{termsFit, ljOk, coulombOk, bondOk, angleOk, numbersOk, bondsAsked, anglesNamed, idsAsked, namesAsked, inTurn};
+ghost use Rattle.potentials_pair.specs.Species.{tables};
+ghost use Rattle.evaluate.specs.Asked.{termsFit, ljOk, coulombOk, bondOk, angleOk, numbersOk, bondsAsked, anglesNamed, namesAsked, inTurn};
 ghost use Rattle.evaluate.specs.Calls.{jobOf, askedOf};
 
 fn terms_fit(
-    ids: usize,
-    params: usize,
+    tables: bool,
     species: usize,
     charges: usize,
     bonds: usize,
@@ -25,10 +25,9 @@ fn terms_fit(
     xs: usize,
     forces: usize,
 ) -> bool
-    ensures { λ r. ⌜ r ≡ termsFit ids params species charges bonds angles «per_angle» xs forces ⌝ }
+    ensures { λ r. ⌜ r ≡ termsFit tables species charges bonds angles «per_angle» xs forces ⌝ }
 {
-    (params / 2 == ids)
-        & (params % 2 == 0)
+    tables
         & (species == xs / 3)
         & (charges == xs / 3)
         & (bonds % 2 == 0)
@@ -75,13 +74,14 @@ fn angle_ok(angle: AngleTerm) -> bool
 
 fn numbers_ok(
     setting: Setting,
+    own_params: &[f64],
     params: &[f64],
     charges: &[f64],
     lengths: &[f64],
     ks: &[f64],
     per_angle: &[f64],
 ) -> bool
-    ensures { λ r. ⌜ r ≡ numbersOk (setting .lj) (setting .coulomb) (setting .bond) (setting .angle) (setting .units) (now (params .entry)) (now (charges .entry)) (now (lengths .entry)) (now (ks .entry)) (now («per_angle» .entry)) ⌝ }
+    ensures { λ r. ⌜ r ≡ numbersOk (setting .lj) (setting .coulomb) (setting .bond) (setting .angle) (setting .units) (now («own_params» .entry)) (now (params .entry)) (now (charges .entry)) (now (lengths .entry)) (now (ks .entry)) (now («per_angle» .entry)) ⌝ }
 {
     let lj = setting.lj;
     let coulomb = setting.coulomb;
@@ -93,7 +93,7 @@ fn numbers_ok(
         & bond_ok(bond)
         & angle_ok(angle)
         & virial::ranged::units_in_range(units)
-        & ranged::params_in_range(params)
+        & ranged::rows_in_range(own_params, params)
         & ranged::charges_in_range(charges)
         & ranged::entries_in_range(lengths)
         & ranged::entries_in_range(ks)
@@ -122,16 +122,6 @@ fn asked_angles(n: usize, angles: &[u32]) -> Done
     Done::Answered
 }
 
-// Refusal 5 of the species.
-fn asked_ids(ids: &[u32]) -> Done
-    ensures { λ r. ⌜ r ≡ idsAsked (now (ids .entry)) ⌝ }
-{
-    if potentials_pair::species::is_rising(ids) {
-        return Done::Answered;
-    }
-    Done::Refused(Refusal::Order)
-}
-
 // The first refusal of two tests.
 fn and_then(a: Done, b: Done) -> Done
     ensures { λ r. ⌜ r ≡ andThen a b ⌝ }
@@ -142,14 +132,21 @@ fn and_then(a: Done, b: Done) -> Done
     }
 }
 
-// A bond's 4, an angle's; 5 of the exclusions, of the species.
-fn asked_names(n: usize, bonds: &[u32], angles: &[u32], table: &[u32], ids: &[u32]) -> Done
-    ensures { λ r. ⌜ r ≡ namesAsked n (now (bonds .entry)) (now (angles .entry)) (now (table .entry)) (now (ids .entry)) ⌝ }
+// A bond's 4, an angle's; 5 of the exclusions, of the desk's own species, of the house's.
+fn asked_names(
+    n: usize,
+    bonds: &[u32],
+    angles: &[u32],
+    table: &[u32],
+    own_ids: &[u32],
+    ids: &[u32],
+) -> Done
+    ensures { λ r. ⌜ r ≡ namesAsked n (now (bonds .entry)) (now (angles .entry)) (now (table .entry)) (now («own_ids» .entry)) (now (ids .entry)) ⌝ }
 {
     let a = asked_bonds(n, bonds);
     let b = asked_angles(n, angles);
     let c = neighbor::asked::asked_table(table);
-    let d = asked_ids(ids);
+    let d = potentials::species::asked_order(own_ids, ids);
     and_then(a, and_then(b, and_then(c, d)))
 }
 
@@ -171,6 +168,8 @@ pub fn asked(
     inside: bool,
     setting: Setting,
     s: State,
+    own_ids: &[u32],
+    own_params: &[f64],
     ids: &[u32],
     params: &[f64],
     species: &[u32],
@@ -188,13 +187,18 @@ pub fn asked(
     items: &[u32],
     forces: &[f64],
 ) -> Done
-    ensures { λ r. ⌜ r ≡ askedOf fits inside (jobOf setting s (now (ids .entry)) (now (params .entry)) (now (species .entry)) (now (charges .entry)) (now (bonds .entry)) (now (lengths .entry)) (now (ks .entry)) (now (angles .entry)) (now («per_angle» .entry)) (now (positions .entry)) (now (exclusions .entry)) (now (pairs .entry)) (now (references .entry)) (now (starts .entry)) (now (items .entry)) (now (forces .entry))) ⌝ }
+    ensures { λ r. ⌜ r ≡ askedOf fits inside (jobOf setting s (tables (now («own_ids» .entry)) (now («own_params» .entry)) (now (ids .entry)) (now (params .entry))) (now (species .entry)) (now (charges .entry)) (now (bonds .entry)) (now (lengths .entry)) (now (ks .entry)) (now (angles .entry)) (now («per_angle» .entry)) (now (positions .entry)) (now (exclusions .entry)) (now (pairs .entry)) (now (references .entry)) (now (starts .entry)) (now (items .entry)) (now (forces .entry))) ⌝ }
 {
     let cell = setting.cell;
     let n = positions.len() / 3;
-    let fit = terms_fit(
+    let tables = potentials::species::tables_fit(
+        own_ids.len(),
+        own_params.len(),
         ids.len(),
         params.len(),
+    );
+    let fit = terms_fit(
+        tables,
         species.len(),
         charges.len(),
         bonds.len(),
@@ -212,8 +216,8 @@ pub fn asked(
         references.len(),
         items.len(),
     );
-    let ok = numbers_ok(setting, params, charges, lengths, ks, per_angle);
+    let ok = numbers_ok(setting, own_params, params, charges, lengths, ks, per_angle);
     let kept = neighbor::asked::asked_kept(s, n, pairs, references);
-    let names = asked_names(n, bonds, angles, exclusions, ids);
+    let names = asked_names(n, bonds, angles, exclusions, own_ids, ids);
     in_turn(fits & fit, first, inside & ok, kept, names)
 }

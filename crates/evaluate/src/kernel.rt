@@ -11,6 +11,7 @@ ghost use mathlib.Core.Path.{_≡_};
 ghost use Prim.Native.Nat.{min};
 ghost use lib.ListN.{length};
 ghost use Rattle.potentials_pair.specs.Pull.{held};
+ghost use Rattle.potentials_pair.specs.Species.{tables};
 ghost use Rattle.evaluate.specs.Terms.{terms};
 ghost use Rattle.evaluate.specs.Calls.{jobOf};
 ghost use Rattle.evaluate.specs.Steps.{scratchLength, termsOver, evaluatedFrom, AfterListSays, SettleSays};
@@ -25,6 +26,8 @@ fn scratch() -> [f64; 49152]
 // The terms over listed pairs, in a scratch as long as the forces.
 fn combine(
     setting: Setting,
+    own_ids: &[u32],
+    own_params: &[f64],
     ids: &[u32],
     params: &[f64],
     species: &[u32],
@@ -38,13 +41,15 @@ fn combine(
     pairs: &[u32],
     forces: &mut [f64],
 ) -> Sum
-    ensures { λ r. ⌜ held r (now (forces .exit)) ≡ termsOver (terms setting (now (ids .entry)) (now (params .entry)) (now (species .entry)) (now (charges .entry)) (now (bonds .entry)) (now (lengths .entry)) (now (ks .entry)) (now (angles .entry)) (now («per_angle» .entry))) (setting .cell) (now (xs .entry)) (now (pairs .entry)) (min (length (now (forces .entry))) scratchLength) (length (now (forces .entry))) ⌝ }
+    ensures { λ r. ⌜ held r (now (forces .exit)) ≡ termsOver (terms setting (tables (now («own_ids» .entry)) (now («own_params» .entry)) (now (ids .entry)) (now (params .entry))) (now (species .entry)) (now (charges .entry)) (now (bonds .entry)) (now (lengths .entry)) (now (ks .entry)) (now (angles .entry)) (now («per_angle» .entry))) (setting .cell) (now (xs .entry)) (now (pairs .entry)) (min (length (now (forces .entry))) scratchLength) (length (now (forces .entry))) ⌝ }
 {
     let n = virial::ranged::shorter(forces.len(), 49152);
     let mut room = scratch();
     merging::all(
         &mut room[..n],
         setting,
+        own_ids,
+        own_params,
         ids,
         params,
         species,
@@ -79,6 +84,8 @@ fn after_list(
     forces: &mut [f64],
     u: Updated,
     setting: Setting,
+    own_ids: &[u32],
+    own_params: &[f64],
     ids: &[u32],
     params: &[f64],
     species: &[u32],
@@ -91,7 +98,7 @@ fn after_list(
     xs: &[f64],
     pairs: &[u32],
 ) -> Evaluated
-    ensures { λ r. ⌜ AfterListSays u (terms setting (now (ids .entry)) (now (params .entry)) (now (species .entry)) (now (charges .entry)) (now (bonds .entry)) (now (lengths .entry)) (now (ks .entry)) (now (angles .entry)) (now («per_angle» .entry))) (setting .cell) (now (xs .entry)) (now (pairs .entry)) (now (forces .entry)) r (now (forces .exit)) ⌝ }
+    ensures { λ r. ⌜ AfterListSays u (terms setting (tables (now («own_ids» .entry)) (now («own_params» .entry)) (now (ids .entry)) (now (params .entry))) (now (species .entry)) (now (charges .entry)) (now (bonds .entry)) (now (lengths .entry)) (now (ks .entry)) (now (angles .entry)) (now («per_angle» .entry))) (setting .cell) (now (xs .entry)) (now (pairs .entry)) (now (forces .entry)) r (now (forces .exit)) ⌝ }
 {
     let done = u.done;
     if let Done::Refused(_) = done {
@@ -101,6 +108,8 @@ fn after_list(
     let part = neighbor::listed(state, pairs);
     let sum = combine(
         setting,
+        own_ids,
+        own_params,
         ids,
         params,
         species,
@@ -121,6 +130,8 @@ fn after_list(
 pub fn settle(
     setting: Setting,
     s: State,
+    own_ids: &[u32],
+    own_params: &[f64],
     ids: &[u32],
     params: &[f64],
     species: &[u32],
@@ -138,7 +149,7 @@ pub fn settle(
     items: &mut [u32],
     forces: &mut [f64],
 ) -> Evaluated
-    ensures { λ r. ⌜ SettleSays (jobOf setting s (now (ids .entry)) (now (params .entry)) (now (species .entry)) (now (charges .entry)) (now (bonds .entry)) (now (lengths .entry)) (now (ks .entry)) (now (angles .entry)) (now («per_angle» .entry)) (now (positions .entry)) (now (exclusions .entry)) (now (pairs .entry)) (now (references .entry)) (now (starts .entry)) (now (items .entry)) (now (forces .entry))) r (now (pairs .exit)) (now (references .exit)) (now (starts .exit)) (now (items .exit)) (now (forces .exit)) ⌝ }
+    ensures { λ r. ⌜ SettleSays (jobOf setting s (tables (now («own_ids» .entry)) (now («own_params» .entry)) (now (ids .entry)) (now (params .entry))) (now (species .entry)) (now (charges .entry)) (now (bonds .entry)) (now (lengths .entry)) (now (ks .entry)) (now (angles .entry)) (now («per_angle» .entry)) (now (positions .entry)) (now (exclusions .entry)) (now (pairs .entry)) (now (references .entry)) (now (starts .entry)) (now (items .entry)) (now (forces .entry))) r (now (pairs .exit)) (now (references .exit)) (now (starts .exit)) (now (items .exit)) (now (forces .exit)) ⌝ }
 {
     let cell = setting.cell;
     let u = neighbor::kernel::update(
@@ -156,6 +167,8 @@ pub fn settle(
         forces,
         u,
         setting,
+        own_ids,
+        own_params,
         ids,
         params,
         species,

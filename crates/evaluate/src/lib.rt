@@ -19,6 +19,7 @@ ghost use mathlib.Core.Path.{_≡_};
 ghost use mathlib.Core.Bool.{false};
 ghost use Rattle.answer.specs.declared.Done.the-variants.{Refused};
 ghost use Rattle.virial.specs.Virial.{zeroSum};
+ghost use Rattle.potentials_pair.specs.Species.{tables};
 ghost use Rattle.evaluate.specs.Calls.{jobOf, EvaluateSays, EvaluateLists};
 
 // What an evaluation goes by besides its tables: the terms, each absent or present with its numbers, the units, and the cell.
@@ -52,11 +53,13 @@ fn refused(s: State, why: Refusal) -> Evaluated
     }
 }
 
-// The terms over the list brought up to date; refusals 1, 2, 6, 3, 4, 5, 7, 8. `ids` are the species that `params` has epsilon and sigma of; `lengths` is the
-// Rust's per_bond, `ks` its per_bond_k.
+// The terms over the list brought up to date; refusals 1, 2, 6, 3, 4, 5, 7, 8. `own_ids` and `ids` are the species that
+// `own_params` and `params` have epsilon and sigma of, a desk's own and the house's; `lengths` is the Rust's per_bond, `ks` its per_bond_k.
 pub fn evaluate(
     setting: Setting,
     s: State,
+    own_ids: &[u32],
+    own_params: &[f64],
     ids: &[u32],
     params: &[f64],
     species: &[u32],
@@ -74,14 +77,16 @@ pub fn evaluate(
     items: &mut [u32],
     forces: &mut [f64],
 ) -> Evaluated
-    ensures says { λ r. ⌜ EvaluateSays (jobOf setting s (now (ids .entry)) (now (params .entry)) (now (species .entry)) (now (charges .entry)) (now (bonds .entry)) (now (lengths .entry)) (now (ks .entry)) (now (angles .entry)) (now («per_angle» .entry)) (now (positions .entry)) (now (exclusions .entry)) (now (pairs .entry)) (now (references .entry)) (now (starts .entry)) (now (items .entry)) (now (forces .entry))) r (now (pairs .exit)) (now (references .exit)) (now (starts .exit)) (now (items .exit)) (now (forces .exit)) ⌝ }
-    ensures lists { λ r. ⌜ EvaluateLists (jobOf setting s (now (ids .entry)) (now (params .entry)) (now (species .entry)) (now (charges .entry)) (now (bonds .entry)) (now (lengths .entry)) (now (ks .entry)) (now (angles .entry)) (now («per_angle» .entry)) (now (positions .entry)) (now (exclusions .entry)) (now (pairs .entry)) (now (references .entry)) (now (starts .entry)) (now (items .entry)) (now (forces .entry))) r (now (pairs .exit)) ⌝ }
+    ensures says { λ r. ⌜ EvaluateSays (jobOf setting s (tables (now («own_ids» .entry)) (now («own_params» .entry)) (now (ids .entry)) (now (params .entry))) (now (species .entry)) (now (charges .entry)) (now (bonds .entry)) (now (lengths .entry)) (now (ks .entry)) (now (angles .entry)) (now («per_angle» .entry)) (now (positions .entry)) (now (exclusions .entry)) (now (pairs .entry)) (now (references .entry)) (now (starts .entry)) (now (items .entry)) (now (forces .entry))) r (now (pairs .exit)) (now (references .exit)) (now (starts .exit)) (now (items .exit)) (now (forces .exit)) ⌝ }
+    ensures lists { λ r. ⌜ EvaluateLists (jobOf setting s (tables (now («own_ids» .entry)) (now («own_params» .entry)) (now (ids .entry)) (now (params .entry))) (now (species .entry)) (now (charges .entry)) (now (bonds .entry)) (now (lengths .entry)) (now (ks .entry)) (now (angles .entry)) (now («per_angle» .entry)) (now (positions .entry)) (now (exclusions .entry)) (now (pairs .entry)) (now (references .entry)) (now (starts .entry)) (now (items .entry)) (now (forces .entry))) r (now (pairs .exit)) ⌝ }
 {
     let a = asked::asked(
         true,
         true,
         setting,
         s,
+        own_ids,
+        own_params,
         ids,
         params,
         species,
@@ -105,6 +110,8 @@ pub fn evaluate(
     kernel::settle(
         setting,
         s,
+        own_ids,
+        own_params,
         ids,
         params,
         species,

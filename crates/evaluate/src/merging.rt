@@ -10,7 +10,7 @@ use virial::Units;
 ghost use mathlib.Core.Path.{_≡_};
 ghost use lib.ListN.{length};
 ghost use Rattle.lists.specs.Lists.{rows};
-ghost use Rattle.potentials_pair.specs.Species.{lookBy};
+ghost use Rattle.potentials_pair.specs.Species.{tables, lookBy};
 ghost use Rattle.potentials_pair.specs.Pull.{held};
 ghost use Rattle.evaluate.specs.Terms.{terms, ljGives, coulombGives, bondGives, angleGives, merged, mergedInto};
 ghost use Rattle.evaluate.specs.Steps.{termsOver};
@@ -29,18 +29,31 @@ fn with_lj(
     sum: Sum,
     lj: LjTerm,
     cell: Cell,
+    own_ids: &[u32],
+    own_params: &[f64],
     ids: &[u32],
     params: &[f64],
     species: &[u32],
     xs: &[f64],
     pairs: &[u32],
 ) -> Sum
-    ensures { λ r. ⌜ held r (now (forces .exit)) ≡ mergedInto (held sum (now (forces .entry))) (ljGives (lookBy (now (ids .entry)) (now (params .entry))) lj cell (now (species .entry)) (now (xs .entry)) (length (now (scratch .entry))) (rows (now (pairs .entry)))) ⌝ }
+    ensures { λ r. ⌜ held r (now (forces .exit)) ≡ mergedInto (held sum (now (forces .entry))) (ljGives (lookBy (tables (now («own_ids» .entry)) (now («own_params» .entry)) (now (ids .entry)) (now (params .entry)))) lj cell (now (species .entry)) (now (xs .entry)) (length (now (scratch .entry))) (rows (now (pairs .entry)))) ⌝ }
 {
     let LjTerm::Present(t) = lj else {
         return sum;
     };
-    let own = potentials::kernel::lj_pairs(t, cell, ids, params, species, xs, pairs, scratch);
+    let own = potentials::kernel::lj_pairs(
+        t,
+        cell,
+        own_ids,
+        own_params,
+        ids,
+        params,
+        species,
+        xs,
+        pairs,
+        scratch,
+    );
     merge(sum, forces, own, scratch)
 }
 
@@ -107,6 +120,8 @@ fn with_angles(
 pub(crate) fn all(
     scratch: &mut [f64],
     setting: Setting,
+    own_ids: &[u32],
+    own_params: &[f64],
     ids: &[u32],
     params: &[f64],
     species: &[u32],
@@ -120,7 +135,7 @@ pub(crate) fn all(
     pairs: &[u32],
     forces: &mut [f64],
 ) -> Sum
-    ensures { λ r. ⌜ held r (now (forces .exit)) ≡ termsOver (terms setting (now (ids .entry)) (now (params .entry)) (now (species .entry)) (now (charges .entry)) (now (bonds .entry)) (now (lengths .entry)) (now (ks .entry)) (now (angles .entry)) (now («per_angle» .entry))) (setting .cell) (now (xs .entry)) (now (pairs .entry)) (length (now (scratch .entry))) (length (now (forces .entry))) ⌝ }
+    ensures { λ r. ⌜ held r (now (forces .exit)) ≡ termsOver (terms setting (tables (now («own_ids» .entry)) (now («own_params» .entry)) (now (ids .entry)) (now (params .entry))) (now (species .entry)) (now (charges .entry)) (now (bonds .entry)) (now (lengths .entry)) (now (ks .entry)) (now (angles .entry)) (now («per_angle» .entry))) (setting .cell) (now (xs .entry)) (now (pairs .entry)) (length (now (scratch .entry))) (length (now (forces .entry))) ⌝ }
 {
     let lj = setting.lj;
     let coulomb = setting.coulomb;
@@ -136,6 +151,8 @@ pub(crate) fn all(
         zero,
         lj,
         cell,
+        own_ids,
+        own_params,
         ids,
         params,
         species,

@@ -3,13 +3,14 @@ use Prim.Native.Nat.{ℕ}
 use mathlib.Core.Path.{_≡_, refl, sym, _∙_}
 use mathlib.Core.List.{List}
 use Rattle.answer.specs.declared.Done.{Done}
+use Rattle.potentials_pair.specs.Species.{Tables}
 use Rattle.cell.proofs.Only.{orthorhombic-only, cubic-only, is-orthorhombic-only, matrix-only, volume-only, inverse-only, to-fractional-only, to-cartesian-only, wrap-only, perp-widths-only, min-image-only}
 use Rattle.virial.proofs.Only.{zeros-only, merge-only, add-pair-force-only, virial-from-pair-only, scalar-virial-only, pressure-only, pressure-tensor-only, to-gpa-only}
 use Rattle.exclusions.proofs.Only.{exclude-only, set-only, asked-only as rows-asked-only}
 use Rattle.bins.proofs.Only.{asked-only as atoms-asked-only}
 use Rattle.neighbor.proofs.Only.{new-only, search-radius-only, needs-rebuild-only, outdated-only, update-only, listed-asked-only}
 use Rattle.neighbor.specs.declared.Question.the-variants.{Unasked, NeedsRebuild}
-use Rattle.potentials.proofs.Only.{monatomic-only, uniform-only, lj-pairs-only, lj-all-only, coulomb-pairs-only, coulomb-all-only, bonds-all-only}
+use Rattle.potentials.proofs.Only.{monatomic-only, uniform-only, species-row-asked-only, lj-pairs-only, lj-all-only, coulomb-pairs-only, coulomb-all-only, bonds-all-only}
 use Rattle.potentials_angle.proofs.Only.{uniform-angles-only, angles-all-only}
 use Rattle.evaluate.proofs.Only.{evaluate-only}
 use Rattle.verlet.proofs.Only.{kinetic-energy-only, temperature-only, berendsen-only}
@@ -27,7 +28,9 @@ use Rattle.sheet_rewritten.proofs.Only.{rewrite-only}
 use Rattle.field_structs.proofs.Only.{shown-only, shown-alone}
 use Rattle.field_structs.specs.Unique.{OneOutcome}
 use Rattle.field_structs.specs.declared.FlatPart.{FlatPart}
+use Rattle.field_structs.specs.declared.FlatRow.{FlatRow}
 use Rattle.field.specs.Parts.{PartSays}
+use Rattle.field.specs.Rows.{RowSays}
 use Rattle.field.proofs.floats.tyn_root as root
 use Rattle.field.proofs.floats.tyn_floor as floor
 use Rattle.field.proofs.floats.tyn_trunc as trunc
@@ -85,6 +88,7 @@ use Rattle.field.proofs.sheets.tyn_rewrite as rewrite
 use Rattle.field.proofs.forces.tyn_monatomic as monatomic
 use Rattle.field.proofs.forces.tyn_argon as argon
 use Rattle.field.proofs.forces.tyn_uniform as uniform
+use Rattle.field.proofs.desks.tyn_species_row as species-row
 use Rattle.field.proofs.forces.tyn_lj_pairs as lj-pairs
 use Rattle.field.proofs.forces.tyn_lj_all as lj-all
 use Rattle.field.proofs.forces.tyn_coulomb_pairs as coulomb-pairs
@@ -108,6 +112,15 @@ part-only p q only =
     let n = p .begins ∙ sym (q .begins) in
     let k = p .counts ∙ sym (q .counts) in
     λ i. record { done = d i; start = n i; length = k i }
+
+-- a species' row that is told by its table and its numbers
+row-only : {t : Tables} {species : ℕ} {r s : FlatRow} → RowSays t species r → RowSays t species s → r ≡ s
+row-only {t} p q =
+    let d = shown-alone (p .done) (q .done) (species-row-asked-only t) in
+    let b = p .table ∙ sym (q .table) in
+    let e = p .epsilon ∙ sym (q .epsilon) in
+    let g = p .sigma ∙ sym (q .sigma) in
+    λ i. record { done = d i; table = b i; epsilon = e i; sigma = g i }
 
 -- ---- helpers on floats
 pub tyn-root-only : OneOutcome root.ended root.Reads.Post
@@ -288,11 +301,14 @@ tyn-argon-only l a r s m n p q = (p ∙ sym q, refl)
 pub tyn-uniform-only : OneOutcome uniform.ended uniform.Reads.Post
 tyn-uniform-only l a r s m n p q = (shown-alone p q (uniform-only _ _), refl)
 
+pub tyn-species-row-only : OneOutcome species-row.ended species-row.Reads.Post
+tyn-species-row-only l a r s m n p q = (row-only p q, refl)
+
 pub tyn-lj-pairs-only : OneOutcome lj-pairs.ended lj-pairs.Reads.Post
-tyn-lj-pairs-only l a r s m n p q = shown-only p q (λ u v h k. let b = lj-pairs-only u v _ _ (a .1 .1 .1 .1 .1 .0 .now) (a .1 .1 .1 .1 .1 .1 .1 .0 .now) _ _ _ _ (a .1 .1 .1 .1 .0 .now) (a .1 .1 .1 .1 .1 .1 .0 .now) h k in (b .0, λ i. (tt, (tt, (tt, (tt, (tt, (tt, (tt, (b .1 i, tt))))))))))
+tyn-lj-pairs-only l a r s m n p q = shown-only p q (λ u v h k. let b = lj-pairs-only u v _ _ (a .1 .1 .1 .1 .1 .1 .1 .0 .now) (a .1 .1 .1 .1 .1 .1 .1 .1 .1 .0 .now) _ _ _ (a .1 .1 .1 .1 .1 .1 .0 .now) (a .1 .1 .1 .1 .1 .1 .1 .1 .0 .now) h k in (b .0, λ i. (tt, (tt, (tt, (tt, (tt, (tt, (tt, (tt, (tt, (b .1 i, tt))))))))))))
 
 pub tyn-lj-all-only : OneOutcome lj-all.ended lj-all.Reads.Post
-tyn-lj-all-only l a r s m n p q = shown-only p q (λ u v h k. let b = lj-all-only u v _ _ (a .1 .1 .1 .1 .1 .0 .now) (a .1 .1 .1 .1 .1 .1 .0 .now) _ _ _ _ (a .1 .1 .1 .1 .0 .now) h k in (b .0, λ i. (tt, (tt, (tt, (tt, (tt, (tt, (b .1 i, tt)))))))))
+tyn-lj-all-only l a r s m n p q = shown-only p q (λ u v h k. let b = lj-all-only u v _ _ (a .1 .1 .1 .1 .1 .1 .1 .0 .now) (a .1 .1 .1 .1 .1 .1 .1 .1 .0 .now) _ _ _ (a .1 .1 .1 .1 .1 .1 .0 .now) h k in (b .0, λ i. (tt, (tt, (tt, (tt, (tt, (tt, (tt, (tt, (b .1 i, tt)))))))))))
 
 pub tyn-coulomb-pairs-only : OneOutcome coulomb-pairs.ended coulomb-pairs.Reads.Post
 tyn-coulomb-pairs-only l a r s m n p q = shown-only p q (λ u v h k. let b = coulomb-pairs-only u v _ _ _ (a .1 .1 .1 .1 .1 .1 .0 .now) _ _ _ _ (a .1 .1 .1 .1 .1 .0 .now) h k in (b .0, λ i. (tt, (tt, (tt, (tt, (tt, (tt, (b .1 i, tt)))))))))
@@ -310,7 +326,7 @@ pub tyn-angles-all-only : OneOutcome angles-all.ended angles-all.Reads.Post
 tyn-angles-all-only l a r s m n p q = shown-only p q (λ u v h k. let b = angles-all-only u v _ _ (a .1 .1 .1 .1 .0 .now) (a .1 .1 .1 .1 .1 .0 .now) _ _ (a .1 .1 .0 .now) (a .1 .1 .1 .0 .now) h k in (b .0, λ i. (tt, (tt, (tt, (tt, (tt, (b .1 i, tt))))))))
 
 pub tyn-evaluate-only : OneOutcome evaluate.ended evaluate.Reads.Post
-tyn-evaluate-only l a r s m n p q = shown-only p q (λ u v h k. let b = evaluate-only _ u v _ _ _ _ _ _ _ _ _ _ (h .0) (k .0) in (b .0, λ i. (tt, (tt, (tt, (tt, (tt, (tt, (tt, (tt, (tt, (tt, (tt, (tt, (tt, (b .1 i, (b .2 i, (b .3 i, (b .4 i, (b .5 i, tt))))))))))))))))))))
+tyn-evaluate-only l a r s m n p q = shown-only p q (λ u v h k. let b = evaluate-only _ u v _ _ _ _ _ _ _ _ _ _ (h .0) (k .0) in (b .0, λ i. (tt, (tt, (tt, (tt, (tt, (tt, (tt, (tt, (tt, (tt, (tt, (tt, (tt, (tt, (tt, (b .1 i, (b .2 i, (b .3 i, (b .4 i, (b .5 i, tt))))))))))))))))))))))
 
 -- ---- kinetic energy, temperature, thermostat
 pub tyn-kinetic-energy-only : OneOutcome kinetic-energy.ended kinetic-energy.Reads.Post
@@ -324,11 +340,11 @@ tyn-berendsen-only l a r s m n p q = shown-only p q (λ u v h k. let b = berends
 
 -- ---- the step
 pub tyn-step-only : OneOutcome step.ended step.Reads.Post
-tyn-step-only l a r s m n p q = shown-only p q (λ u v h k. let b = step-only _ _ u v _ _ _ _ _ _ _ _ _ _ _ _ _ _ (h .0) (k .0) in (b .0, λ i. (tt, (tt, (tt, (tt, (tt, (tt, (tt, (tt, (tt, (tt, (tt, (tt, (tt, (tt, (tt, (b .1 i, (b .2 i, (b .3 i, (b .4 i, (b .5 i, (b .6 i, (b .7 i, tt))))))))))))))))))))))))
+tyn-step-only l a r s m n p q = shown-only p q (λ u v h k. let b = step-only _ _ u v _ _ _ _ _ _ _ _ _ _ _ _ _ _ (h .0) (k .0) in (b .0, λ i. (tt, (tt, (tt, (tt, (tt, (tt, (tt, (tt, (tt, (tt, (tt, (tt, (tt, (tt, (tt, (tt, (tt, (b .1 i, (b .2 i, (b .3 i, (b .4 i, (b .5 i, (b .6 i, (b .7 i, tt))))))))))))))))))))))))))
 
 pub tyn-finish-only : OneOutcome finish.ended finish.Reads.Post
-tyn-finish-only l a r s m n p q = shown-only p q (λ u v h k. let b = finish-only _ _ u v _ _ _ _ _ _ _ _ _ _ _ _ (h .0) (k .0) in (b .0, λ i. (tt, (tt, (tt, (tt, (tt, (tt, (tt, (tt, (tt, (tt, (tt, (tt, (tt, (tt, (tt, (tt, (b .1 i, (b .2 i, (b .3 i, (b .4 i, (b .5 i, (b .6 i, tt))))))))))))))))))))))))
+tyn-finish-only l a r s m n p q = shown-only p q (λ u v h k. let b = finish-only _ _ u v _ _ _ _ _ _ _ _ _ _ _ _ (h .0) (k .0) in (b .0, λ i. (tt, (tt, (tt, (tt, (tt, (tt, (tt, (tt, (tt, (tt, (tt, (tt, (tt, (tt, (tt, (tt, (tt, (tt, (b .1 i, (b .2 i, (b .3 i, (b .4 i, (b .5 i, (b .6 i, tt))))))))))))))))))))))))))
 
 -- ---- settling
 pub tyn-fire-only : OneOutcome settling.ended settling.Reads.Post
-tyn-fire-only l a r s m n p q = shown-only p q (λ u v h k. let b = fire-only _ _ u v _ _ _ _ _ _ _ _ _ _ _ _ _ _ h k in (b .0, λ i. (tt, (tt, (tt, (tt, (tt, (tt, (tt, (tt, (tt, (tt, (tt, (tt, (tt, (tt, (b .1 i, (b .2 i, (b .3 i, (b .4 i, (b .5 i, (b .6 i, (b .7 i, tt)))))))))))))))))))))))
+tyn-fire-only l a r s m n p q = shown-only p q (λ u v h k. let b = fire-only _ _ u v _ _ _ _ _ _ _ _ _ _ _ _ _ _ h k in (b .0, λ i. (tt, (tt, (tt, (tt, (tt, (tt, (tt, (tt, (tt, (tt, (tt, (tt, (tt, (tt, (tt, (tt, (b .1 i, (b .2 i, (b .3 i, (b .4 i, (b .5 i, (b .6 i, (b .7 i, tt)))))))))))))))))))))))))

@@ -12,6 +12,7 @@ use field_structs::take;
 use potentials::Bond;
 use virial::Units;
 ghost use Rattle.evaluate.specs.Calls.{EvaluateLists, EvaluateSays, jobOf};
+ghost use Rattle.potentials_pair.specs.Species.{tables};
 ghost use Rattle.field_structs.specs.Flat.{flatBondAnswer, flatEvaluated, flatLj, flatLjAnswer, flatSummed};
 ghost use Rattle.field_structs.specs.Shown.{Shown};
 ghost use Rattle.field_structs.specs.Taken.{cellOf, ljOf, settingOf, stateOf};
@@ -42,12 +43,15 @@ pub extern "C" fn tyn_uniform(k: f64, r0: f64) -> FlatBondAnswer
     give::bond_answer(potentials::uniform(k, r0))
 }
 
-// Lennard-Jones over the listed pairs: forces overwritten, from zero. ids are the species that params has epsilon and sigma of; species is an id an
-// atom. Refusals 1, 2, 3, 4, 5.
+// Lennard-Jones over the listed pairs: forces overwritten, from zero. own_ids and ids are the species that own_params and params have epsilon
+// and sigma of, a desk's own table and the house's; a species' row is the own one where there is one. species is an id an atom. Refusals 1, 2, 3, 4, 5
+// (place 1 for the house's ids).
 #[no_mangle]
 pub extern "C" fn tyn_lj_pairs(
     lj: FlatLj,
     cell: FlatCell,
+    own_ids: &[u32],
+    own_params: &[f64],
     ids: &[u32],
     params: &[f64],
     species: &[u32],
@@ -55,11 +59,13 @@ pub extern "C" fn tyn_lj_pairs(
     pairs: &[u32],
     forces: &mut [f64],
 ) -> FlatSummed
-    ensures { λ r. ⌜ Shown flatSummed (λ a. LjPairsSays (ljOf lj) (cellOf cell) (now (ids .entry)) (now (params .entry)) (now (species .entry)) (now (positions .entry)) (now (pairs .entry)) (now (forces .entry)) a (now (forces .exit))) r ⌝ }
+    ensures { λ r. ⌜ Shown flatSummed (λ a. LjPairsSays (ljOf lj) (cellOf cell) (tables (now («own_ids» .entry)) (now («own_params» .entry)) (now (ids .entry)) (now (params .entry))) (now (species .entry)) (now (positions .entry)) (now (pairs .entry)) (now (forces .entry)) a (now (forces .exit))) r ⌝ }
 {
     give::summed(potentials::lj_pairs(
         take::lj(lj),
         take::cell(cell),
+        own_ids,
+        own_params,
         ids,
         params,
         species,
@@ -74,17 +80,21 @@ pub extern "C" fn tyn_lj_pairs(
 pub extern "C" fn tyn_lj_all(
     lj: FlatLj,
     cell: FlatCell,
+    own_ids: &[u32],
+    own_params: &[f64],
     ids: &[u32],
     params: &[f64],
     species: &[u32],
     positions: &[f64],
     forces: &mut [f64],
 ) -> FlatSummed
-    ensures { λ r. ⌜ Shown flatSummed (λ a. LjAllSays (ljOf lj) (cellOf cell) (now (ids .entry)) (now (params .entry)) (now (species .entry)) (now (positions .entry)) (now (forces .entry)) a (now (forces .exit))) r ⌝ }
+    ensures { λ r. ⌜ Shown flatSummed (λ a. LjAllSays (ljOf lj) (cellOf cell) (tables (now («own_ids» .entry)) (now («own_params» .entry)) (now (ids .entry)) (now (params .entry))) (now (species .entry)) (now (positions .entry)) (now (forces .entry)) a (now (forces .exit))) r ⌝ }
 {
     give::summed(potentials::lj_all(
         take::lj(lj),
         take::cell(cell),
+        own_ids,
+        own_params,
         ids,
         params,
         species,
@@ -168,6 +178,8 @@ pub extern "C" fn tyn_bonds_all(
 pub extern "C" fn tyn_evaluate(
     setting: FlatSetting,
     s: FlatState,
+    own_ids: &[u32],
+    own_params: &[f64],
     ids: &[u32],
     params: &[f64],
     species: &[u32],
@@ -185,11 +197,13 @@ pub extern "C" fn tyn_evaluate(
     items: &mut [u32],
     forces: &mut [f64],
 ) -> FlatEvaluated
-    ensures { λ r. ⌜ (let j = jobOf (settingOf setting) (stateOf s) (now (ids .entry)) (now (params .entry)) (now (species .entry)) (now (charges .entry)) (now (bonds .entry)) (now (lengths .entry)) (now (ks .entry)) (now (angles .entry)) (now («per_angle» .entry)) (now (positions .entry)) (now (exclusions .entry)) (now (pairs .entry)) (now (references .entry)) (now (starts .entry)) (now (items .entry)) (now (forces .entry)) in Shown flatEvaluated (λ a. EvaluateSays j a (now (pairs .exit)) (now (references .exit)) (now (starts .exit)) (now (items .exit)) (now (forces .exit)) × EvaluateLists j a (now (pairs .exit))) r) ⌝ }
+    ensures { λ r. ⌜ (let j = jobOf (settingOf setting) (stateOf s) (tables (now («own_ids» .entry)) (now («own_params» .entry)) (now (ids .entry)) (now (params .entry))) (now (species .entry)) (now (charges .entry)) (now (bonds .entry)) (now (lengths .entry)) (now (ks .entry)) (now (angles .entry)) (now («per_angle» .entry)) (now (positions .entry)) (now (exclusions .entry)) (now (pairs .entry)) (now (references .entry)) (now (starts .entry)) (now (items .entry)) (now (forces .entry)) in Shown flatEvaluated (λ a. EvaluateSays j a (now (pairs .exit)) (now (references .exit)) (now (starts .exit)) (now (items .exit)) (now (forces .exit)) × EvaluateLists j a (now (pairs .exit))) r) ⌝ }
 {
     give::evaluated(evaluate::evaluate(
         take::setting(setting),
         take::state(s),
+        own_ids,
+        own_params,
         ids,
         params,
         species,

@@ -6,6 +6,7 @@ pub mod boxes;
 pub mod cells;
 pub mod clumps;
 pub mod counts;
+pub mod desks;
 pub mod floats;
 pub mod forces;
 pub mod frames;

@@ -5,6 +5,7 @@ use field_structs::FlatState;
 use field_structs::FlatStepped;
 use field_structs::give;
 use field_structs::take;
+ghost use Rattle.potentials_pair.specs.Species.{tables};
 ghost use Rattle.field_structs.specs.Flat.{flatStepped};
 ghost use Rattle.field_structs.specs.Shown.{Shown};
 ghost use Rattle.field_structs.specs.Taken.{paceOf, settingOf, stateOf};
@@ -19,6 +20,8 @@ pub extern "C" fn tyn_step(
     pace: FlatPace,
     s: FlatState,
     potential: f64,
+    own_ids: &[u32],
+    own_params: &[f64],
     ids: &[u32],
     params: &[f64],
     species: &[u32],
@@ -38,13 +41,15 @@ pub extern "C" fn tyn_step(
     items: &mut [u32],
     forces: &mut [f64],
 ) -> FlatStepped
-    ensures { λ r. ⌜ (let m = motionOf (settingOf setting) (paceOf pace .dt) (stateOf s) potential (now (ids .entry)) (now (params .entry)) (now (species .entry)) (now (charges .entry)) (now (bonds .entry)) (now (lengths .entry)) (now (ks .entry)) (now (angles .entry)) (now («per_angle» .entry)) (now (masses .entry)) (now (exclusions .entry)) (now (positions .entry)) (now (velocities .entry)) (now (pairs .entry)) (now (references .entry)) (now (starts .entry)) (now (items .entry)) (now (forces .entry)) in Shown flatStepped (λ a. StepSays (paceOf pace .thermostat) m a (now (positions .exit)) (now (velocities .exit)) (now (pairs .exit)) (now (references .exit)) (now (starts .exit)) (now (items .exit)) (now (forces .exit)) × StepLists m a (now (positions .exit)) (now (pairs .exit))) r) ⌝ }
+    ensures { λ r. ⌜ (let m = motionOf (settingOf setting) (paceOf pace .dt) (stateOf s) potential (tables (now («own_ids» .entry)) (now («own_params» .entry)) (now (ids .entry)) (now (params .entry))) (now (species .entry)) (now (charges .entry)) (now (bonds .entry)) (now (lengths .entry)) (now (ks .entry)) (now (angles .entry)) (now («per_angle» .entry)) (now (masses .entry)) (now (exclusions .entry)) (now (positions .entry)) (now (velocities .entry)) (now (pairs .entry)) (now (references .entry)) (now (starts .entry)) (now (items .entry)) (now (forces .entry)) in Shown flatStepped (λ a. StepSays (paceOf pace .thermostat) m a (now (positions .exit)) (now (velocities .exit)) (now (pairs .exit)) (now (references .exit)) (now (starts .exit)) (now (items .exit)) (now (forces .exit)) × StepLists m a (now (positions .exit)) (now (pairs .exit))) r) ⌝ }
 {
     give::stepped(verlet_step::step(
         take::setting(setting),
         take::pace(pace),
         take::state(s),
         potential,
+        own_ids,
+        own_params,
         ids,
         params,
         species,
@@ -73,6 +78,8 @@ pub extern "C" fn tyn_finish(
     pace: FlatPace,
     s: FlatState,
     potential: f64,
+    own_ids: &[u32],
+    own_params: &[f64],
     ids: &[u32],
     params: &[f64],
     species: &[u32],
@@ -92,13 +99,15 @@ pub extern "C" fn tyn_finish(
     items: &mut [u32],
     forces: &mut [f64],
 ) -> FlatStepped
-    ensures { λ r. ⌜ (let m = motionOf (settingOf setting) (paceOf pace .dt) (stateOf s) potential (now (ids .entry)) (now (params .entry)) (now (species .entry)) (now (charges .entry)) (now (bonds .entry)) (now (lengths .entry)) (now (ks .entry)) (now (angles .entry)) (now («per_angle» .entry)) (now (masses .entry)) (now (exclusions .entry)) (now (positions .entry)) (now (velocities .entry)) (now (pairs .entry)) (now (references .entry)) (now (starts .entry)) (now (items .entry)) (now (forces .entry)) in Shown flatStepped (λ a. FinishSays (paceOf pace .thermostat) m a (now (velocities .exit)) (now (pairs .exit)) (now (references .exit)) (now (starts .exit)) (now (items .exit)) (now (forces .exit)) × StepLists m a (now (positions .entry)) (now (pairs .exit))) r) ⌝ }
+    ensures { λ r. ⌜ (let m = motionOf (settingOf setting) (paceOf pace .dt) (stateOf s) potential (tables (now («own_ids» .entry)) (now («own_params» .entry)) (now (ids .entry)) (now (params .entry))) (now (species .entry)) (now (charges .entry)) (now (bonds .entry)) (now (lengths .entry)) (now (ks .entry)) (now (angles .entry)) (now («per_angle» .entry)) (now (masses .entry)) (now (exclusions .entry)) (now (positions .entry)) (now (velocities .entry)) (now (pairs .entry)) (now (references .entry)) (now (starts .entry)) (now (items .entry)) (now (forces .entry)) in Shown flatStepped (λ a. FinishSays (paceOf pace .thermostat) m a (now (velocities .exit)) (now (pairs .exit)) (now (references .exit)) (now (starts .exit)) (now (items .exit)) (now (forces .exit)) × StepLists m a (now (positions .entry)) (now (pairs .exit))) r) ⌝ }
 {
     give::stepped(verlet_step::finish(
         take::setting(setting),
         take::pace(pace),
         take::state(s),
         potential,
+        own_ids,
+        own_params,
         ids,
         params,
         species,

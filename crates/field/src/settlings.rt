@@ -9,6 +9,7 @@ ghost use Rattle.field_structs.specs.Settlings.{fireOptionsOf, flatFired};
 ghost use Rattle.field_structs.specs.Shown.{Shown};
 ghost use Rattle.field_structs.specs.Taken.{settingOf, stateOf};
 ghost use Rattle.fire.specs.Calls.{FireSays, settlingOf};
+ghost use Rattle.potentials_pair.specs.Species.{tables};
 
 // Relaxes the positions to a local minimum of the energy by damped steps: the first evaluation, the atoms at rest, then iterations until the largest force
 // component is within the tolerance or the limit is reached. forces is a room. A refusal inside an iteration tells it and leaves what a step stopped there
@@ -18,6 +19,8 @@ pub extern "C" fn tyn_fire(
     o: FlatFireOptions,
     setting: FlatSetting,
     s: FlatState,
+    own_ids: &[u32],
+    own_params: &[f64],
     ids: &[u32],
     params: &[f64],
     species: &[u32],
@@ -37,12 +40,14 @@ pub extern "C" fn tyn_fire(
     items: &mut [u32],
     forces: &mut [f64],
 ) -> FlatFired
-    ensures { λ r. ⌜ Shown flatFired (λ a. FireSays (fireOptionsOf o) (settlingOf (fireOptionsOf o) (settingOf setting) (stateOf s) (now (ids .entry)) (now (params .entry)) (now (species .entry)) (now (charges .entry)) (now (bonds .entry)) (now (lengths .entry)) (now (ks .entry)) (now (angles .entry)) (now («per_angle» .entry)) (now (masses .entry)) (now (exclusions .entry)) (now (positions .entry)) (now (velocities .entry)) (now (pairs .entry)) (now (references .entry)) (now (starts .entry)) (now (items .entry)) (now (forces .entry))) a (now (positions .exit)) (now (velocities .exit)) (now (pairs .exit)) (now (references .exit)) (now (starts .exit)) (now (items .exit)) (now (forces .exit))) r ⌝ }
+    ensures { λ r. ⌜ Shown flatFired (λ a. FireSays (fireOptionsOf o) (settlingOf (fireOptionsOf o) (settingOf setting) (stateOf s) (tables (now («own_ids» .entry)) (now («own_params» .entry)) (now (ids .entry)) (now (params .entry))) (now (species .entry)) (now (charges .entry)) (now (bonds .entry)) (now (lengths .entry)) (now (ks .entry)) (now (angles .entry)) (now («per_angle» .entry)) (now (masses .entry)) (now (exclusions .entry)) (now (positions .entry)) (now (velocities .entry)) (now (pairs .entry)) (now (references .entry)) (now (starts .entry)) (now (items .entry)) (now (forces .entry))) a (now (positions .exit)) (now (velocities .exit)) (now (pairs .exit)) (now (references .exit)) (now (starts .exit)) (now (items .exit)) (now (forces .exit))) r ⌝ }
 {
     settlings::fired(fire::fire(
         settlings::options(o),
         take::setting(setting),
         take::state(s),
+        own_ids,
+        own_params,
         ids,
         params,
         species,

@@ -315,3 +315,12 @@ pub struct FlatPart {
     pub start: usize,
     pub length: usize,
 }
+
+// A species' row: the table that it is a part of (0 none, 1 a desk's own, 2 the house's), its epsilon and its sigma; zeros where there is none.
+#[repr(C)]
+pub struct FlatRow {
+    pub done: FlatDone,
+    pub table: u32,
+    pub epsilon: f64,
+    pub sigma: f64,
+}

@@ -222,7 +222,7 @@ advanced-length m =
     (landed-length (moved m) (settledOf (moved m .job) .list .answer) (settledOf (moved m .job)) (settled-length _ _ (moved m .job)))
     refl
 
-module _ (dtMax tol : Float) (m : Motion) (up : rising (m .job .terms .ids) ≡ true) where
+module _ (dtMax tol : Float) (m : Motion) (up : (rising (m .job .terms .tables .ownIds) ≡ true) × (rising (m .job .terms .tables .ids) ≡ true)) where
   turned-is : (s : Relaxing) → length (s .left .forces) ≤ 49152 → turnedBy settledIn dtMax m s ≡ turnedBy settledOf dtMax m s
   unfolding turnedBy
   turned-is s few = ap (λ (o : Step.Outcome). turnedAfter dtMax (s .gait) (s .largest) (s .iteration) (o .list .answer) o) (advanced-is (nextMotion m s) up few)
@@ -241,7 +241,7 @@ module _ (dtMax tol : Float) (m : Motion) (up : rising (m .job .terms .ids) ≡ 
       (ap (λ (t : Relaxing). relaxedBy (turnedBy settledIn dtMax m) tol n t) (turned-is s few)
       ∙ relaxed-is n (turnedBy settledOf dtMax m s) (omega (arith, turned-length s, few)))
 
-module _ (o : FireOptions) (m : Motion) (up : rising (m .job .terms .ids) ≡ true) (few : length (m .job .forces) ≤ 49152) where
+module _ (o : FireOptions) (m : Motion) (up : (rising (m .job .terms .tables .ownIds) ≡ true) × (rising (m .job .terms .tables .ids) ≡ true)) (few : length (m .job .forces) ≤ 49152) where
   begun-is : begunBy settledIn m ≡ begunBy settledOf m
   unfolding begunBy
   begun-is = ap (λ (e : Evaluation.Outcome). begunAfter m (e .list .answer) e) (settled-is (m .job) up few)
@@ -257,7 +257,7 @@ module _ (o : FireOptions) (m : Motion) (up : rising (m .job .terms .ids) ≡ tr
 
 -- ---- the call
 module _ (o : FireOptions) (m : Motion) {d : Done} (is : d ≡ settlingAsked o m) where
-  asked-up : d ≡ Answered → rising (m .job .terms .ids) ≡ true
+  asked-up : d ≡ Answered → (rising (m .job .terms .tables .ownIds) ≡ true) × (rising (m .job .terms .tables .ids) ≡ true)
   unfolding settlingAsked
   asked-up h = asked-rising _ _ (m .job .terms) (m .job .given) (length (m .job .forces)) (sym is ∙ h)
 

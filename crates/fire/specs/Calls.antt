@@ -12,6 +12,7 @@ use Rattle.answer.specs.Seen.{Seen, answered, refused, seenDone}
 use Rattle.float.specs.Literals.{f0}
 use Rattle.virial.specs.Virial.{zeroForces}
 use Rattle.neighbor.specs.declared.State.{State}
+use Rattle.potentials_pair.specs.Species.{Tables}
 use Rattle.neighbor.specs.Update.{given}
 use Rattle.evaluate.specs.declared.Setting.{Setting}
 use Rattle.evaluate.specs.Calls.{Job, job, askedOf, settledOf}
@@ -26,9 +27,9 @@ use Rattle.fire.specs.Asked.{settlingOk}
 use Rattle.fire.specs.Steer.{largestForce, freshGait, steeredOf}
 
 -- a call is given a step's motion: its time step is the options', its potential +0, its forces a room
-abbrev pub settlingOf : FireOptions → Setting → State → (ids : List ℕ) (params : List Float) (species : List ℕ) (charges : List Float) (bonds : List ℕ) (lengths ks : List Float) (angles : List ℕ) (perAngle masses : List Float) (exclusions : List ℕ) (positions velocities : List Float) (pairs : List ℕ) (references : List Float) (starts items : List ℕ) (forces : List Float) → Motion
-settlingOf o setting s ids params species charges bonds lengths ks angles perAngle masses exclusions positions velocities pairs references starts items forces =
-    motionOf setting (o .dt) s f0 ids params species charges bonds lengths ks angles perAngle masses exclusions positions velocities pairs references starts items forces
+abbrev pub settlingOf : FireOptions → Setting → State → (tab : Tables) (species : List ℕ) (charges : List Float) (bonds : List ℕ) (lengths ks : List Float) (angles : List ℕ) (perAngle masses : List Float) (exclusions : List ℕ) (positions velocities : List Float) (pairs : List ℕ) (references : List Float) (starts items : List ℕ) (forces : List Float) → Motion
+settlingOf o setting s tab species charges bonds lengths ks angles perAngle masses exclusions positions velocities pairs references starts items forces =
+    motionOf setting (o .dt) s f0 tab species charges bonds lengths ks angles perAngle masses exclusions positions velocities pairs references starts items forces
 
 -- between two iterations: what a step leaves (its potential is the energy), the pace, the largest force component, and how many iterations there were
 pub record Relaxing : Type 0 where

@@ -13,6 +13,7 @@ ghost use mathlib.Core.Path.{_≡_};
 ghost use mathlib.Core.Bool.{false};
 ghost use Prim.Native.Nat.{_<_};
 ghost use Rattle.answer.specs.Seen.{seenDone};
+ghost use Rattle.potentials_pair.specs.Species.{tables};
 ghost use Rattle.verlet_step.specs.Calls.{motionOf};
 ghost use Rattle.verlet_step.specs.Steps.{steppedFrom};
 ghost use Rattle.fire.specs.Calls.{convergedOf, goesOn};
@@ -74,6 +75,8 @@ pub(crate) fn begin(
     dt: f64,
     s: State,
     potential: f64,
+    own_ids: &[u32],
+    own_params: &[f64],
     ids: &[u32],
     params: &[f64],
     species: &[u32],
@@ -93,11 +96,13 @@ pub(crate) fn begin(
     items: &mut [u32],
     forces: &mut [f64],
 ) -> Stage
-    ensures { λ r. ⌜ BeginSays (motionOf setting dt s potential (now (ids .entry)) (now (params .entry)) (now (species .entry)) (now (charges .entry)) (now (bonds .entry)) (now (lengths .entry)) (now (ks .entry)) (now (angles .entry)) (now («per_angle» .entry)) (now (masses .entry)) (now (exclusions .entry)) (now (positions .entry)) (now (velocities .entry)) (now (pairs .entry)) (now (references .entry)) (now (starts .entry)) (now (items .entry)) (now (forces .entry))) r (now (velocities .exit)) (now (pairs .exit)) (now (references .exit)) (now (starts .exit)) (now (items .exit)) (now (forces .exit)) ⌝ }
+    ensures { λ r. ⌜ BeginSays (motionOf setting dt s potential (tables (now («own_ids» .entry)) (now («own_params» .entry)) (now (ids .entry)) (now (params .entry))) (now (species .entry)) (now (charges .entry)) (now (bonds .entry)) (now (lengths .entry)) (now (ks .entry)) (now (angles .entry)) (now («per_angle» .entry)) (now (masses .entry)) (now (exclusions .entry)) (now (positions .entry)) (now (velocities .entry)) (now (pairs .entry)) (now (references .entry)) (now (starts .entry)) (now (items .entry)) (now (forces .entry))) r (now (velocities .exit)) (now (pairs .exit)) (now (references .exit)) (now (starts .exit)) (now (items .exit)) (now (forces .exit)) ⌝ }
 {
     let e = evaluate::kernel::settle(
         setting,
         s,
+        own_ids,
+        own_params,
         ids,
         params,
         species,
@@ -139,6 +144,8 @@ fn turn(
     setting: Setting,
     dt_max: f64,
     s: Stage,
+    own_ids: &[u32],
+    own_params: &[f64],
     ids: &[u32],
     params: &[f64],
     species: &[u32],
@@ -159,7 +166,7 @@ fn turn(
     forces: &mut [f64],
 ) -> Stage
     requires { ⌜ (s .gait .since < 4294967295) × (s .iteration < 4294967295) ⌝ }
-    ensures { λ r. ⌜ TurnSays «dt_max» s (motionOf setting (s .gait .dt) (s .last .state) (s .last .potential) (now (ids .entry)) (now (params .entry)) (now (species .entry)) (now (charges .entry)) (now (bonds .entry)) (now (lengths .entry)) (now (ks .entry)) (now (angles .entry)) (now («per_angle» .entry)) (now (masses .entry)) (now (exclusions .entry)) (now (positions .entry)) (now (velocities .entry)) (now (pairs .entry)) (now (references .entry)) (now (starts .entry)) (now (items .entry)) (now (forces .entry))) r (now (positions .exit)) (now (velocities .exit)) (now (pairs .exit)) (now (references .exit)) (now (starts .exit)) (now (items .exit)) (now (forces .exit)) ⌝ }
+    ensures { λ r. ⌜ TurnSays «dt_max» s (motionOf setting (s .gait .dt) (s .last .state) (s .last .potential) (tables (now («own_ids» .entry)) (now («own_params» .entry)) (now (ids .entry)) (now (params .entry))) (now (species .entry)) (now (charges .entry)) (now (bonds .entry)) (now (lengths .entry)) (now (ks .entry)) (now (angles .entry)) (now («per_angle» .entry)) (now (masses .entry)) (now (exclusions .entry)) (now (positions .entry)) (now (velocities .entry)) (now (pairs .entry)) (now (references .entry)) (now (starts .entry)) (now (items .entry)) (now (forces .entry))) r (now (positions .exit)) (now (velocities .exit)) (now (pairs .exit)) (now (references .exit)) (now (starts .exit)) (now (items .exit)) (now (forces .exit)) ⌝ }
 {
     let gait = s.gait;
     let last = s.last;
@@ -169,6 +176,8 @@ fn turn(
         gait.dt,
         state,
         last.potential,
+        own_ids,
+        own_params,
         ids,
         params,
         species,
@@ -208,6 +217,8 @@ pub(crate) fn relax(
     setting: Setting,
     o: FireOptions,
     s: Stage,
+    own_ids: &[u32],
+    own_params: &[f64],
     ids: &[u32],
     params: &[f64],
     species: &[u32],
@@ -228,7 +239,7 @@ pub(crate) fn relax(
     forces: &mut [f64],
 ) -> Stage
     requires { ⌜ (s .gait .since ≡ 0) × (s .iteration ≡ 0) ⌝ }
-    ensures { λ r. ⌜ RelaxSays o s (motionOf setting (s .gait .dt) (s .last .state) (s .last .potential) (now (ids .entry)) (now (params .entry)) (now (species .entry)) (now (charges .entry)) (now (bonds .entry)) (now (lengths .entry)) (now (ks .entry)) (now (angles .entry)) (now («per_angle» .entry)) (now (masses .entry)) (now (exclusions .entry)) (now (positions .entry)) (now (velocities .entry)) (now (pairs .entry)) (now (references .entry)) (now (starts .entry)) (now (items .entry)) (now (forces .entry))) r (now (positions .exit)) (now (velocities .exit)) (now (pairs .exit)) (now (references .exit)) (now (starts .exit)) (now (items .exit)) (now (forces .exit)) ⌝ }
+    ensures { λ r. ⌜ RelaxSays o s (motionOf setting (s .gait .dt) (s .last .state) (s .last .potential) (tables (now («own_ids» .entry)) (now («own_params» .entry)) (now (ids .entry)) (now (params .entry))) (now (species .entry)) (now (charges .entry)) (now (bonds .entry)) (now (lengths .entry)) (now (ks .entry)) (now (angles .entry)) (now («per_angle» .entry)) (now (masses .entry)) (now (exclusions .entry)) (now (positions .entry)) (now (velocities .entry)) (now (pairs .entry)) (now (references .entry)) (now (starts .entry)) (now (items .entry)) (now (forces .entry))) r (now (positions .exit)) (now (velocities .exit)) (now (pairs .exit)) (now (references .exit)) (now (starts .exit)) (now (items .exit)) (now (forces .exit)) ⌝ }
 {
     let limit = o.max_iters;
     let tol = o.force_tol;
@@ -242,6 +253,8 @@ pub(crate) fn relax(
             setting,
             most,
             t,
+            own_ids,
+            own_params,
             ids,
             params,
             species,

@@ -8,6 +8,7 @@ mod asked;
 mod kernel;
 mod steer;
 
+ghost use Rattle.potentials_pair.specs.Species.{tables};
 ghost use Rattle.fire.specs.Calls.{settlingOf, FireSays};
 
 // Most iterations, the force tolerance (eV/A, on the largest component), the first time step and the largest (fs).
@@ -37,6 +38,8 @@ pub fn fire(
     o: FireOptions,
     setting: Setting,
     s: State,
+    own_ids: &[u32],
+    own_params: &[f64],
     ids: &[u32],
     params: &[f64],
     species: &[u32],
@@ -56,12 +59,14 @@ pub fn fire(
     items: &mut [u32],
     forces: &mut [f64],
 ) -> Fired
-    ensures { λ r. ⌜ FireSays o (settlingOf o setting s (now (ids .entry)) (now (params .entry)) (now (species .entry)) (now (charges .entry)) (now (bonds .entry)) (now (lengths .entry)) (now (ks .entry)) (now (angles .entry)) (now («per_angle» .entry)) (now (masses .entry)) (now (exclusions .entry)) (now (positions .entry)) (now (velocities .entry)) (now (pairs .entry)) (now (references .entry)) (now (starts .entry)) (now (items .entry)) (now (forces .entry))) r (now (positions .exit)) (now (velocities .exit)) (now (pairs .exit)) (now (references .exit)) (now (starts .exit)) (now (items .exit)) (now (forces .exit)) ⌝ }
+    ensures { λ r. ⌜ FireSays o (settlingOf o setting s (tables (now («own_ids» .entry)) (now («own_params» .entry)) (now (ids .entry)) (now (params .entry))) (now (species .entry)) (now (charges .entry)) (now (bonds .entry)) (now (lengths .entry)) (now (ks .entry)) (now (angles .entry)) (now («per_angle» .entry)) (now (masses .entry)) (now (exclusions .entry)) (now (positions .entry)) (now (velocities .entry)) (now (pairs .entry)) (now (references .entry)) (now (starts .entry)) (now (items .entry)) (now (forces .entry))) r (now (positions .exit)) (now (velocities .exit)) (now (pairs .exit)) (now (references .exit)) (now (starts .exit)) (now (items .exit)) (now (forces .exit)) ⌝ }
 {
     let a = asked::asked(
         o,
         setting,
         s,
+        own_ids,
+        own_params,
         ids,
         params,
         species,
@@ -89,6 +94,8 @@ pub fn fire(
         o.dt,
         s,
         0.0,
+        own_ids,
+        own_params,
         ids,
         params,
         species,
@@ -112,6 +119,8 @@ pub fn fire(
         setting,
         o,
         begun,
+        own_ids,
+        own_params,
         ids,
         params,
         species,

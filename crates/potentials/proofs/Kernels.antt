@@ -22,7 +22,7 @@ use Rattle.virial.specs.declared.Sum.{Sum}
 use Rattle.virial.specs.Virial.{zeroSum, zeroForces}
 use Rattle.potentials_pair.specs.declared.Lj.{Lj}
 use Rattle.potentials_pair.specs.Pull.{held, Total}
-use Rattle.potentials_pair.specs.Species.{lookBy}
+use Rattle.potentials_pair.specs.Species.{Tables, lookBy}
 use Rattle.potentials.specs.declared.Bond.{Bond}
 use Rattle.potentials.specs.Terms.{zeroTotal, displaced, step, overPairs, ljPair, ljOver, coulombPair, coulombOver, bondStep, bondsOver}
 use Rattle.potentials.specs.Steps.{ljStep, coulombStep}
@@ -43,14 +43,14 @@ module _ (cell : Cell) {p : Prepared} {sum : Sum} {forces : List Float} (room : 
   unfolding zeroTotal
   start = rw (S, F)
 
-  pub lj-from-zero : (lj : Lj) (ids : List ℕ) (params : List Float) (species : List ℕ) (xs : List Float) (l : List (ℕ × ℕ)) {r : Total}
-      → r ≡ foldl (ljStep lj p ids params species xs) (held sum forces) l → r ≡ ljOver (lookBy ids params lj) lj cell species xs room l
+  pub lj-from-zero : (lj : Lj) (tab : Tables) (species : List ℕ) (xs : List Float) (l : List (ℕ × ℕ)) {r : Total}
+      → r ≡ foldl (ljStep lj p tab species xs) (held sum forces) l → r ≡ ljOver (lookBy tab lj) lj cell species xs room l
   unfolding ljOver overPairs ljStep
-  lj-from-zero lj ids params species xs l e =
+  lj-from-zero lj tab species xs l e =
       e
-      ∙ ap (λ (t : Total). foldl (step (atomsOf xs) (ljPair (λ d. imageIn p d) (lookBy ids params lj) lj species xs)) t l) start
-      ∙ ap (λ (q : Prepared). foldl (step (atomsOf xs) (ljPair (λ d. imageIn q d) (lookBy ids params lj) lj species xs)) (zeroTotal room) l) P
-      ∙ ap (λ (image : Vec3 → Image). foldl (step (atomsOf xs) (ljPair image (lookBy ids params lj) lj species xs)) (zeroTotal room) l) (prepared-all cell)
+      ∙ ap (λ (t : Total). foldl (step (atomsOf xs) (ljPair (λ d. imageIn p d) (lookBy tab lj) lj species xs)) t l) start
+      ∙ ap (λ (q : Prepared). foldl (step (atomsOf xs) (ljPair (λ d. imageIn q d) (lookBy tab lj) lj species xs)) (zeroTotal room) l) P
+      ∙ ap (λ (image : Vec3 → Image). foldl (step (atomsOf xs) (ljPair image (lookBy tab lj) lj species xs)) (zeroTotal room) l) (prepared-all cell)
 
   pub coulomb-from-zero : (ke cutoff : Float) (charges xs : List Float) (l : List (ℕ × ℕ)) {r : Total}
       → r ≡ foldl (coulombStep ke cutoff p charges xs) (held sum forces) l → r ≡ coulombOver ke cutoff cell charges xs room l

@@ -1,3 +1,4 @@
+pub mod Desks
 pub mod Folds
 pub mod Kernels
 pub mod Only

@@ -2,18 +2,20 @@
 use Prim.Native.Nat.{ℕ, zero, suc, _+_, _*_, _/_, _%_, _<_}
 use native.Mathlib.Omega.{arith}
 use mathlib.Core.Path.{_≡_, refl, ap, _∙_}
+use mathlib.Core.Logic.{⊎-elim}
 use mathlib.Core.Bool.{Bool, true, false, cond, _&&_}
 use mathlib.Core.List.{List, [], _∷_, foldl, List·Memᴰ·head, List·Memᴰ·tail}
 use lib.Dec.{eqb, ltb}
-use lib.Ieee.{Float}
-use lib.ListN.{length, getD}
-use borrow.Author.Tests.{lt-ltb, le-ltb, ltb-false, eqb-true}
+use lib.Ieee.{Float, nan}
+use lib.ListN.{length, getD, take, drop}
+use borrow.Author.Tests.{lt-ltb, le-ltb, ltb-true, ltb-false, eqb-true}
 use Rattle.lists.specs.Atoms.{atomsOf}
 use Rattle.lists.specs.Exact.{_∈_}
 use Rattle.lists.specs.Lists.{firstWhere, upTo, rows, allPairs, Two}
-use Rattle.lists.proofs.Cases.{by-test, and-both}
+use Rattle.lists.proofs.Cases.{by-test, true-or-false, and-both}
 use Rattle.lists.proofs.Exactness.{mem-upTo, mem-getD, all-exactly}
 use Rattle.lists.proofs.Rows.{length-rows}
+use Rattle.lists.proofs.Walks.{drop-next}
 use Rattle.answer.specs.declared.Done.the-variants.{Answered}
 use Rattle.float.specs.Arith.{at}
 use Rattle.cell.specs.declared.Cell.{Cell}
@@ -24,15 +26,15 @@ use Rattle.potentials_pair.specs.declared.Lj.{Lj}
 use Rattle.potentials_pair.specs.declared.Mixed.{Mixed}
 use Rattle.potentials_pair.specs.declared.Pull.{Pull}
 use Rattle.potentials_pair.specs.Pull.{Total, after}
-use Rattle.potentials_pair.specs.Species.{rowOr, ownOf, lookOf}
+use Rattle.potentials_pair.specs.Species.{Tables, paramsAt, rowIn, rowOf, numbersIn, lookOf}
 use Rattle.potentials.specs.declared.Bond.{Bond}
 use Rattle.potentials.specs.Terms.{zeroTotal, step, overPairs, ljPair, ljOver, coulombOver, bondStep, bondsOver}
-use Rattle.potentials.specs.Calls.{ljFits, ljAsked, coulombAsked, bondsAsked}
-use Rattle.potentials.specs.Source.{accumulated, inTable, LjPairsBySource, LjAllBySource, CoulombPairsBySource, CoulombAllBySource, BondsAllBySource}
+use Rattle.potentials.specs.Calls.{tablesFit, ljFits, ljAsked, coulombAsked, bondsAsked}
+use Rattle.potentials.specs.Source.{accumulated, inTable, inTables, LjPairsBySource, LjAllBySource, CoulombPairsBySource, CoulombAllBySource, BondsAllBySource}
 use Rattle.potentials.proofs.Outcomes.{asked-told}
 
 -- ---- loops that do the same with each element
-fold-same : {A B : Type 0} (f g : B → A → B) (l : List A) → ((a : A) → a ∈ l → (t : B) → f t a ≡ g t a) → (t : B) → foldl f t l ≡ foldl g t l
+pub fold-same : {A B : Type 0} (f g : B → A → B) (l : List A) → ((a : A) → a ∈ l → (t : B) → f t a ≡ g t a) → (t : B) → foldl f t l ≡ foldl g t l
 fold-same f g [] h t = refl
 fold-same {A} {B} f g (a ∷ l) h t = ap (λ (u : B). foldl f u l) (h a (List·Memᴰ·head refl) t) ∙ fold-same f g l (λ b m. h b (List·Memᴰ·tail m)) (g t a)
 
@@ -74,49 +76,83 @@ all-there : (n : ℕ) (pull : ℕ × ℕ → Pull) (room : ℕ) → overPairs n 
 all-there n pull room = over-there n pull room (allPairs n) (λ p m. two-there n p (all-exactly n .sound p m))
 
 -- ---- Lennard-Jones
-fit-rows : (ids params species xs pairs forces : ℕ) → ljFits ids params species xs pairs forces ≡ true → params / 2 ≡ ids
+two-of : (l : List Float) (k : ℕ) → k + 1 < length l → take 2 (drop k l) ≡ at l k ∷ (at l (k + 1) ∷ [])
+two-of l k h = ap (take 2) (drop-next nan l k (omega arith)) ∙ ap (λ (m : List Float). at l k ∷ take 1 m) (drop-next nan l (k + 1) h)
+
+fit-rows : (ownIds ownParams ids params : ℕ) → tablesFit ownIds ownParams ids params ≡ true → (ownParams / 2 ≡ ownIds) × (params / 2 ≡ ids)
+unfolding tablesFit
+fit-rows ownIds ownParams ids params e =
+    let a = eqb (ownParams / 2) ownIds in
+    let b = eqb (ownParams % 2) 0 in
+    let c = eqb (params / 2) ids in
+    let u = and-both (a && b) c (and-both (a && b && c) (eqb (params % 2) 0) e .0) in
+    (eqb-true (ownParams / 2) ownIds (and-both a b (u .0) .0), eqb-true (params / 2) ids (u .1))
+
+fit-tables : (tables : Bool) (species xs pairs forces : ℕ) → ljFits tables species xs pairs forces ≡ true → tables ≡ true
 unfolding ljFits
-fit-rows ids params species xs pairs forces e =
+fit-tables tables species xs pairs forces e =
     let a = eqb (xs % 3) 0 in
-    let b = eqb (params / 2) ids in
-    let c = eqb (params % 2) 0 in
     let d = eqb species (xs / 3) in
     let f = eqb (pairs % 2) 0 in
-    let u = and-both (a && b && c && d) f (and-both (a && b && c && d && f) (eqb forces xs) e .0) in
-    eqb-true (params / 2) ids (and-both a b (and-both (a && b) c (and-both (a && b && c) d (u .0) .0) .0) .1)
+    and-both a tables (and-both (a && tables) d (and-both (a && tables && d) f (and-both (a && tables && d && f) (eqb forces xs) e .0) .0) .0) .1
 
-module _ (lj : Lj) (ids : List ℕ) (params : List Float) (e : length params / 2 ≡ length ids) where
-  looked : (z : ℕ) → lookOf ids params lj z ≡ inTable ids params lj z
-  unfolding lookOf rowOr
+-- the row of a table that has as many rows as ids
+module _ (ids : List ℕ) (params : List Float) (e : length params / 2 ≡ length ids) (lj : Lj) (z : ℕ) where
+  abbrev place : ℕ
+  place = firstWhere (λ id. eqb id z) ids
+
+  abbrev there : Bool
+  there = ltb place (length ids)
+
+  row-found : there ≡ true → rowIn ids params z ≡ at params (2 * place) ∷ (at params (2 * place + 1) ∷ [])
+  unfolding rowIn paramsAt
+  row-found h = rw (h, e, h) (two-of params (2 * place) (omega (arith, ltb-true place (length ids) h)))
+
+  row-none : there ≡ false → rowIn ids params z ≡ []
+  unfolding rowIn
+  row-none h = rw h
+
+module _ (lj : Lj) (tab : Tables) (e : length (tab .ownParams) / 2 ≡ length (tab .ownIds)) (f : length (tab .params) / 2 ≡ length (tab .ids)) where
+  house-looked : (z : ℕ) → numbersIn (rowIn (tab .ids) (tab .params) z) lj ≡ inTable (tab .ids) (tab .params) lj z
+  unfolding numbersIn
+  house-looked z =
+      ⊎-elim
+      (λ (h : there (tab .ids) (tab .params) f lj z ≡ true). rw (row-found (tab .ids) (tab .params) f lj z h, h))
+      (λ (h : there (tab .ids) (tab .params) f lj z ≡ false). rw (row-none (tab .ids) (tab .params) f lj z h, h))
+      (true-or-false (there (tab .ids) (tab .params) f lj z))
+
+  looked : (z : ℕ) → lookOf tab lj z ≡ inTables tab lj z
+  unfolding lookOf rowOf numbersIn
   looked z =
-      let k = firstWhere (λ id. eqb id z) ids in
-      let row : Mixed = record { epsilon = at params (2 * k); sigma = at params (2 * k + 1) } in
-      rw e (by-test (λ t. cond t (cond (ltb k (length ids)) row (ownOf lj)) (ownOf lj) ≡ cond t row (ownOf lj)) (ltb k (length ids)) (λ h. rw h) (λ _. refl))
+      ⊎-elim
+      (λ (h : there (tab .ownIds) (tab .ownParams) e lj z ≡ true). rw (row-found (tab .ownIds) (tab .ownParams) e lj z h, h))
+      (λ (h : there (tab .ownIds) (tab .ownParams) e lj z ≡ false). rw (row-none (tab .ownIds) (tab .ownParams) e lj z h, h) (house-looked z))
+      (true-or-false (there (tab .ownIds) (tab .ownParams) e lj z))
 
-  looked-all : _≡_ {A = ℕ → Mixed} (lookOf ids params lj) (inTable ids params lj)
+  looked-all : _≡_ {A = ℕ → Mixed} (lookOf tab lj) (inTables tab lj)
   looked-all = λ i z. looked z i
 
-module _ (lj : Lj) (cell : Cell) (ids : List ℕ) (params : List Float) (species : List ℕ) (xs forces : List Float) where
-  module _ (pairs absent : ℕ) (e : ljAsked lj cell ids params (length species) xs (length forces) pairs absent ≡ Answered) where
-    lj-tables : length params / 2 ≡ length ids
+module _ (lj : Lj) (cell : Cell) (tab : Tables) (species : List ℕ) (xs forces : List Float) where
+  module _ (pairs absent : ℕ) (e : ljAsked lj cell tab (length species) xs (length forces) pairs absent ≡ Answered) where
+    lj-tables : (length (tab .ownParams) / 2 ≡ length (tab .ownIds)) × (length (tab .params) / 2 ≡ length (tab .ids))
     unfolding ljAsked
-    lj-tables = fit-rows _ _ _ _ _ _ (asked-told _ _ _ _ _ _ e .lengths)
+    lj-tables = fit-rows _ _ _ _ (fit-tables _ _ _ _ _ (asked-told _ _ _ _ _ _ e .lengths))
 
     lj-named : ltb absent (pairs / 2) ≡ false
     unfolding ljAsked
     lj-named = asked-told _ _ _ _ _ _ e .there
 
     lj-loop : (l : List (ℕ × ℕ)) → ((p : ℕ × ℕ) → p ∈ l → isAbsent (atomsOf xs) p ≡ false)
-        → ljOver (lookOf ids params lj) lj cell species xs (length forces) l ≡ accumulated (ljPair (λ d. imageOf d cell) (inTable ids params lj) lj species xs) (length forces) l
+        → ljOver (lookOf tab lj) lj cell species xs (length forces) l ≡ accumulated (ljPair (λ d. imageOf d cell) (inTables tab lj) lj species xs) (length forces) l
     unfolding ljOver
     lj-loop l h =
-        ap (λ (look : ℕ → Mixed). overPairs (atomsOf xs) (ljPair (λ d. imageOf d cell) look lj species xs) (length forces) l) (looked-all lj ids params lj-tables)
-        ∙ over-there (atomsOf xs) (ljPair (λ d. imageOf d cell) (inTable ids params lj) lj species xs) (length forces) l h
+        ap (λ (look : ℕ → Mixed). overPairs (atomsOf xs) (ljPair (λ d. imageOf d cell) look lj species xs) (length forces) l) (looked-all lj tab (lj-tables .0) (lj-tables .1))
+        ∙ over-there (atomsOf xs) (ljPair (λ d. imageOf d cell) (inTables tab lj) lj species xs) (length forces) l h
 
-  pub lj-pairs-by-source : (pairs : List ℕ) → LjPairsBySource lj cell ids params species xs pairs forces
+  pub lj-pairs-by-source : (pairs : List ℕ) → LjPairsBySource lj cell tab species xs pairs forces
   lj-pairs-by-source pairs e = lj-loop _ _ e (rows pairs) (pair-there (atomsOf xs) pairs (lj-named _ _ e))
 
-  pub lj-all-by-source : LjAllBySource lj cell ids params species xs forces
+  pub lj-all-by-source : LjAllBySource lj cell tab species xs forces
   lj-all-by-source e = lj-loop 0 0 e (allPairs (atomsOf xs)) (λ p m. two-there (atomsOf xs) p (all-exactly (atomsOf xs) .sound p m))
 
 -- ---- Coulomb

@@ -15,32 +15,32 @@ use Rattle.potentials_pair.specs.declared.Numbers.{Numbers}
 use Rattle.potentials_pair.specs.declared.Pull.{Pull}
 use Rattle.potentials_pair.specs.Lj.{mixOf, ljNear}
 use Rattle.potentials_pair.specs.Once.{nearBy}
-use Rattle.potentials_pair.specs.Species.{lookBy}
+use Rattle.potentials_pair.specs.Species.{Tables, lookBy}
 use Rattle.potentials_pair.proofs.Once.{near-numbers}
 use Rattle.potentials.specs.Steps.{numbersFor, numbersAt, Kept}
 
-module _ (lj : Lj) (ids : List ℕ) (params : List Float) where
-  of-key : (y z k : ℕ) → k ≡ y * 2 ^ 32 + z → z < 2 ^ 32 → numbersAt lj ids params k ≡ numbersFor lj ids params y z
+module _ (lj : Lj) (tab : Tables) where
+  of-key : (y z k : ℕ) → k ≡ y * 2 ^ 32 + z → z < 2 ^ 32 → numbersAt lj tab k ≡ numbersFor lj tab y z
   of-key y z k h b =
       let high : k / 2 ^ 32 ≡ y = omega arith in
       let low : k % 2 ^ 32 ≡ z = omega arith in
-      ap (λ (a : ℕ). numbersFor lj ids params a (k % 2 ^ 32)) high ∙ ap (λ (a : ℕ). numbersFor lj ids params y a) low
+      ap (λ (a : ℕ). numbersFor lj tab a (k % 2 ^ 32)) high ∙ ap (λ (a : ℕ). numbersFor lj tab y a) low
 
   abbrev row : List Float → List Float → List Float → ℕ → Numbers
   row depths squares shifts s = record { depth = at depths s; square = at squares s; shift = at shifts s }
 
-  module _ (keys : List ℕ) (depths squares shifts : List Float) (K : Kept lj ids params keys depths squares shifts) (y z s k : ℕ) (l : s < 16) (h : k ≡ y * 2 ^ 32 + z) (b : z < 2 ^ 32) where
-    pub hit : getD keys s 0 ≡ k → row depths squares shifts s ≡ numbersFor lj ids params y z
-    hit e = K .right s l ∙ ap (λ (a : ℕ). numbersAt lj ids params a) e ∙ of-key y z k h b
+  module _ (keys : List ℕ) (depths squares shifts : List Float) (K : Kept lj tab keys depths squares shifts) (y z s k : ℕ) (l : s < 16) (h : k ≡ y * 2 ^ 32 + z) (b : z < 2 ^ 32) where
+    pub hit : getD keys s 0 ≡ k → row depths squares shifts s ≡ numbersFor lj tab y z
+    hit e = K .right s l ∙ ap (λ (a : ℕ). numbersAt lj tab a) e ∙ of-key y z k h b
 
-    module _ (n : Numbers) (e : n ≡ numbersFor lj ids params y z) where
+    module _ (n : Numbers) (e : n ≡ numbersFor lj tab y z) where
       abbrev keys′ : List ℕ
       keys′ = set keys s k
 
       abbrev row′ : ℕ → Numbers
       row′ j = row (set depths s (n .depth)) (set squares s (n .square)) (set shifts s (n .shift)) j
 
-      here : row′ s ≡ numbersAt lj ids params (getD keys′ s 0)
+      here : row′ s ≡ numbersAt lj tab (getD keys′ s 0)
       here =
           rw (
             getD-set-same keys s k 0 (subst (λ (m : ℕ). s < m) (sym (K .keys16)) l),
@@ -50,8 +50,8 @@ module _ (lj : Lj) (ids : List ℕ) (params : List Float) where
           )
           (e ∙ sym (of-key y z k h b))
 
-      at-row : (j : ℕ) (q : Bool) → (T q → j ≡ s) → (T (not q) → j ≡ s → ⊥) → j < 16 → row′ j ≡ numbersAt lj ids params (getD keys′ j 0)
-      at-row j true f g p = subst (λ (i : ℕ). row′ i ≡ numbersAt lj ids params (getD keys′ i 0)) (sym (f tt)) here
+      at-row : (j : ℕ) (q : Bool) → (T q → j ≡ s) → (T (not q) → j ≡ s → ⊥) → j < 16 → row′ j ≡ numbersAt lj tab (getD keys′ j 0)
+      at-row j true f g p = subst (λ (i : ℕ). row′ i ≡ numbersAt lj tab (getD keys′ i 0)) (sym (f tt)) here
       at-row j false f g p =
           rw (
             getD-set-other keys s j k 0 (g tt),
@@ -68,7 +68,7 @@ module _ (lj : Lj) (ids : List ℕ) (params : List Float) where
           clash true m t = m
           clash false m t = t
 
-      pub renewed : Kept lj ids params keys′ (set depths s (n .depth)) (set squares s (n .square)) (set shifts s (n .shift))
+      pub renewed : Kept lj tab keys′ (set depths s (n .depth)) (set squares s (n .square)) (set shifts s (n .shift))
       renewed =
           record {
             keys16 = length-set keys s k ∙ K .keys16;
@@ -79,11 +79,11 @@ module _ (lj : Lj) (ids : List ℕ) (params : List Float) where
           }
 
   -- what is remembered of two species gives the formula over their mixed numbers
-  pub near-for : (y z : ℕ) {n : Numbers} → n ≡ numbersFor lj ids params y z → (d : Vec3) (r2 : Float) {r : Pull} → r ≡ nearBy (lj .shift) n d r2 → r ≡ ljNear lj (mixOf (lookBy ids params lj y) (lookBy ids params lj z)) d r2
+  pub near-for : (y z : ℕ) {n : Numbers} → n ≡ numbersFor lj tab y z → (d : Vec3) (r2 : Float) {r : Pull} → r ≡ nearBy (lj .shift) n d r2 → r ≡ ljNear lj (mixOf (lookBy tab lj y) (lookBy tab lj z)) d r2
   unfolding numbersFor
-  near-for y z e d r2 q = q ∙ ap (λ (a : Numbers). nearBy (lj .shift) a d r2) e ∙ near-numbers lj (mixOf (lookBy ids params lj y) (lookBy ids params lj z)) d r2
+  near-for y z e d r2 q = q ∙ ap (λ (a : Numbers). nearBy (lj .shift) a d r2) e ∙ near-numbers lj (mixOf (lookBy tab lj y) (lookBy tab lj z)) d r2
 
-  pub begun : (n : Numbers) → n ≡ numbersFor lj ids params 0 0 → Kept lj ids params (replicate 16 0) (replicate 16 (n .depth)) (replicate 16 (n .square)) (replicate 16 (n .shift))
+  pub begun : (n : Numbers) → n ≡ numbersFor lj tab 0 0 → Kept lj tab (replicate 16 0) (replicate 16 (n .depth)) (replicate 16 (n .square)) (replicate 16 (n .shift))
   begun n e =
       record {
         keys16 = length-replicate {A = ℕ} 16 0;

@@ -13,6 +13,7 @@ use Rattle.lists.proofs.Walks.{fold-next, fold-past}
 use Rattle.cell_prepared.specs.declared.Prepared.{Prepared}
 use Rattle.potentials_pair.specs.declared.Lj.{Lj}
 use Rattle.potentials_pair.specs.Pull.{Total}
+use Rattle.potentials_pair.specs.Species.{Tables}
 use Rattle.potentials.specs.Steps.{ljStep, ljTurn, firstAt, secondAt}
 
 module _ {B : Type 0} (f : B → ℕ × ℕ → B) (i : ℕ) where
@@ -42,11 +43,11 @@ module _ {B : Type 0} (f : B → ℕ × ℕ → B) (i : ℕ) where
       later-from m (k + 1) (turn [] t k) (omega arith)
       ∙ ap (λ (x : B). foldl f x (withEach i (numbers (k + 1) m))) (past [] k t (omega arith) ∙ ap (f t) (sym (ordered-rising i k (omega arith))))
 
-module _ (lj : Lj) (p : Prepared) (ids : List ℕ) (params : List Float) (species : List ℕ) (xs : List Float) (i : ℕ) (t : Total) where
-  pub over-rows : (table : List ℕ) → foldl (ljTurn lj p ids params species xs table i) t (numbers 0 (length table / 2 - 0)) ≡ foldl (ljStep lj p ids params species xs) t (rows table)
+module _ (lj : Lj) (p : Prepared) (tab : Tables) (species : List ℕ) (xs : List Float) (i : ℕ) (t : Total) where
+  pub over-rows : (table : List ℕ) → foldl (ljTurn lj p tab species xs table i) t (numbers 0 (length table / 2 - 0)) ≡ foldl (ljStep lj p tab species xs) t (rows table)
   unfolding ljTurn
-  over-rows table = rows-from (ljStep lj p ids params species xs) i table (length table / 2 - 0) 0 t (omega arith)
+  over-rows table = rows-from (ljStep lj p tab species xs) i table (length table / 2 - 0) 0 t (omega arith)
 
-  pub over-later : (m : ℕ) → foldl (ljTurn lj p ids params species xs [] i) t (numbers (i + 1) m) ≡ foldl (ljStep lj p ids params species xs) t (withEach i (numbers (i + 1) m))
+  pub over-later : (m : ℕ) → foldl (ljTurn lj p tab species xs [] i) t (numbers (i + 1) m) ≡ foldl (ljStep lj p tab species xs) t (withEach i (numbers (i + 1) m))
   unfolding ljTurn
-  over-later m = later-from (ljStep lj p ids params species xs) i m (i + 1) t (omega arith)
+  over-later m = later-from (ljStep lj p tab species xs) i m (i + 1) t (omega arith)

@@ -1,4 +1,5 @@
 pub mod Calls
+pub mod Desks
 pub mod Ranged
 pub mod Source
 pub mod Steps

@@ -1,6 +1,8 @@
 -- 01's ranges, as tests of what this crate is handed. Definitions only.
 use mathlib.Core.Bool.{Bool, _&&_}
+use mathlib.Core.List.{List}
 use lib.Ieee.{Float}
+use Rattle.lists.specs.Lists.{every}
 use Rattle.cell.specs.Ranged.{entryLimit}
 pub use Rattle.cell.specs.Ranged.{coordinate}
 use Rattle.float.specs.Arith.{bits}
@@ -19,6 +21,10 @@ cutoffOk x = between (bits 0) entryLimit x
 -- "Charges ..: magnitude to 2^10"
 abbrev pub charge : Float → Bool
 charge x = within (bits 0x4090_0000_0000_0000) x
+
+-- the rows of a desk's own table and of the house's
+unfoldable pub rowsInRange : List Float → List Float → Bool
+rowsInRange ownParams params = every depth ownParams && every depth params
 
 unfoldable pub ljInRange : Lj → Bool
 ljInRange lj = depth (lj .epsilon) && depth (lj .sigma) && cutoffOk (lj .cutoff)

@@ -19,7 +19,7 @@ use Rattle.potentials_pair.specs.declared.Lj.{Lj}
 use Rattle.potentials_pair.specs.declared.Mixed.{Mixed}
 use Rattle.potentials_pair.specs.declared.Pull.{Pull}
 use Rattle.potentials_pair.specs.Pull.{Total, after}
-use Rattle.potentials_pair.specs.Species.{ownOf, lookOf}
+use Rattle.potentials_pair.specs.Species.{Tables, defaultOf, lookOf}
 use Rattle.potentials.specs.declared.Bond.{Bond}
 use Rattle.potentials.specs.Terms.{zeroTotal, ljPair, ljOver, coulombPair, coulombOver, bondPair, bondsOver}
 use Rattle.potentials.specs.Calls.{ljAsked, coulombAsked, bondsAsked}
@@ -32,21 +32,27 @@ accumulated pull room l = foldl (λ t p. after t p (pull p)) (zeroTotal room) l
 abbrev pub inTable : List ℕ → List Float → Lj → ℕ → Mixed
 inTable ids params lj z =
     let k = firstWhere (λ id. eqb id z) ids in
-    cond (ltb k (length ids)) (record { epsilon = at params (2 * k); sigma = at params (2 * k + 1) }) (ownOf lj)
+    cond (ltb k (length ids)) (record { epsilon = at params (2 * k); sigma = at params (2 * k + 1) }) (defaultOf lj)
+
+-- .. in the desk's own table where that has it (02, No. 7)
+abbrev pub inTables : Tables → Lj → ℕ → Mixed
+inTables tab lj z =
+    let k = firstWhere (λ id. eqb id z) (tab .ownIds) in
+    cond (ltb k (length (tab .ownIds))) (record { epsilon = at (tab .ownParams) (2 * k); sigma = at (tab .ownParams) (2 * k + 1) }) (inTable (tab .ids) (tab .params) lj z)
 
 -- lines 125 to 158
-abbrev pub LjPairsBySource : (lj : Lj) (cell : Cell) (ids : List ℕ) (params : List Float) (species : List ℕ) (positions : List Float) (pairs : List ℕ) (forces : List Float) → Type 0
-LjPairsBySource lj cell ids params species xs pairs forces =
-    ljAsked lj cell ids params (length species) xs (length forces) (length pairs) (absentOf (atomsOf xs) (rows pairs)) ≡ Answered
-    → ljOver (lookOf ids params lj) lj cell species xs (length forces) (rows pairs)
-    ≡ accumulated (ljPair (λ d. imageOf d cell) (inTable ids params lj) lj species xs) (length forces) (rows pairs)
+abbrev pub LjPairsBySource : (lj : Lj) (cell : Cell) (tab : Tables) (species : List ℕ) (positions : List Float) (pairs : List ℕ) (forces : List Float) → Type 0
+LjPairsBySource lj cell tab species xs pairs forces =
+    ljAsked lj cell tab (length species) xs (length forces) (length pairs) (absentOf (atomsOf xs) (rows pairs)) ≡ Answered
+    → ljOver (lookOf tab lj) lj cell species xs (length forces) (rows pairs)
+    ≡ accumulated (ljPair (λ d. imageOf d cell) (inTables tab lj) lj species xs) (length forces) (rows pairs)
 
 -- .. over all pairs, lines 75 to 83
-abbrev pub LjAllBySource : (lj : Lj) (cell : Cell) (ids : List ℕ) (params : List Float) (species : List ℕ) (positions forces : List Float) → Type 0
-LjAllBySource lj cell ids params species xs forces =
-    ljAsked lj cell ids params (length species) xs (length forces) 0 0 ≡ Answered
-    → ljOver (lookOf ids params lj) lj cell species xs (length forces) (allPairs (atomsOf xs))
-    ≡ accumulated (ljPair (λ d. imageOf d cell) (inTable ids params lj) lj species xs) (length forces) (allPairs (atomsOf xs))
+abbrev pub LjAllBySource : (lj : Lj) (cell : Cell) (tab : Tables) (species : List ℕ) (positions forces : List Float) → Type 0
+LjAllBySource lj cell tab species xs forces =
+    ljAsked lj cell tab (length species) xs (length forces) 0 0 ≡ Answered
+    → ljOver (lookOf tab lj) lj cell species xs (length forces) (allPairs (atomsOf xs))
+    ≡ accumulated (ljPair (λ d. imageOf d cell) (inTables tab lj) lj species xs) (length forces) (allPairs (atomsOf xs))
 
 -- lines 383 to 407
 abbrev pub CoulombPairsBySource : (units : Units) (cutoff : Float) (cell : Cell) (charges positions : List Float) (pairs : List ℕ) (forces : List Float) → Type 0

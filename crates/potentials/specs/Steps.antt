@@ -15,11 +15,11 @@ use Rattle.potentials_pair.specs.declared.Numbers.{Numbers}
 use Rattle.potentials_pair.specs.Lj.{mixOf}
 use Rattle.potentials_pair.specs.Once.{numbersOf}
 use Rattle.potentials_pair.specs.Pull.{Total}
-use Rattle.potentials_pair.specs.Species.{lookBy}
+use Rattle.potentials_pair.specs.Species.{Tables, lookBy}
 use Rattle.potentials.specs.Terms.{step, ljPair, coulombPair}
 
-unfoldable pub ljStep : Lj → Prepared → List ℕ → List Float → List ℕ → List Float → Total → ℕ × ℕ → Total
-ljStep lj p ids params species xs = step (atomsOf xs) (ljPair (λ d. imageIn p d) (lookBy ids params lj) lj species xs)
+unfoldable pub ljStep : Lj → Prepared → Tables → List ℕ → List Float → Total → ℕ × ℕ → Total
+ljStep lj p tab species xs = step (atomsOf xs) (ljPair (λ d. imageIn p d) (lookBy tab lj) lj species xs)
 
 unfoldable pub coulombStep : Float → Float → Prepared → List Float → List Float → Total → ℕ × ℕ → Total
 coulombStep ke cutoff p charges xs = step (atomsOf xs) (coulombPair (λ d. imageIn p d) ke cutoff charges xs)
@@ -33,21 +33,21 @@ firstAt table i k = cond (ltb k (length table / 2)) (getD table (2 * k) 0) i
 unfoldable pub secondAt : List ℕ → ℕ → ℕ
 secondAt table k = cond (ltb k (length table / 2)) (getD table (2 * k + 1) 0) k
 
-unfoldable pub ljTurn : Lj → Prepared → List ℕ → List Float → List ℕ → List Float → List ℕ → ℕ → Total → ℕ → Total
-ljTurn lj p ids params species xs table i t k = ljStep lj p ids params species xs t (firstAt table i k, secondAt table k)
+unfoldable pub ljTurn : Lj → Prepared → Tables → List ℕ → List Float → List ℕ → ℕ → Total → ℕ → Total
+ljTurn lj p tab species xs table i t k = ljStep lj p tab species xs t (firstAt table i k, secondAt table k)
 
 -- ---- the numbers of two species, remembered
-unfoldable pub numbersFor : Lj → List ℕ → List Float → ℕ → ℕ → Numbers
-numbersFor lj ids params y z = numbersOf lj (mixOf (lookBy ids params lj y) (lookBy ids params lj z))
+unfoldable pub numbersFor : Lj → Tables → ℕ → ℕ → Numbers
+numbersFor lj tab y z = numbersOf lj (mixOf (lookBy tab lj y) (lookBy tab lj z))
 
 -- of a key, y * 2 ^ 32 + z
-abbrev pub numbersAt : Lj → List ℕ → List Float → ℕ → Numbers
-numbersAt lj ids params k = numbersFor lj ids params (k / 2 ^ 32) (k % 2 ^ 32)
+abbrev pub numbersAt : Lj → Tables → ℕ → Numbers
+numbersAt lj tab k = numbersFor lj tab (k / 2 ^ 32) (k % 2 ^ 32)
 
 -- 16 keys, and the numbers of each
-pub record Kept (lj : Lj) (ids : List ℕ) (params : List Float) (keys : List ℕ) (depths squares shifts : List Float) : Type 0 where
+pub record Kept (lj : Lj) (tab : Tables) (keys : List ℕ) (depths squares shifts : List Float) : Type 0 where
   pub keys16 : length keys ≡ 16
   pub depths16 : length depths ≡ 16
   pub squares16 : length squares ≡ 16
   pub shifts16 : length shifts ≡ 16
-  pub right : (s : ℕ) → s < 16 → record { depth = at depths s; square = at squares s; shift = at shifts s } ≡ numbersAt lj ids params (getD keys s 0)
+  pub right : (s : ℕ) → s < 16 → record { depth = at depths s; square = at squares s; shift = at shifts s } ≡ numbersAt lj tab (getD keys s 0)

@@ -1,8 +1,10 @@
 // What is tested before a term is computed: refusals 1 to 5, in their order.
 ghost use mathlib.Core.Path.{_≡_};
-ghost use Rattle.potentials.specs.Calls.{askedBy, ljFits, coulombFits, bondsFit, ljRanges, coulombRanges, bondsRanges, ljAsked, coulombAsked, bondsAsked};
+ghost use Rattle.potentials_pair.specs.Species.{tables};
+ghost use Rattle.potentials.specs.Calls.{askedBy, rowsAsked, ljFits, coulombFits, bondsFit, ljRanges, coulombRanges, bondsRanges, ljAsked, coulombAsked, bondsAsked};
 use crate::Bond;
 use crate::ranged;
+use crate::species;
 use answer::Done;
 use answer::Refusal;
 use cell::Cell;
@@ -10,15 +12,8 @@ use potentials_pair::Lj;
 use virial::Units;
 
 // `absent` is the first of the rows that names an atom not there.
-fn asked(
-    fits: bool,
-    atoms: usize,
-    in_range: bool,
-    rows: usize,
-    absent: usize,
-    ordered: bool,
-) -> Done
-    ensures { λ r. ⌜ r ≡ askedBy fits atoms «in_range» rows absent ordered ⌝ }
+fn asked(fits: bool, atoms: usize, in_range: bool, rows: usize, absent: usize, order: Done) -> Done
+    ensures { λ r. ⌜ r ≡ askedBy fits atoms «in_range» rows absent order ⌝ }
 {
     if !fits {
         return Done::Refused(Refusal::Lengths);
@@ -32,28 +27,13 @@ fn asked(
     if absent < rows {
         return Done::Refused(Refusal::NotThere { row: absent });
     }
-    if !ordered {
-        return Done::Refused(Refusal::Order);
-    }
-    Done::Answered
+    order
 }
 
-fn lj_fits(
-    ids: usize,
-    params: usize,
-    species: usize,
-    xs: usize,
-    pairs: usize,
-    forces: usize,
-) -> bool
-    ensures { λ r. ⌜ r ≡ ljFits ids params species xs pairs forces ⌝ }
+fn lj_fits(tables: bool, species: usize, xs: usize, pairs: usize, forces: usize) -> bool
+    ensures { λ r. ⌜ r ≡ ljFits tables species xs pairs forces ⌝ }
 {
-    (xs % 3 == 0)
-        & (params / 2 == ids)
-        & (params % 2 == 0)
-        & (species == xs / 3)
-        & (pairs % 2 == 0)
-        & (forces == xs)
+    (xs % 3 == 0) & tables & (species == xs / 3) & (pairs % 2 == 0) & (forces == xs)
 }
 
 fn coulomb_fits(charges: usize, xs: usize, pairs: usize, forces: usize) -> bool
@@ -68,12 +48,12 @@ fn bonds_fit(xs: usize, bonds: usize, forces: usize) -> bool
     (xs % 3 == 0) & (bonds % 2 == 0) & (forces == xs)
 }
 
-fn lj_ranges(lj: Lj, cell: Cell, params: &[f64], xs: &[f64]) -> bool
-    ensures { λ r. ⌜ r ≡ ljRanges lj cell (now (params .entry)) (now (xs .entry)) ⌝ }
+fn lj_ranges(lj: Lj, cell: Cell, own_params: &[f64], params: &[f64], xs: &[f64]) -> bool
+    ensures { λ r. ⌜ r ≡ ljRanges lj cell (now («own_params» .entry)) (now (params .entry)) (now (xs .entry)) ⌝ }
 {
     ranged::lj_in_range(lj)
         & cell::ranged::cell_in_range(cell)
-        & ranged::params_in_range(params)
+        & ranged::rows_in_range(own_params, params)
         & ranged::entries_in_range(xs)
 }
 
@@ -100,6 +80,8 @@ fn bonds_ranges(bond: Bond, cell: Cell, lengths: &[f64], ks: &[f64], xs: &[f64])
 pub(crate) fn lj_asked(
     lj: Lj,
     cell: Cell,
+    own_ids: &[u32],
+    own_params: &[f64],
     ids: &[u32],
     params: &[f64],
     species: usize,
@@ -108,12 +90,23 @@ pub(crate) fn lj_asked(
     pairs: usize,
     absent: usize,
 ) -> Done
-    ensures { λ r. ⌜ r ≡ ljAsked lj cell (now (ids .entry)) (now (params .entry)) species (now (xs .entry)) forces pairs absent ⌝ }
+    ensures { λ r. ⌜ r ≡ ljAsked lj cell (tables (now («own_ids» .entry)) (now («own_params» .entry)) (now (ids .entry)) (now (params .entry))) species (now (xs .entry)) forces pairs absent ⌝ }
 {
-    let fits = lj_fits(ids.len(), params.len(), species, xs.len(), pairs, forces);
-    let in_range = lj_ranges(lj, cell, params, xs);
-    let ordered = potentials_pair::species::is_rising(ids);
-    asked(fits, xs.len() / 3, in_range, pairs / 2, absent, ordered)
+    let tables = species::tables_fit(own_ids.len(), own_params.len(), ids.len(), params.len());
+    let fits = lj_fits(tables, species, xs.len(), pairs, forces);
+    let in_range = lj_ranges(lj, cell, own_params, params, xs);
+    let order = species::asked_order(own_ids, ids);
+    asked(fits, xs.len() / 3, in_range, pairs / 2, absent, order)
+}
+
+// Refusals 1, 3, 5 of the tables alone.
+pub(crate) fn rows_asked(own_ids: &[u32], own_params: &[f64], ids: &[u32], params: &[f64]) -> Done
+    ensures { λ r. ⌜ r ≡ rowsAsked (tables (now («own_ids» .entry)) (now («own_params» .entry)) (now (ids .entry)) (now (params .entry))) ⌝ }
+{
+    let fits = species::tables_fit(own_ids.len(), own_params.len(), ids.len(), params.len());
+    let in_range = ranged::rows_in_range(own_params, params);
+    let order = species::asked_order(own_ids, ids);
+    asked(fits, 0, in_range, 0, 0, order)
 }
 
 pub(crate) fn coulomb_asked(
@@ -130,7 +123,14 @@ pub(crate) fn coulomb_asked(
 {
     let fits = coulomb_fits(charges.len(), xs.len(), pairs, forces);
     let in_range = coulomb_ranges(units, cutoff, cell, charges, xs);
-    asked(fits, xs.len() / 3, in_range, pairs / 2, absent, true)
+    asked(
+        fits,
+        xs.len() / 3,
+        in_range,
+        pairs / 2,
+        absent,
+        Done::Answered,
+    )
 }
 
 pub(crate) fn bonds_asked(
@@ -147,5 +147,12 @@ pub(crate) fn bonds_asked(
 {
     let fits = bonds_fit(xs.len(), bonds, forces);
     let in_range = bonds_ranges(bond, cell, lengths, ks, xs);
-    asked(fits, xs.len() / 3, in_range, bonds / 2, absent, true)
+    asked(
+        fits,
+        xs.len() / 3,
+        in_range,
+        bonds / 2,
+        absent,
+        Done::Answered,
+    )
 }

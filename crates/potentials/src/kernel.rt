@@ -4,7 +4,7 @@ ghost use mathlib.Core.Path.{_≡_};
 ghost use lib.ListN.{length};
 ghost use Rattle.lists.specs.Atoms.{atomsOf};
 ghost use Rattle.lists.specs.Lists.{rows, allPairs};
-ghost use Rattle.potentials_pair.specs.Species.{lookBy};
+ghost use Rattle.potentials_pair.specs.Species.{tables, lookBy};
 ghost use Rattle.potentials_pair.specs.Pull.{held};
 ghost use Rattle.potentials.specs.Terms.{ljOver, coulombOver, bondsOver};
 ghost use Rattle.potentials.specs.Calls.{monatomicOf};
@@ -29,6 +29,8 @@ pub fn monatomic(epsilon: f64, sigma: f64, cutoff: f64) -> Lj
 pub fn lj_pairs(
     lj: Lj,
     cell: Cell,
+    own_ids: &[u32],
+    own_params: &[f64],
     ids: &[u32],
     params: &[f64],
     species: &[u32],
@@ -36,29 +38,54 @@ pub fn lj_pairs(
     pairs: &[u32],
     forces: &mut [f64],
 ) -> Sum
-    ensures { λ r. ⌜ held r (now (forces .exit)) ≡ ljOver (lookBy (now (ids .entry)) (now (params .entry)) lj) lj cell (now (species .entry)) (now (positions .entry)) (length (now (forces .entry))) (rows (now (pairs .entry))) ⌝ }
+    ensures { λ r. ⌜ held r (now (forces .exit)) ≡ ljOver (lookBy (tables (now («own_ids» .entry)) (now («own_params» .entry)) (now (ids .entry)) (now (params .entry))) lj) lj cell (now (species .entry)) (now (positions .entry)) (length (now (forces .entry))) (rows (now (pairs .entry))) ⌝ }
 {
     virial::kernel::clear(forces);
     let p = cell_prepared::prepare(cell);
     let sum = virial::kernel::zero();
-    crate::lennard_jones::over(lj, p, ids, params, species, positions, pairs, forces, sum)
+    crate::lennard_jones::over(
+        lj,
+        p,
+        own_ids,
+        own_params,
+        ids,
+        params,
+        species,
+        positions,
+        pairs,
+        forces,
+        sum,
+    )
 }
 
 pub fn lj_all(
     lj: Lj,
     cell: Cell,
+    own_ids: &[u32],
+    own_params: &[f64],
     ids: &[u32],
     params: &[f64],
     species: &[u32],
     positions: &[f64],
     forces: &mut [f64],
 ) -> Sum
-    ensures { λ r. ⌜ held r (now (forces .exit)) ≡ ljOver (lookBy (now (ids .entry)) (now (params .entry)) lj) lj cell (now (species .entry)) (now (positions .entry)) (length (now (forces .entry))) (allPairs (atomsOf (now (positions .entry)))) ⌝ }
+    ensures { λ r. ⌜ held r (now (forces .exit)) ≡ ljOver (lookBy (tables (now («own_ids» .entry)) (now («own_params» .entry)) (now (ids .entry)) (now (params .entry))) lj) lj cell (now (species .entry)) (now (positions .entry)) (length (now (forces .entry))) (allPairs (atomsOf (now (positions .entry)))) ⌝ }
 {
     virial::kernel::clear(forces);
     let p = cell_prepared::prepare(cell);
     let sum = virial::kernel::zero();
-    crate::lennard_jones::all(lj, p, ids, params, species, positions, forces, sum)
+    crate::lennard_jones::all(
+        lj,
+        p,
+        own_ids,
+        own_params,
+        ids,
+        params,
+        species,
+        positions,
+        forces,
+        sum,
+    )
 }
 
 pub fn coulomb_pairs(

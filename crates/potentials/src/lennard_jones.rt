@@ -6,7 +6,7 @@ ghost use lib.ListN.{getD};
 ghost use Rattle.lists.specs.Atoms.{atomsOf};
 ghost use Rattle.lists.specs.Lists.{numbers, allPairs, rows};
 ghost use Rattle.cell_prepared.specs.Facts.{imageIn};
-ghost use Rattle.potentials_pair.specs.Species.{lookBy};
+ghost use Rattle.potentials_pair.specs.Species.{tables, lookBy};
 ghost use Rattle.potentials_pair.specs.Pull.{held};
 ghost use Rattle.potentials.specs.Terms.{ljPair};
 ghost use Rattle.potentials.specs.Steps.{ljStep, ljTurn, firstAt, secondAt, Kept};
@@ -29,6 +29,8 @@ fn species_of(species: &[u32], i: usize) -> u32
 fn pair(
     lj: Lj,
     p: Prepared,
+    own_ids: &[u32],
+    own_params: &[f64],
     ids: &[u32],
     params: &[f64],
     species: &[u32],
@@ -41,9 +43,9 @@ fn pair(
     shifts: &mut [f64],
 ) -> Pull
     requires { ⌜ (i < atomsOf (now xs)) × (j < atomsOf (now xs)) ⌝ }
-    requires { ⌜ Kept lj (now ids) (now params) (now keys) (now depths) (now squares) (now shifts) ⌝ }
-    ensures { λ r. ⌜ r ≡ ljPair (λ d. imageIn p d) (lookBy (now (ids .entry)) (now (params .entry)) lj) lj (now (species .entry)) (now (xs .entry)) (i, j) ⌝ }
-    ensures { λ _. ⌜ Kept lj (now (ids .entry)) (now (params .entry)) (now (keys .exit)) (now (depths .exit)) (now (squares .exit)) (now (shifts .exit)) ⌝ }
+    requires { ⌜ Kept lj (tables (now «own_ids») (now «own_params») (now ids) (now params)) (now keys) (now depths) (now squares) (now shifts) ⌝ }
+    ensures { λ r. ⌜ r ≡ ljPair (λ d. imageIn p d) (lookBy (tables (now («own_ids» .entry)) (now («own_params» .entry)) (now (ids .entry)) (now (params .entry))) lj) lj (now (species .entry)) (now (xs .entry)) (i, j) ⌝ }
+    ensures { λ _. ⌜ Kept lj (tables (now («own_ids» .entry)) (now («own_params» .entry)) (now (ids .entry)) (now (params .entry))) (now (keys .exit)) (now (depths .exit)) (now (squares .exit)) (now (shifts .exit)) ⌝ }
 {
     let d = pairs::displacement(p, xs, i, j);
     let r2 = cell::vectors::norm2(d);
@@ -52,7 +54,19 @@ fn pair(
     }
     let y = species_of(species, i);
     let z = species_of(species, j);
-    let n = kept::recall(ids, params, lj, y, z, keys, depths, squares, shifts);
+    let n = kept::recall(
+        own_ids,
+        own_params,
+        ids,
+        params,
+        lj,
+        y,
+        z,
+        keys,
+        depths,
+        squares,
+        shifts,
+    );
     potentials_pair::lennard_jones::near(lj.shift, n, d, r2)
 }
 
@@ -60,6 +74,8 @@ fn pair(
 fn one(
     lj: Lj,
     p: Prepared,
+    own_ids: &[u32],
+    own_params: &[f64],
     ids: &[u32],
     params: &[f64],
     species: &[u32],
@@ -73,9 +89,9 @@ fn one(
     forces: &mut [f64],
     sum: Sum,
 ) -> Sum
-    requires { ⌜ Kept lj (now ids) (now params) (now keys) (now depths) (now squares) (now shifts) ⌝ }
-    ensures { λ r. ⌜ held r (now (forces .exit)) ≡ ljStep lj p (now (ids .entry)) (now (params .entry)) (now (species .entry)) (now (xs .entry)) (held sum (now (forces .entry))) (i, j) ⌝ }
-    ensures { λ _. ⌜ Kept lj (now (ids .entry)) (now (params .entry)) (now (keys .exit)) (now (depths .exit)) (now (squares .exit)) (now (shifts .exit)) ⌝ }
+    requires { ⌜ Kept lj (tables (now «own_ids») (now «own_params») (now ids) (now params)) (now keys) (now depths) (now squares) (now shifts) ⌝ }
+    ensures { λ r. ⌜ held r (now (forces .exit)) ≡ ljStep lj p (tables (now («own_ids» .entry)) (now («own_params» .entry)) (now (ids .entry)) (now (params .entry))) (now (species .entry)) (now (xs .entry)) (held sum (now (forces .entry))) (i, j) ⌝ }
+    ensures { λ _. ⌜ Kept lj (tables (now («own_ids» .entry)) (now («own_params» .entry)) (now (ids .entry)) (now (params .entry))) (now (keys .exit)) (now (depths .exit)) (now (squares .exit)) (now (shifts .exit)) ⌝ }
 {
     if pairs::is_absent(xs.len() / 3, i, j) {
         return sum;
@@ -83,6 +99,8 @@ fn one(
     let pull = pair(
         lj,
         p,
+        own_ids,
+        own_params,
         ids,
         params,
         species,
@@ -120,6 +138,8 @@ fn second_at(table: &[u32], k: usize) -> usize
 fn walk(
     lj: Lj,
     p: Prepared,
+    own_ids: &[u32],
+    own_params: &[f64],
     ids: &[u32],
     params: &[f64],
     species: &[u32],
@@ -135,8 +155,8 @@ fn walk(
     forces: &mut [f64],
     sum: Sum,
 ) -> Sum
-    requires { ⌜ Kept lj (now ids) (now params) (now keys) (now depths) (now squares) (now shifts) ⌝ }
-    ensures { λ r. ⌜ held r (now (forces .exit)) ≡ foldl (ljTurn lj p (now (ids .entry)) (now (params .entry)) (now (species .entry)) (now (xs .entry)) (now (table .entry)) i) (held sum (now (forces .entry))) (numbers from (to - from)) ⌝ }
+    requires { ⌜ Kept lj (tables (now «own_ids») (now «own_params») (now ids) (now params)) (now keys) (now depths) (now squares) (now shifts) ⌝ }
+    ensures { λ r. ⌜ held r (now (forces .exit)) ≡ foldl (ljTurn lj p (tables (now («own_ids» .entry)) (now («own_params» .entry)) (now (ids .entry)) (now (params .entry))) (now (species .entry)) (now (xs .entry)) (now (table .entry)) i) (held sum (now (forces .entry))) (numbers from (to - from)) ⌝ }
 {
     let mut s = sum;
     let mut k = from;
@@ -146,6 +166,8 @@ fn walk(
         s = one(
             lj,
             p,
+            own_ids,
+            own_params,
             ids,
             params,
             species,
@@ -168,6 +190,8 @@ fn walk(
 fn run(
     lj: Lj,
     p: Prepared,
+    own_ids: &[u32],
+    own_params: &[f64],
     ids: &[u32],
     params: &[f64],
     species: &[u32],
@@ -179,9 +203,9 @@ fn run(
     forces: &mut [f64],
     sum: Sum,
 ) -> Sum
-    ensures { λ r. ⌜ held r (now (forces .exit)) ≡ foldl (ljTurn lj p (now (ids .entry)) (now (params .entry)) (now (species .entry)) (now (xs .entry)) (now (table .entry)) i) (held sum (now (forces .entry))) (numbers from (to - from)) ⌝ }
+    ensures { λ r. ⌜ held r (now (forces .exit)) ≡ foldl (ljTurn lj p (tables (now («own_ids» .entry)) (now («own_params» .entry)) (now (ids .entry)) (now (params .entry))) (now (species .entry)) (now (xs .entry)) (now (table .entry)) i) (held sum (now (forces .entry))) (numbers from (to - from)) ⌝ }
 {
-    let n = kept::numbers_for(ids, params, lj, 0, 0);
+    let n = kept::numbers_for(own_ids, own_params, ids, params, lj, 0, 0);
     let mut keys = [0u64; 16];
     let mut depths = [n.depth; 16];
     let mut squares = [n.square; 16];
@@ -189,6 +213,8 @@ fn run(
     walk(
         lj,
         p,
+        own_ids,
+        own_params,
         ids,
         params,
         species,
@@ -210,6 +236,8 @@ fn run(
 pub(crate) fn over(
     lj: Lj,
     p: Prepared,
+    own_ids: &[u32],
+    own_params: &[f64],
     ids: &[u32],
     params: &[f64],
     species: &[u32],
@@ -218,11 +246,13 @@ pub(crate) fn over(
     forces: &mut [f64],
     sum: Sum,
 ) -> Sum
-    ensures { λ r. ⌜ held r (now (forces .exit)) ≡ foldl (ljStep lj p (now (ids .entry)) (now (params .entry)) (now (species .entry)) (now (xs .entry))) (held sum (now (forces .entry))) (rows (now (table .entry))) ⌝ }
+    ensures { λ r. ⌜ held r (now (forces .exit)) ≡ foldl (ljStep lj p (tables (now («own_ids» .entry)) (now («own_params» .entry)) (now (ids .entry)) (now (params .entry))) (now (species .entry)) (now (xs .entry))) (held sum (now (forces .entry))) (rows (now (table .entry))) ⌝ }
 {
     run(
         lj,
         p,
+        own_ids,
+        own_params,
         ids,
         params,
         species,
@@ -240,6 +270,8 @@ pub(crate) fn over(
 pub(crate) fn all(
     lj: Lj,
     p: Prepared,
+    own_ids: &[u32],
+    own_params: &[f64],
     ids: &[u32],
     params: &[f64],
     species: &[u32],
@@ -247,7 +279,7 @@ pub(crate) fn all(
     forces: &mut [f64],
     sum: Sum,
 ) -> Sum
-    ensures { λ r. ⌜ held r (now (forces .exit)) ≡ foldl (ljStep lj p (now (ids .entry)) (now (params .entry)) (now (species .entry)) (now (xs .entry))) (held sum (now (forces .entry))) (allPairs (atomsOf (now (xs .entry)))) ⌝ }
+    ensures { λ r. ⌜ held r (now (forces .exit)) ≡ foldl (ljStep lj p (tables (now («own_ids» .entry)) (now («own_params» .entry)) (now (ids .entry)) (now (params .entry))) (now (species .entry)) (now (xs .entry))) (held sum (now (forces .entry))) (allPairs (atomsOf (now (xs .entry)))) ⌝ }
 {
     let mut s = sum;
     let mut i = 0;
@@ -255,6 +287,8 @@ pub(crate) fn all(
         s = run(
             lj,
             p,
+            own_ids,
+            own_params,
             ids,
             params,
             species,

@@ -1,7 +1,8 @@
 // Lennard-Jones, harmonic bonds and the direct Coulomb sum over a list of pairs (potentials.rs): the terms and the public calls. Every call tests its
 // arguments; specs/Calls.antt says what each answers and leaves. The work without tests, for the crates above: `kernel`, and the range tests in `ranged`.
 ghost use mathlib.Core.Path.{_≡_};
-ghost use Rattle.potentials.specs.Calls.{MonatomicSays, UniformSays, argonOf, LjPairsSays, LjAllSays, CoulombPairsSays, CoulombAllSays, BondsAllSays};
+ghost use Rattle.potentials_pair.specs.Species.{tables};
+ghost use Rattle.potentials.specs.Calls.{MonatomicSays, UniformSays, argonOf, SpeciesRowSays, SpeciesRowAskedSays, LjPairsSays, LjAllSays, CoulombPairsSays, CoulombAllSays, BondsAllSays};
 use answer::Done;
 use answer::Refusal;
 use cell::Cell;
@@ -17,6 +18,7 @@ pub mod kernel;
 mod lennard_jones;
 mod pairs;
 pub mod ranged;
+pub mod species;
 
 // A force constant, and a length at rest. (The Rust's `HarmonicBonds`; its tables are lent.)
 #[repr(C)]
@@ -79,10 +81,13 @@ pub fn uniform(k: f64, r0: f64) -> BondAnswer
     BondAnswer::Refused(Refusal::Range)
 }
 
-// Lennard-Jones over the listed pairs. `ids` are the species that `params` has epsilon and sigma of; `species` an id an atom.
+// Lennard-Jones over the listed pairs. `own_ids` and `ids` are the species that `own_params` and `params` have epsilon and sigma of, a desk's own and the house's;
+// `species` an id an atom.
 pub fn lj_pairs(
     lj: Lj,
     cell: Cell,
+    own_ids: &[u32],
+    own_params: &[f64],
     ids: &[u32],
     params: &[f64],
     species: &[u32],
@@ -90,12 +95,14 @@ pub fn lj_pairs(
     pairs: &[u32],
     forces: &mut [f64],
 ) -> Summed
-    ensures { λ r. ⌜ LjPairsSays lj cell (now (ids .entry)) (now (params .entry)) (now (species .entry)) (now (positions .entry)) (now (pairs .entry)) (now (forces .entry)) r (now (forces .exit)) ⌝ }
+    ensures { λ r. ⌜ LjPairsSays lj cell (tables (now («own_ids» .entry)) (now («own_params» .entry)) (now (ids .entry)) (now (params .entry))) (now (species .entry)) (now (positions .entry)) (now (pairs .entry)) (now (forces .entry)) r (now (forces .exit)) ⌝ }
 {
     let absent = ranges::rows::first_absent(pairs, positions.len() / 3);
     let a = asked::lj_asked(
         lj,
         cell,
+        own_ids,
+        own_params,
         ids,
         params,
         species.len(),
@@ -107,24 +114,39 @@ pub fn lj_pairs(
     if let Done::Refused(why) = a {
         return Summed::Refused(why);
     }
-    Summed::Answered(kernel::lj_pairs(lj, cell, ids, params, species, positions, pairs, forces))
+    Summed::Answered(kernel::lj_pairs(
+        lj,
+        cell,
+        own_ids,
+        own_params,
+        ids,
+        params,
+        species,
+        positions,
+        pairs,
+        forces,
+    ))
 }
 
 // The same over every pair, i, then j, rising.
 pub fn lj_all(
     lj: Lj,
     cell: Cell,
+    own_ids: &[u32],
+    own_params: &[f64],
     ids: &[u32],
     params: &[f64],
     species: &[u32],
     positions: &[f64],
     forces: &mut [f64],
 ) -> Summed
-    ensures { λ r. ⌜ LjAllSays lj cell (now (ids .entry)) (now (params .entry)) (now (species .entry)) (now (positions .entry)) (now (forces .entry)) r (now (forces .exit)) ⌝ }
+    ensures { λ r. ⌜ LjAllSays lj cell (tables (now («own_ids» .entry)) (now («own_params» .entry)) (now (ids .entry)) (now (params .entry))) (now (species .entry)) (now (positions .entry)) (now (forces .entry)) r (now (forces .exit)) ⌝ }
 {
     let a = asked::lj_asked(
         lj,
         cell,
+        own_ids,
+        own_params,
         ids,
         params,
         species.len(),
@@ -136,7 +158,48 @@ pub fn lj_all(
     if let Done::Refused(why) = a {
         return Summed::Refused(why);
     }
-    Summed::Answered(kernel::lj_all(lj, cell, ids, params, species, positions, forces))
+    Summed::Answered(kernel::lj_all(
+        lj,
+        cell,
+        own_ids,
+        own_params,
+        ids,
+        params,
+        species,
+        positions,
+        forces,
+    ))
+}
+
+// The row of a species, two floats: a part of the desk's own table where it has the species, else of the house's, else empty. Nothing is copied. Empty where
+// `species_row_asked` refuses.
+pub fn species_row<'a>(
+    own_ids: &[u32],
+    own_params: &'a [f64],
+    ids: &[u32],
+    params: &'a [f64],
+    species: u32,
+) -> &'a [f64]
+    ensures { λ r. ⌜ SpeciesRowSays (tables (now («own_ids» .entry)) (now («own_params» .entry)) (now (ids .entry)) (now (params .entry))) species (now r) ⌝ }
+{
+    let a = asked::rows_asked(own_ids, own_params, ids, params);
+    if let Done::Refused(_) = a {
+        return &params[0..0];
+    }
+    potentials_pair::species::row_of(own_ids, own_params, ids, params, species)
+}
+
+// Refusals 1, 3, 5 of both tables.
+pub fn species_row_asked(
+    own_ids: &[u32],
+    own_params: &[f64],
+    ids: &[u32],
+    params: &[f64],
+    species: u32,
+) -> Done
+    ensures { λ r. ⌜ SpeciesRowAskedSays (tables (now («own_ids» .entry)) (now («own_params» .entry)) (now (ids .entry)) (now (params .entry))) r ⌝ }
+{
+    asked::rows_asked(own_ids, own_params, ids, params)
 }
 
 // Coulomb over the listed pairs.

@@ -1,7 +1,7 @@
 // The range tests of the terms' numbers and tables (01, "Ranges"): refusal 3. Total, and also for the crates above.
 ghost use mathlib.Core.Path.{_≡_};
 ghost use Rattle.lists.specs.Lists.{every};
-ghost use Rattle.potentials.specs.Ranged.{coordinate, depth, cutoffOk, charge, ljInRange, bondInRange};
+ghost use Rattle.potentials.specs.Ranged.{coordinate, depth, cutoffOk, charge, rowsInRange, ljInRange, bondInRange};
 use crate::Bond;
 use potentials_pair::Lj;
 
@@ -32,6 +32,13 @@ pub fn params_in_range(params: &[f64]) -> bool
     ensures { λ r. ⌜ r ≡ every depth (now (params .entry)) ⌝ }
 {
     ranges::all_between(0.0, 1024.0, params)
+}
+
+// Those of both species tables.
+pub fn rows_in_range(own_params: &[f64], params: &[f64]) -> bool
+    ensures { λ r. ⌜ r ≡ rowsInRange (now («own_params» .entry)) (now (params .entry)) ⌝ }
+{
+    params_in_range(own_params) & params_in_range(params)
 }
 
 pub fn charges_in_range(charges: &[f64]) -> bool

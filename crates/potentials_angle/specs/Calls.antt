@@ -1,6 +1,6 @@
 -- What each public call answers, and what it leaves in the lent forces: one relation a call (02, No. 1). Tests in 01's order, 1 to 4; a refusal leaves the forces as they came. Definitions only.
 use mathlib.Core.Path.{_≡_}
-use mathlib.Core.Bool.{Bool, true, _&&_}
+use mathlib.Core.Bool.{Bool, _&&_}
 use mathlib.Core.List.{List}
 use Prim.Native.Nat.{ℕ, _/_, _%_}
 use lib.Dec.{eqb}
@@ -14,6 +14,7 @@ use Rattle.cell.specs.declared.Cell.{Cell}
 use Rattle.cell.specs.Calls.{when}
 use Rattle.cell.specs.Ranged.{coordinate, cellInRange}
 use Rattle.virial.specs.declared.Summed.{Summed}
+use Rattle.answer.specs.declared.Done.the-variants as Done·cases
 use Rattle.potentials.specs.Calls.{askedBy, outcomeOf, left}
 use Rattle.potentials_angle.specs.declared.Angle.{Angle}
 use Rattle.potentials_angle.specs.declared.AngleAnswer.{AngleAnswer}
@@ -43,7 +44,7 @@ anglesRanges angle cell per xs = angleInRange angle && cellInRange cell && perAn
 -- 1, 2, 3, 4; angles and forces are lengths, missing is the first bad row of the angles; no table is in order, so no 5
 unfoldable pub anglesAsked : Angle → Cell → (angles : ℕ) (perAngle xs : List Float) (forces missing : ℕ) → Done
 anglesAsked angle cell angles per xs forces missing =
-    askedBy (anglesFit angles (length per) (length xs) forces) (atomsOf xs) (anglesRanges angle cell per xs) (angles / 3) missing true
+    askedBy (anglesFit angles (length per) (length xs) forces) (atomsOf xs) (anglesRanges angle cell per xs) (angles / 3) missing Done·cases.Answered
 
 abbrev pub AnglesAllSays : (angle : Angle) (cell : Cell) (angles : List ℕ) (perAngle positions forces : List Float) → Summed → (after : List Float) → Type 0
 AnglesAllSays angle cell angles per xs forces r after =

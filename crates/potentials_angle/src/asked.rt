@@ -1,6 +1,6 @@
 // What is tested before the term is computed: refusals 1 to 4, in their order.
 ghost use mathlib.Core.Path.{_≡_};
-ghost use mathlib.Core.Bool.{true};
+ghost use Rattle.answer.specs.declared.Done.the-variants.{Answered};
 ghost use Rattle.potentials.specs.Calls.{askedBy};
 ghost use Rattle.potentials_angle.specs.Calls.{anglesFit, anglesRanges, anglesAsked};
 use crate::Angle;
@@ -11,7 +11,7 @@ use cell::Cell;
 
 // `missing` is the first of the rows that names an atom not there.
 fn in_turn(fits: bool, atoms: usize, in_range: bool, rows: usize, missing: usize) -> Done
-    ensures { λ r. ⌜ r ≡ askedBy fits atoms «in_range» rows missing true ⌝ }
+    ensures { λ r. ⌜ r ≡ askedBy fits atoms «in_range» rows missing Answered ⌝ }
 {
     if !fits {
         return Done::Refused(Refusal::Lengths);

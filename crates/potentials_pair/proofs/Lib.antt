@@ -1,3 +1,4 @@
+pub mod Desks
 pub mod Lookup
 pub mod Newton
 pub mod Once

@@ -1,5 +1,5 @@
--- The test of a species table one step at a time; an ascending table's lookup by halving is the lookup by membership (`looks`, and of the two functions `looks-all`). Assumes nothing.
-use mathlib.Core.Path.{_≡_, refl, sym, ap, _∙_}
+-- The test of a species table one step at a time; the lookup by halving in ascending tables is the lookup by membership (`looks`, `rows-found`, and of the two functions `looks-all`). Assumes nothing.
+use mathlib.Core.Path.{_≡_, refl, sym, ap, ap₂, _∙_}
 use mathlib.Core.Logic.{⊎-elim}
 use mathlib.Core.Bool.{Bool, true, false}
 use mathlib.Core.List.{List, [], _∷_}
@@ -17,7 +17,7 @@ use Rattle.lists.proofs.Halving.{Split, Falling, halved-splits}
 use Rattle.lists.proofs.Walks.{every-passes, every-fails, every-past, every-at}
 use Rattle.potentials_pair.specs.declared.Lj.{Lj}
 use Rattle.potentials_pair.specs.declared.Mixed.{Mixed}
-use Rattle.potentials_pair.specs.Species.{rising, lookOf, placeIn, isAt, lookBy}
+use Rattle.potentials_pair.specs.Species.{Tables, rising, orElse, numbersIn, rowIn, rowOf, lookOf, placeIn, isAt, rowInBy, rowBy, lookBy}
 
 -- ---- the test, at place k
 abbrev below : List ℕ → ℕ → Bool
@@ -103,13 +103,22 @@ module _ (ids : List ℕ) (h : rising ids ≡ true) (z : ℕ) where
       first-none (λ id. eqb id z) ids
       (λ j l. ⊎-elim (λ s. earlier j s) (λ s. later e j l s) (below-or j (placeIn ids z)))
 
-  pub looks : (params : List Float) (lj : Lj) → lookBy ids params lj z ≡ lookOf ids params lj z
-  unfolding lookBy lookOf
-  looks params lj =
+  pub looks : (params : List Float) → rowInBy ids params z ≡ rowIn ids params z
+  unfolding rowInBy rowIn
+  looks params =
       ⊎-elim
       (λ (e : isAt ids (placeIn ids z) z ≡ true). rw (e, found e .1, lt-ltb _ _ (found e .0)))
       (λ (e : isAt ids (placeIn ids z) z ≡ false). rw (e, missing e, le-ltb (length ids) (length ids) (omega arith)))
       (true-or-false (isAt ids (placeIn ids z) z))
 
-pub looks-all : (ids : List ℕ) (params : List Float) (lj : Lj) → rising ids ≡ true → _≡_ {A = ℕ → Mixed} (lookBy ids params lj) (lookOf ids params lj)
-looks-all ids params lj h = λ i z. looks ids h z params lj i
+module _ (t : Tables) (own : rising (t .ownIds) ≡ true) (house : rising (t .ids) ≡ true) where
+  pub rows-found : (z : ℕ) → rowBy t z ≡ rowOf t z
+  unfolding rowBy rowOf
+  rows-found z = ap₂ orElse (looks (t .ownIds) own z (t .ownParams)) (looks (t .ids) house z (t .params))
+
+  looked : (lj : Lj) (z : ℕ) → lookBy t lj z ≡ lookOf t lj z
+  unfolding lookBy lookOf
+  looked lj z = ap (λ (row : List Float). numbersIn row lj) (rows-found z)
+
+  pub looks-all : (lj : Lj) → _≡_ {A = ℕ → Mixed} (lookBy t lj) (lookOf t lj)
+  looks-all lj = λ i z. looked lj z i

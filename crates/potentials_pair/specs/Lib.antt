@@ -1,5 +1,6 @@
 pub mod Bond
 pub mod Coulomb
+pub mod Desks
 pub mod Lj
 pub mod Newton
 pub mod Once

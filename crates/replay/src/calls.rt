@@ -5,6 +5,7 @@ use crate::angles;
 use crate::boxes;
 use crate::cells;
 use crate::counts;
+use crate::desks;
 use crate::evaluations;
 use crate::excluded;
 use crate::floats;
@@ -59,6 +60,9 @@ pub(crate) fn answer(call: u64, ws: &[u64], out: &mut [u64; 8208]) -> usize {
     }
     if call == 86 {
         return angles::angles_all_case(ws, out);
+    }
+    if call == 88 || call == 89 || call == 90 {
+        return desks::answer(call, ws, out);
     }
     if call < 96 {
         return evaluations::answer(call, ws, out);

@@ -12,6 +12,8 @@ use virial::Sum;
 
 // What is only read.
 struct Tables {
+    own_ids: Table,
+    own_params: Table,
     ids: Table,
     params: Table,
     species: Table,
@@ -26,7 +28,9 @@ struct Tables {
 }
 
 fn take_tables(parts: Parts, ws: &[u64], at: usize) -> Tables {
-    let ids = replay_words::take_u32s(ws, at);
+    let own_ids = masks::take_u32s_if(parts.own, ws, at);
+    let own_params = masks::take_floats_if(parts.own, ws, own_ids.next);
+    let ids = replay_words::take_u32s(ws, own_params.next);
     let params = replay_words::take_floats(ws, ids.next);
     let species = replay_words::take_u32s(ws, params.next);
     let charges = replay_words::take_floats(ws, species.next);
@@ -38,6 +42,8 @@ fn take_tables(parts: Parts, ws: &[u64], at: usize) -> Tables {
     let positions = replay_words::take_floats(ws, per_angle.next);
     let exclusions = replay_words::take_u32s(ws, positions.next);
     Tables {
+        own_ids,
+        own_params,
         ids,
         params,
         species,
@@ -68,6 +74,8 @@ fn evaluated(
     evaluate::evaluate(
         setting,
         state,
+        tables::part_u32(us, t.own_ids),
+        tables::part(fs, t.own_params),
         tables::part_u32(us, t.ids),
         tables::part(fs, t.params),
         tables::part_u32(us, t.species),

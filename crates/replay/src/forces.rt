@@ -1,13 +1,16 @@
 // The calls of `potentials`, 50 to 54.
 use crate::answers;
+use crate::masks;
 use crate::records;
 use crate::tables;
 use potentials::Bond;
 
-fn lj_pairs_case(ws: &[u64], out: &mut [u64; 8208]) -> usize {
-    let lj = records::take_lj(ws, 0);
+pub(crate) fn lj_pairs_case(own: bool, from: usize, ws: &[u64], out: &mut [u64; 8208]) -> usize {
+    let lj = records::take_lj(ws, from);
     let of = records::take_cell(ws, lj.next);
-    let a = replay_words::take_u32s(ws, of.next);
+    let y = masks::take_u32s_if(own, ws, of.next);
+    let z = masks::take_floats_if(own, ws, y.next);
+    let a = replay_words::take_u32s(ws, z.next);
     let b = replay_words::take_floats(ws, a.next);
     let c = replay_words::take_u32s(ws, b.next);
     let d = replay_words::take_floats(ws, c.next);
@@ -23,6 +26,8 @@ fn lj_pairs_case(ws: &[u64], out: &mut [u64; 8208]) -> usize {
     let r = potentials::lj_pairs(
         lj.value,
         cell,
+        tables::part_u32(&us, y),
+        tables::part(&fs, z),
         tables::part_u32(&us, a),
         tables::part(&fs, b),
         tables::part_u32(&us, c),
@@ -33,10 +38,12 @@ fn lj_pairs_case(ws: &[u64], out: &mut [u64; 8208]) -> usize {
     answers::put_summed_forces(out, r, tables::part(&forces, f))
 }
 
-fn lj_all_case(ws: &[u64], out: &mut [u64; 8208]) -> usize {
-    let lj = records::take_lj(ws, 0);
+pub(crate) fn lj_all_case(own: bool, from: usize, ws: &[u64], out: &mut [u64; 8208]) -> usize {
+    let lj = records::take_lj(ws, from);
     let of = records::take_cell(ws, lj.next);
-    let a = replay_words::take_u32s(ws, of.next);
+    let y = masks::take_u32s_if(own, ws, of.next);
+    let z = masks::take_floats_if(own, ws, y.next);
+    let a = replay_words::take_u32s(ws, z.next);
     let b = replay_words::take_floats(ws, a.next);
     let c = replay_words::take_u32s(ws, b.next);
     let d = replay_words::take_floats(ws, c.next);
@@ -51,6 +58,8 @@ fn lj_all_case(ws: &[u64], out: &mut [u64; 8208]) -> usize {
     let r = potentials::lj_all(
         lj.value,
         cell,
+        tables::part_u32(&us, y),
+        tables::part(&fs, z),
         tables::part_u32(&us, a),
         tables::part(&fs, b),
         tables::part_u32(&us, c),
@@ -145,10 +154,10 @@ fn bonds_all_case(ws: &[u64], out: &mut [u64; 8208]) -> usize {
 
 pub(crate) fn answer(call: u64, ws: &[u64], out: &mut [u64; 8208]) -> usize {
     match call {
-        80 => lj_pairs_case(ws, out),
+        80 => lj_pairs_case(false, 0, ws, out),
         81 => coulomb_pairs_case(ws, out),
         82 => bonds_all_case(ws, out),
-        83 => lj_all_case(ws, out),
+        83 => lj_all_case(false, 0, ws, out),
         84 => coulomb_all_case(ws, out),
         _ => 0,
     }

@@ -8,6 +8,7 @@ mod boxes;
 mod calls;
 mod cells;
 mod counts;
+mod desks;
 mod evaluations;
 mod excluded;
 mod floats;

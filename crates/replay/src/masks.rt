@@ -1,9 +1,10 @@
-// The first word of 57, 67 and 68: which further parts stand in the line.
+// The first word of 57, 67, 68, and of 58, 59: which further parts stand in the line.
 use replay_words::Table;
 
 pub(crate) struct Parts {
     pub(crate) angles: bool, // 1: the term of angles after bonds', and its two tables after theirs
     pub(crate) cell: bool, // 2: a cell at the end of State
+    pub(crate) own: bool, // 4: the two own tables before ids and rows
 }
 
 pub(crate) struct MaskArg {
@@ -17,6 +18,7 @@ pub(crate) fn none() -> Parts {
     Parts {
         angles: false,
         cell: false,
+        own: false,
     }
 }
 
@@ -25,9 +27,10 @@ pub(crate) fn take_mask(ws: &[u64]) -> MaskArg {
     MaskArg {
         parts: Parts {
             angles: w.value % 2 == 1,
-            cell: w.value / 2 == 1,
+            cell: w.value / 2 % 2 == 1,
+            own: w.value / 4 == 1,
         },
-        known: w.value < 4,
+        known: w.value < 8,
         next: w.next,
     }
 }

@@ -36,6 +36,8 @@ fn take_options(ws: &[u64], at: usize) -> OptionsArg {
 struct Given {
     options: FireOptions,
     settings: SettingsArg,
+    own_ids: Table,
+    own_params: Table,
     ids: Table,
     params: Table,
     species: Table,
@@ -53,7 +55,9 @@ struct Given {
 fn take_given(parts: Parts, from: usize, ws: &[u64]) -> Given {
     let o = take_options(ws, from);
     let settings = records::take_settings(parts, ws, o.next);
-    let ids = replay_words::take_u32s(ws, settings.next);
+    let own_ids = masks::take_u32s_if(parts.own, ws, settings.next);
+    let own_params = masks::take_floats_if(parts.own, ws, own_ids.next);
+    let ids = replay_words::take_u32s(ws, own_params.next);
     let params = replay_words::take_floats(ws, ids.next);
     let species = replay_words::take_u32s(ws, params.next);
     let charges = replay_words::take_floats(ws, species.next);
@@ -68,6 +72,8 @@ fn take_given(parts: Parts, from: usize, ws: &[u64]) -> Given {
     Given {
         options,
         settings,
+        own_ids,
+        own_params,
         ids,
         params,
         species,
@@ -99,6 +105,8 @@ fn settled(
     let setting = s.setting;
     let state = s.state;
     let options = g.options;
+    let own_ids = tables::part_u32(us, g.own_ids);
+    let own_params = tables::part(fs, g.own_params);
     let ids = tables::part_u32(us, g.ids);
     let params = tables::part(fs, g.params);
     let species = tables::part_u32(us, g.species);
@@ -114,6 +122,8 @@ fn settled(
         options,
         setting,
         state,
+        own_ids,
+        own_params,
         ids,
         params,
         species,

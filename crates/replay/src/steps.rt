@@ -40,6 +40,8 @@ struct Given {
     dt: f64,
     thermostat: Thermostat,
     settings: SettingsArg,
+    own_ids: Table,
+    own_params: Table,
     ids: Table,
     params: Table,
     species: Table,
@@ -59,7 +61,9 @@ fn take_given(finishing: bool, parts: Parts, from: usize, ws: &[u64]) -> Given {
     let dt = replay_words::take_float(ws, from);
     let t = take_thermostat(ws, dt.next);
     let settings = records::take_settings(parts, ws, t.next);
-    let ids = replay_words::take_u32s(ws, settings.next);
+    let own_ids = masks::take_u32s_if(parts.own, ws, settings.next);
+    let own_params = masks::take_floats_if(parts.own, ws, own_ids.next);
+    let ids = replay_words::take_u32s(ws, own_params.next);
     let params = replay_words::take_floats(ws, ids.next);
     let species = replay_words::take_u32s(ws, params.next);
     let charges = replay_words::take_floats(ws, species.next);
@@ -77,6 +81,8 @@ fn take_given(finishing: bool, parts: Parts, from: usize, ws: &[u64]) -> Given {
         dt: dt.value,
         thermostat,
         settings,
+        own_ids,
+        own_params,
         ids,
         params,
         species,
@@ -113,6 +119,8 @@ fn moved(
         dt: g.dt,
         thermostat,
     };
+    let own_ids = tables::part_u32(us, g.own_ids);
+    let own_params = tables::part(fs, g.own_params);
     let ids = tables::part_u32(us, g.ids);
     let params = tables::part(fs, g.params);
     let species = tables::part_u32(us, g.species);
@@ -130,6 +138,8 @@ fn moved(
             pace,
             state,
             g.potential,
+            own_ids,
+            own_params,
             ids,
             params,
             species,
@@ -155,6 +165,8 @@ fn moved(
         pace,
         state,
         g.potential,
+        own_ids,
+        own_params,
         ids,
         params,
         species,

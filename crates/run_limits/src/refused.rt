@@ -75,12 +75,23 @@ fn bond() -> Bond {
 }
 
 fn lj_pairs(species: &[u32], xs: &[f64], forces: &mut [f64]) {
-    let r = potentials::lj_pairs(lj(), Cell::Absent, &[], &[], species, xs, &[], forces);
+    let r = potentials::lj_pairs(
+        lj(),
+        Cell::Absent,
+        &[],
+        &[],
+        &[],
+        &[],
+        species,
+        xs,
+        &[],
+        forces,
+    );
     put_refused(r, forces);
 }
 
 fn lj_all(species: &[u32], xs: &[f64], forces: &mut [f64]) {
-    let r = potentials::lj_all(lj(), Cell::Absent, &[], &[], species, xs, forces);
+    let r = potentials::lj_all(lj(), Cell::Absent, &[], &[], &[], &[], species, xs, forces);
     put_refused(r, forces);
 }
 
@@ -137,6 +148,8 @@ fn evaluated(species: &[u32], charges: &[f64], xs: &[f64], forces: &mut [f64]) {
     let e = evaluate::evaluate(
         setting(),
         list(),
+        &[],
+        &[],
         &[],
         &[],
         species,

@@ -54,6 +54,8 @@ pub(crate) fn evaluated(
     evaluate::evaluate(
         terms::setting(shift, edge),
         s,
+        &[],
+        &[],
         &terms::ids(),
         &terms::params(),
         species,

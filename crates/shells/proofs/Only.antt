@@ -5,7 +5,7 @@ use mathlib.Core.Bool.{cond}
 use mathlib.Core.List.{List}
 use lib.Dec.{eqb}
 use Rattle.answer.specs.declared.Refusal.{Refusal}
-use Rattle.answer.specs.declared.Refusal.the-variants.{Lengths, TooMany, Range, Drifted, NotThere, Order, Claims, Cells, Room, Malformed, Again, Absent}
+use Rattle.answer.specs.declared.Refusal.the-variants.{Lengths, TooMany, Range, Drifted, NotThere, Order, HouseOrder, Claims, Cells, Room, Malformed, Again, Absent}
 use Rattle.answer.specs.Seen.{Seen, answered, refused, numberOf, placeOf}
 use Rattle.answer.proofs.Only.{told, told-back}
 use Rattle.frame.specs.Build.{Counts}
@@ -25,6 +25,7 @@ no-other Range = refl
 no-other Drifted = refl
 no-other (NotThere k) = refl
 no-other Order = refl
+no-other HouseOrder = refl
 no-other Claims = refl
 no-other Cells = refl
 no-other (Room n) = refl

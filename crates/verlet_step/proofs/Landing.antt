@@ -13,7 +13,7 @@ use Rattle.answer.specs.declared.Refusal.the-variants.{Drifted}
 use Rattle.answer.specs.Seen.{Seen, answered, refused, seenDone}
 use Rattle.potentials_pair.specs.declared.Lj.{Lj}
 use Rattle.potentials_pair.specs.declared.Mixed.{Mixed}
-use Rattle.potentials_pair.specs.Species.{rising}
+use Rattle.potentials_pair.specs.Species.{Tables, rising}
 use Rattle.verlet.specs.declared.Thermostat.{Thermostat}
 use Rattle.verlet.specs.Parts.{movedBy, drifts}
 use Rattle.neighbor.specs.declared.Question.the-variants.{Outdated}
@@ -29,7 +29,7 @@ use Rattle.verlet_step.specs.Calls.{Motion, Outcome, unitsOf, landedAfte
 use Rattle.verlet_step.specs.Steps.{landedIn, advancedIn, unmovedOf, kicked, kickedAfter, Kicked}
 
 -- ---- an evaluation that is refused leaves the forces
-module _ (look : List ℕ → List Float → Lj → ℕ → Mixed) (room : ℕ) (j : Job) where
+module _ (look : Tables → Lj → ℕ → Mixed) (room : ℕ) (j : Job) where
   module _ {n p : ℕ} where
     after-stays : (a : Seen (Unit {0})) (o : Update.Outcome) → o .answer ≡ a → o .answer ≡ refused n p → afterList look room j a o .total .forces ≡ j .forces
     unfolding afterList
@@ -87,18 +87,18 @@ module _ (m : Motion) {b : Bool} (is : b ≡ drifts (unitsOf m) (m .dt) (m .job 
   advanced-on h e q = rw (← is, h, ← e) q
 
 -- ---- after passed tests the evaluation is the contract's
-module _ (m : Motion) (up : rising (m .job .terms .ids) ≡ true) (few : length (m .job .forces) ≤ 49152) where
+module _ (m : Motion) (up : (rising (m .job .terms .tables .ownIds) ≡ true) × (rising (m .job .terms .tables .ids) ≡ true)) (few : length (m .job .forces) ≤ 49152) where
   pub landed-is : landedIn m ≡ landedBy settledOf m
   unfolding landedBy
   landed-is = ap (λ (o : Evaluation.Outcome). landedAfter m (o .list .answer) o) (settled-is (m .job) up few)
 
-pub advanced-is : (m : Motion) → rising (m .job .terms .ids) ≡ true → length (m .job .forces) ≤ 49152 → advancedIn m ≡ advancedBy settledOf m
+pub advanced-is : (m : Motion) → (rising (m .job .terms .tables .ownIds) ≡ true) × (rising (m .job .terms .tables .ids) ≡ true) → length (m .job .forces) ≤ 49152 → advancedIn m ≡ advancedBy settledOf m
 unfolding advancedBy
 advanced-is m up few = rw (landed-is (moved m) up few)
 
 -- ---- the calls
 module _ (limit : Float) (t : Thermostat) (m : Motion) {d : Done} (is : d ≡ motionAsked limit t m) where
-  pub asked-up : d ≡ Answered → rising (m .job .terms .ids) ≡ true
+  pub asked-up : d ≡ Answered → (rising (m .job .terms .tables .ownIds) ≡ true) × (rising (m .job .terms .tables .ids) ≡ true)
   unfolding motionAsked
   asked-up h = asked-rising _ _ (m .job .terms) (m .job .given) (length (m .job .forces)) (sym is ∙ h)
 

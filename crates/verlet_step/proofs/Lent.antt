@@ -26,7 +26,8 @@ use Rattle.neighbor.specs.declared.State.{State}
 use Rattle.neighbor.specs.Rebuild.{needsOf, outdatedOf, claimsMore, referencesOk, rangesOk, strayedOf}
 use Rattle.neighbor.specs.Update.{unfit, keepsOf, lengthsBad, listedOf, firstOf, misnamed, keptAsked, tableAsked, andThen}
 use Rattle.neighbor.proofs.Asking.{claims-told, claims-made, listed-some}
-use Rattle.evaluate.specs.Asked.{termsFit, numbersOk, bondsAsked, anglesNamed, idsAsked, namesAsked, inTurn, jobAsked}
+use Rattle.potentials.specs.Calls.{tablesFit, orderAsked}
+use Rattle.evaluate.specs.Asked.{termsFit, numbersOk, bondsAsked, anglesNamed, namesAsked, inTurn, jobAsked}
 use Rattle.neighbor.proofs.Source.{passed, both-passed, first-told, lengths-told, build-fits, build-able}
 use Rattle.verlet_step.specs.Asked.{motionFits, motionOk}
 use Rattle.verlet_step.specs.Calls.{Motion, motionAsked}
@@ -43,7 +44,7 @@ module _ (s : State) (cell : Cell) (xs : List Float) (table pairs refs items : �
 pub record Passed (limit : Float) (t : Thermostat) (m : Motion) : Type 0 where
   pub fits :
       motionFits (length (m .job .given .positions)) (length (m .velocities)) (length (m .masses))
-      && termsFit (length (m .job .terms .ids)) (length (m .job .terms .params)) (length (m .job .terms .species)) (length (m .job .terms .charges)) (length (m .job .terms .bonds)) (length (m .job .terms .angles)) (length (m .job .terms .perAngle)) (length (m .job .given .positions)) (length (m .job .forces))
+      && termsFit (tablesFit (length (m .job .terms .tables .ownIds)) (length (m .job .terms .tables .ownParams)) (length (m .job .terms .tables .ids)) (length (m .job .terms .tables .params))) (length (m .job .terms .species)) (length (m .job .terms .charges)) (length (m .job .terms .bonds)) (length (m .job .terms .angles)) (length (m .job .terms .perAngle)) (length (m .job .given .positions)) (length (m .job .forces))
       ≡ true
   pub lengths : lengthsBad (length (m .job .given .positions)) (length (m .job .given .exclusions)) (length (m .job .given .references)) (length (m .job .given .items)) ≡ false
   pub few : ltb 16384 (atomsOf (m .job .given .positions)) ≡ false
@@ -51,10 +52,10 @@ pub record Passed (limit : Float) (t : Thermostat) (m : Motion) : Type 0 where
   pub ranges : rangesOk (m .job .given .state) (m .job .given .cell) (m .job .given .positions) ≡ true
   pub numbers :
       motionOk limit (m .dt) t (m .masses) (m .velocities) (m .job .forces) (m .potential)
-      && numbersOk (m .job .terms .lj) (m .job .terms .coulomb) (m .job .terms .bond) (m .job .terms .angle) (m .job .terms .units) (m .job .terms .params) (m .job .terms .charges) (m .job .terms .lengths) (m .job .terms .ks) (m .job .terms .perAngle)
+      && numbersOk (m .job .terms .lj) (m .job .terms .coulomb) (m .job .terms .bond) (m .job .terms .angle) (m .job .terms .units) (m .job .terms .tables .ownParams) (m .job .terms .tables .params) (m .job .terms .charges) (m .job .terms .lengths) (m .job .terms .ks) (m .job .terms .perAngle)
       ≡ true
   pub kept : keptAsked (m .job .given .state) (atomsOf (m .job .given .positions)) (m .job .given .pairs) (m .job .given .references) ≡ Answered
-  pub names : namesAsked (atomsOf (m .job .given .positions)) (m .job .terms .bonds) (m .job .terms .angles) (m .job .given .exclusions) (m .job .terms .ids) ≡ Answered
+  pub names : namesAsked (atomsOf (m .job .given .positions)) (m .job .terms .bonds) (m .job .terms .angles) (m .job .given .exclusions) (m .job .terms .tables .ownIds) (m .job .terms .tables .ids) ≡ Answered
 
 module _ (limit : Float) (t : Thermostat) (m : Motion) where
   pub asked-told : motionAsked limit t m ≡ Answered → Passed limit t m
@@ -90,17 +91,17 @@ lengths-again xs table refs items more others h r i =
     let rows = not (eqb (xs % 3) 0) || not (eqb (table % 2) 0) in
     neither-or (rows || ltb more xs) (ltb others (xs / 3)) (neither-or rows (ltb more xs) (lengths-told xs table refs items h .0) (le-ltb more xs r)) (le-ltb others (xs / 3) i)
 
-table-told : (n : ℕ) (bonds angles table ids : List ℕ) → namesAsked n bonds angles table ids ≡ Answered → isTable (rows table) ≡ true
+table-told : (n : ℕ) (bonds angles table ownIds ids : List ℕ) → namesAsked n bonds angles table ownIds ids ≡ Answered → isTable (rows table) ≡ true
 unfolding namesAsked tableAsked
-table-told n bonds angles table ids e =
-    passed (isTable (rows table)) Order (both-passed _ (idsAsked ids) (both-passed (anglesNamed n angles) _ (both-passed (bondsAsked n bonds) _ e .1) .1) .0)
+table-told n bonds angles table ownIds ids e =
+    passed (isTable (rows table)) Order (both-passed _ (orderAsked ownIds ids) (both-passed (anglesNamed n angles) _ (both-passed (bondsAsked n bonds) _ e .1) .1) .0)
 
 module _ (limit : Float) (t : Thermostat) (m : Motion) (p : Passed limit t m) where
   pub list-fits : unfit (length (m .job .given .positions)) (length (m .job .given .references)) ≡ false
   list-fits = build-fits (m .job .given) (p .lengths) (p .few)
 
   pub list-able : unlisted (m .job .given .positions) (m .job .given .exclusions) (m .job .given .items) ≡ false
-  list-able = build-able (m .job .given) (p .lengths) (p .few) (table-told _ _ _ _ _ (p .names))
+  list-able = build-able (m .job .given) (p .lengths) (p .few) (table-told _ _ _ _ _ _ (p .names))
 
 -- ---- the old list in other rooms
 module _ {A : Type 0} (k : ℕ) (old new : List A) (same : take k new ≡ take k old) where

@@ -19,7 +19,7 @@ use Rattle.neighbor.specs.declared.State.{State}
 use Rattle.neighbor.specs.State.{settingsOk}
 use Rattle.neighbor.specs.Rebuild.{rangesOk}
 use Rattle.evaluate.specs.Terms.{Terms}
-use Rattle.potentials.specs.Ranged.{depth, charge}
+use Rattle.potentials.specs.Ranged.{charge, rowsInRange}
 use Rattle.potentials.specs.Ranged as Limits
 use Rattle.evaluate.specs.Asked.{ljOk, coulombOk, bondOk, angleOk, numbersOk}
 use Rattle.potentials_angle.specs.Ranged.{perAngleInRange}
@@ -47,14 +47,14 @@ second : (a u b c d e f : Bool) → a && u && b && c && d && e && f ≡ true →
 second a u b c d e f h =
     and-both a u (and-both (a && u) b (and-both (a && u && b) c (and-both (a && u && b && c) d (and-both (a && u && b && c && d) e (and-both (a && u && b && c && d && e) f h .0) .0) .0) .0) .0) .1
 
-units-told : (t : Terms) → numbersOk (t .lj) (t .coulomb) (t .bond) (t .angle) (t .units) (t .params) (t .charges) (t .lengths) (t .ks) (t .perAngle) ≡ true → unitsInRange (t .units) ≡ true
+units-told : (t : Terms) → numbersOk (t .lj) (t .coulomb) (t .bond) (t .angle) (t .units) (t .tables .ownParams) (t .tables .params) (t .charges) (t .lengths) (t .ks) (t .perAngle) ≡ true → unitsInRange (t .units) ≡ true
 unfolding numbersOk
 units-told t h =
-    second (ljOk (t .lj) && coulombOk (t .coulomb) && bondOk (t .bond) && angleOk (t .angle)) (unitsInRange (t .units)) (every depth (t .params)) (every charge (t .charges)) (every Limits.coordinate (t .lengths)) (every Limits.coordinate (t .ks)) (perAngleInRange (t .perAngle)) h
+    second (ljOk (t .lj) && coulombOk (t .coulomb) && bondOk (t .bond) && angleOk (t .angle)) (unitsInRange (t .units)) (rowsInRange (t .tables .ownParams) (t .tables .params)) (every charge (t .charges)) (every Limits.coordinate (t .lengths)) (every Limits.coordinate (t .ks)) (perAngleInRange (t .perAngle)) h
 
 module _ (limit : Float) (t : Thermostat) (m : Motion) (a : Passed limit t m) where
   asked-numbers : (motionOk limit (m .dt) t (m .masses) (m .velocities) (m .job .forces) (m .potential) ≡ true)
-      × (numbersOk (m .job .terms .lj) (m .job .terms .coulomb) (m .job .terms .bond) (m .job .terms .angle) (m .job .terms .units) (m .job .terms .params) (m .job .terms .charges) (m .job .terms .lengths) (m .job .terms .ks) (m .job .terms .perAngle) ≡ true)
+      × (numbersOk (m .job .terms .lj) (m .job .terms .coulomb) (m .job .terms .bond) (m .job .terms .angle) (m .job .terms .units) (m .job .terms .tables .ownParams) (m .job .terms .tables .params) (m .job .terms .charges) (m .job .terms .lengths) (m .job .terms .ks) (m .job .terms .perAngle) ≡ true)
   asked-numbers = and-both _ _ (a .numbers)
 
   asked-motion : (timeStep (m .dt) ≡ true) × (thermostatInRange t ≡ true) × (every mass (m .masses) ≡ true) × (every (within limit) (m .velocities) ≡ true) × (every plain (m .job .forces) ≡ true) × (plain (m .potential) ≡ true)

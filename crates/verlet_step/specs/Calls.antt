@@ -18,6 +18,7 @@ use Rattle.neighbor.specs.Listed.{Listed}
 use Rattle.neighbor.specs.Box.{SameBits}
 use Rattle.neighbor.specs.Update.{Given, given, stays}
 use Rattle.neighbor.specs.Update as Update
+use Rattle.potentials_pair.specs.Species.{Tables}
 use Rattle.evaluate.specs.declared.Setting.{Setting}
 use Rattle.evaluate.specs.Calls.{Job, job, jobOf, askedOf, settledOf}
 use Rattle.evaluate.specs.Calls as Evaluation
@@ -36,9 +37,9 @@ abbrev pub motion : (dt : Float) → Job → (masses : List Float) → (potentia
 motion dt j masses potential velocities = record { dt = dt; job = j; masses = masses; potential = potential; velocities = velocities }
 
 -- that of a call, from what it is handed
-abbrev pub motionOf : Setting → (dt : Float) → State → (potential : Float) → (ids : List ℕ) (params : List Float) (species : List ℕ) (charges : List Float) (bonds : List ℕ) (lengths ks : List Float) (angles : List ℕ) (perAngle masses : List Float) (exclusions : List ℕ) (positions velocities : List Float) (pairs : List ℕ) (references : List Float) (starts items : List ℕ) (forces : List Float) → Motion
-motionOf setting dt s potential ids params species charges bonds lengths ks angles perAngle masses exclusions positions velocities pairs references starts items forces =
-    motion dt (jobOf setting s ids params species charges bonds lengths ks angles perAngle positions exclusions pairs references starts items forces) masses potential velocities
+abbrev pub motionOf : Setting → (dt : Float) → State → (potential : Float) → (tab : Tables) (species : List ℕ) (charges : List Float) (bonds : List ℕ) (lengths ks : List Float) (angles : List ℕ) (perAngle masses : List Float) (exclusions : List ℕ) (positions velocities : List Float) (pairs : List ℕ) (references : List Float) (starts items : List ℕ) (forces : List Float) → Motion
+motionOf setting dt s potential tab species charges bonds lengths ks angles perAngle masses exclusions positions velocities pairs references starts items forces =
+    motion dt (jobOf setting s tab species charges bonds lengths ks angles perAngle positions exclusions pairs references starts items forces) masses potential velocities
 
 abbrev pub unitsOf : Motion → Units
 unitsOf m = m .job .terms .units

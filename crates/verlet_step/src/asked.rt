@@ -4,6 +4,7 @@ use answer::Done;
 use evaluate::Setting;
 use neighbor::State;
 ghost use mathlib.Core.Path.{_≡_};
+ghost use Rattle.potentials_pair.specs.Species.{tables};
 ghost use Rattle.verlet_step.specs.Asked.{motionFits, motionOk};
 ghost use Rattle.verlet_step.specs.Calls.{motionOf, motionAsked};
 
@@ -40,6 +41,8 @@ pub(crate) fn asked(
     pace: Pace,
     s: State,
     potential: f64,
+    own_ids: &[u32],
+    own_params: &[f64],
     ids: &[u32],
     params: &[f64],
     species: &[u32],
@@ -59,7 +62,7 @@ pub(crate) fn asked(
     items: &[u32],
     forces: &[f64],
 ) -> Done
-    ensures { λ r. ⌜ r ≡ motionAsked limit (pace .thermostat) (motionOf setting (pace .dt) s potential (now (ids .entry)) (now (params .entry)) (now (species .entry)) (now (charges .entry)) (now (bonds .entry)) (now (lengths .entry)) (now (ks .entry)) (now (angles .entry)) (now («per_angle» .entry)) (now (masses .entry)) (now (exclusions .entry)) (now (positions .entry)) (now (velocities .entry)) (now (pairs .entry)) (now (references .entry)) (now (starts .entry)) (now (items .entry)) (now (forces .entry))) ⌝ }
+    ensures { λ r. ⌜ r ≡ motionAsked limit (pace .thermostat) (motionOf setting (pace .dt) s potential (tables (now («own_ids» .entry)) (now («own_params» .entry)) (now (ids .entry)) (now (params .entry))) (now (species .entry)) (now (charges .entry)) (now (bonds .entry)) (now (lengths .entry)) (now (ks .entry)) (now (angles .entry)) (now («per_angle» .entry)) (now (masses .entry)) (now (exclusions .entry)) (now (positions .entry)) (now (velocities .entry)) (now (pairs .entry)) (now (references .entry)) (now (starts .entry)) (now (items .entry)) (now (forces .entry))) ⌝ }
 {
     let fits = motion_fits(positions.len(), velocities.len(), masses.len());
     let inside = motion_ok(limit, pace, masses, velocities, forces, potential);
@@ -68,6 +71,8 @@ pub(crate) fn asked(
         inside,
         setting,
         s,
+        own_ids,
+        own_params,
         ids,
         params,
         species,

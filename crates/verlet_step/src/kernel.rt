@@ -9,6 +9,7 @@ use neighbor::State;
 use verlet::moves;
 use virial::Units;
 ghost use mathlib.Core.Path.{_≡_};
+ghost use Rattle.potentials_pair.specs.Species.{tables};
 ghost use Rattle.verlet_step.specs.Calls.{motionOf};
 ghost use Rattle.verlet_step.specs.Steps.{LandSays, AdvanceSays, kicked, kickedAfter, steppedFrom};
 
@@ -54,6 +55,8 @@ pub fn land(
     dt: f64,
     s: State,
     potential: f64,
+    own_ids: &[u32],
+    own_params: &[f64],
     ids: &[u32],
     params: &[f64],
     species: &[u32],
@@ -73,12 +76,14 @@ pub fn land(
     items: &mut [u32],
     forces: &mut [f64],
 ) -> Stepped
-    ensures { λ r. ⌜ LandSays (motionOf setting dt s potential (now (ids .entry)) (now (params .entry)) (now (species .entry)) (now (charges .entry)) (now (bonds .entry)) (now (lengths .entry)) (now (ks .entry)) (now (angles .entry)) (now («per_angle» .entry)) (now (masses .entry)) (now (exclusions .entry)) (now (positions .entry)) (now (velocities .entry)) (now (pairs .entry)) (now (references .entry)) (now (starts .entry)) (now (items .entry)) (now (forces .entry))) r (now (velocities .exit)) (now (pairs .exit)) (now (references .exit)) (now (starts .exit)) (now (items .exit)) (now (forces .exit)) ⌝ }
+    ensures { λ r. ⌜ LandSays (motionOf setting dt s potential (tables (now («own_ids» .entry)) (now («own_params» .entry)) (now (ids .entry)) (now (params .entry))) (now (species .entry)) (now (charges .entry)) (now (bonds .entry)) (now (lengths .entry)) (now (ks .entry)) (now (angles .entry)) (now («per_angle» .entry)) (now (masses .entry)) (now (exclusions .entry)) (now (positions .entry)) (now (velocities .entry)) (now (pairs .entry)) (now (references .entry)) (now (starts .entry)) (now (items .entry)) (now (forces .entry))) r (now (velocities .exit)) (now (pairs .exit)) (now (references .exit)) (now (starts .exit)) (now (items .exit)) (now (forces .exit)) ⌝ }
 {
     let units = setting.units;
     let e = evaluate::kernel::settle(
         setting,
         s,
+        own_ids,
+        own_params,
         ids,
         params,
         species,
@@ -105,6 +110,8 @@ pub fn advance(
     dt: f64,
     s: State,
     potential: f64,
+    own_ids: &[u32],
+    own_params: &[f64],
     ids: &[u32],
     params: &[f64],
     species: &[u32],
@@ -124,7 +131,7 @@ pub fn advance(
     items: &mut [u32],
     forces: &mut [f64],
 ) -> Stepped
-    ensures { λ r. ⌜ AdvanceSays (motionOf setting dt s potential (now (ids .entry)) (now (params .entry)) (now (species .entry)) (now (charges .entry)) (now (bonds .entry)) (now (lengths .entry)) (now (ks .entry)) (now (angles .entry)) (now («per_angle» .entry)) (now (masses .entry)) (now (exclusions .entry)) (now (positions .entry)) (now (velocities .entry)) (now (pairs .entry)) (now (references .entry)) (now (starts .entry)) (now (items .entry)) (now (forces .entry))) r (now (positions .exit)) (now (velocities .exit)) (now (pairs .exit)) (now (references .exit)) (now (starts .exit)) (now (items .exit)) (now (forces .exit)) ⌝ }
+    ensures { λ r. ⌜ AdvanceSays (motionOf setting dt s potential (tables (now («own_ids» .entry)) (now («own_params» .entry)) (now (ids .entry)) (now (params .entry))) (now (species .entry)) (now (charges .entry)) (now (bonds .entry)) (now (lengths .entry)) (now (ks .entry)) (now (angles .entry)) (now («per_angle» .entry)) (now (masses .entry)) (now (exclusions .entry)) (now (positions .entry)) (now (velocities .entry)) (now (pairs .entry)) (now (references .entry)) (now (starts .entry)) (now (items .entry)) (now (forces .entry))) r (now (positions .exit)) (now (velocities .exit)) (now (pairs .exit)) (now (references .exit)) (now (starts .exit)) (now (items .exit)) (now (forces .exit)) ⌝ }
 {
     let units = setting.units;
     if !moves::drifts(units, dt, forces, masses, positions, velocities) {
@@ -136,6 +143,8 @@ pub fn advance(
         dt,
         s,
         potential,
+        own_ids,
+        own_params,
         ids,
         params,
         species,

@@ -9,6 +9,7 @@ mod asked;
 mod ends;
 pub mod kernel;
 
+ghost use Rattle.potentials_pair.specs.Species.{tables};
 ghost use Rattle.verlet_step.specs.Calls.{motionOf, StepSays, FinishSays, StepLists};
 
 // How a step goes on in time.
@@ -33,6 +34,8 @@ pub fn step(
     pace: Pace,
     s: State,
     potential: f64,
+    own_ids: &[u32],
+    own_params: &[f64],
     ids: &[u32],
     params: &[f64],
     species: &[u32],
@@ -52,8 +55,8 @@ pub fn step(
     items: &mut [u32],
     forces: &mut [f64],
 ) -> Stepped
-    ensures says { λ r. ⌜ StepSays (pace .thermostat) (motionOf setting (pace .dt) s potential (now (ids .entry)) (now (params .entry)) (now (species .entry)) (now (charges .entry)) (now (bonds .entry)) (now (lengths .entry)) (now (ks .entry)) (now (angles .entry)) (now («per_angle» .entry)) (now (masses .entry)) (now (exclusions .entry)) (now (positions .entry)) (now (velocities .entry)) (now (pairs .entry)) (now (references .entry)) (now (starts .entry)) (now (items .entry)) (now (forces .entry))) r (now (positions .exit)) (now (velocities .exit)) (now (pairs .exit)) (now (references .exit)) (now (starts .exit)) (now (items .exit)) (now (forces .exit)) ⌝ }
-    ensures lists { λ r. ⌜ StepLists (motionOf setting (pace .dt) s potential (now (ids .entry)) (now (params .entry)) (now (species .entry)) (now (charges .entry)) (now (bonds .entry)) (now (lengths .entry)) (now (ks .entry)) (now (angles .entry)) (now («per_angle» .entry)) (now (masses .entry)) (now (exclusions .entry)) (now (positions .entry)) (now (velocities .entry)) (now (pairs .entry)) (now (references .entry)) (now (starts .entry)) (now (items .entry)) (now (forces .entry))) r (now (positions .exit)) (now (pairs .exit)) ⌝ }
+    ensures says { λ r. ⌜ StepSays (pace .thermostat) (motionOf setting (pace .dt) s potential (tables (now («own_ids» .entry)) (now («own_params» .entry)) (now (ids .entry)) (now (params .entry))) (now (species .entry)) (now (charges .entry)) (now (bonds .entry)) (now (lengths .entry)) (now (ks .entry)) (now (angles .entry)) (now («per_angle» .entry)) (now (masses .entry)) (now (exclusions .entry)) (now (positions .entry)) (now (velocities .entry)) (now (pairs .entry)) (now (references .entry)) (now (starts .entry)) (now (items .entry)) (now (forces .entry))) r (now (positions .exit)) (now (velocities .exit)) (now (pairs .exit)) (now (references .exit)) (now (starts .exit)) (now (items .exit)) (now (forces .exit)) ⌝ }
+    ensures lists { λ r. ⌜ StepLists (motionOf setting (pace .dt) s potential (tables (now («own_ids» .entry)) (now («own_params» .entry)) (now (ids .entry)) (now (params .entry))) (now (species .entry)) (now (charges .entry)) (now (bonds .entry)) (now (lengths .entry)) (now (ks .entry)) (now (angles .entry)) (now («per_angle» .entry)) (now (masses .entry)) (now (exclusions .entry)) (now (positions .entry)) (now (velocities .entry)) (now (pairs .entry)) (now (references .entry)) (now (starts .entry)) (now (items .entry)) (now (forces .entry))) r (now (positions .exit)) (now (pairs .exit)) ⌝ }
 {
     let a = asked::asked(
         cell::ranged::ENTRY,
@@ -61,6 +64,8 @@ pub fn step(
         pace,
         s,
         potential,
+        own_ids,
+        own_params,
         ids,
         params,
         species,
@@ -88,6 +93,8 @@ pub fn step(
         pace.dt,
         s,
         potential,
+        own_ids,
+        own_params,
         ids,
         params,
         species,
@@ -118,6 +125,8 @@ pub fn finish(
     pace: Pace,
     s: State,
     potential: f64,
+    own_ids: &[u32],
+    own_params: &[f64],
     ids: &[u32],
     params: &[f64],
     species: &[u32],
@@ -137,8 +146,8 @@ pub fn finish(
     items: &mut [u32],
     forces: &mut [f64],
 ) -> Stepped
-    ensures says { λ r. ⌜ FinishSays (pace .thermostat) (motionOf setting (pace .dt) s potential (now (ids .entry)) (now (params .entry)) (now (species .entry)) (now (charges .entry)) (now (bonds .entry)) (now (lengths .entry)) (now (ks .entry)) (now (angles .entry)) (now («per_angle» .entry)) (now (masses .entry)) (now (exclusions .entry)) (now (positions .entry)) (now (velocities .entry)) (now (pairs .entry)) (now (references .entry)) (now (starts .entry)) (now (items .entry)) (now (forces .entry))) r (now (velocities .exit)) (now (pairs .exit)) (now (references .exit)) (now (starts .exit)) (now (items .exit)) (now (forces .exit)) ⌝ }
-    ensures lists { λ r. ⌜ StepLists (motionOf setting (pace .dt) s potential (now (ids .entry)) (now (params .entry)) (now (species .entry)) (now (charges .entry)) (now (bonds .entry)) (now (lengths .entry)) (now (ks .entry)) (now (angles .entry)) (now («per_angle» .entry)) (now (masses .entry)) (now (exclusions .entry)) (now (positions .entry)) (now (velocities .entry)) (now (pairs .entry)) (now (references .entry)) (now (starts .entry)) (now (items .entry)) (now (forces .entry))) r (now (positions .entry)) (now (pairs .exit)) ⌝ }
+    ensures says { λ r. ⌜ FinishSays (pace .thermostat) (motionOf setting (pace .dt) s potential (tables (now («own_ids» .entry)) (now («own_params» .entry)) (now (ids .entry)) (now (params .entry))) (now (species .entry)) (now (charges .entry)) (now (bonds .entry)) (now (lengths .entry)) (now (ks .entry)) (now (angles .entry)) (now («per_angle» .entry)) (now (masses .entry)) (now (exclusions .entry)) (now (positions .entry)) (now (velocities .entry)) (now (pairs .entry)) (now (references .entry)) (now (starts .entry)) (now (items .entry)) (now (forces .entry))) r (now (velocities .exit)) (now (pairs .exit)) (now (references .exit)) (now (starts .exit)) (now (items .exit)) (now (forces .exit)) ⌝ }
+    ensures lists { λ r. ⌜ StepLists (motionOf setting (pace .dt) s potential (tables (now («own_ids» .entry)) (now («own_params» .entry)) (now (ids .entry)) (now (params .entry))) (now (species .entry)) (now (charges .entry)) (now (bonds .entry)) (now (lengths .entry)) (now (ks .entry)) (now (angles .entry)) (now («per_angle» .entry)) (now (masses .entry)) (now (exclusions .entry)) (now (positions .entry)) (now (velocities .entry)) (now (pairs .entry)) (now (references .entry)) (now (starts .entry)) (now (items .entry)) (now (forces .entry))) r (now (positions .entry)) (now (pairs .exit)) ⌝ }
 {
     let a = asked::asked(
         cell::ranged::OTHER,
@@ -146,6 +155,8 @@ pub fn finish(
         pace,
         s,
         potential,
+        own_ids,
+        own_params,
         ids,
         params,
         species,
@@ -173,6 +184,8 @@ pub fn finish(
         pace.dt, // as the stopped step had it
         s,
         potential,
+        own_ids,
+        own_params,
         ids,
         params,
         species,

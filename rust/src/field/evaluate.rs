@@ -41,6 +41,8 @@ pub struct Evaluator {
 struct Tables {
     /// With no cell: the evaluator's own stands in it while a call runs.
     setting: Setting,
+    own_ids: Vec<u32>,
+    own_params: Vec<f64>,
     ids: Vec<u32>,
     params: Vec<f64>,
     species: Vec<u32>,
@@ -83,7 +85,7 @@ impl Evaluator {
             let (exclusions, room) = self.list.lent();
             let t = &self.tables;
             #[rustfmt::skip]
-            let r = raw::tyn_evaluate(setting, s, &t.ids, &t.params, &t.species, &t.charges, &t.bonds, &t.lengths, &t.ks, &t.angles, &t.per_angle, positions.as_flattened(),
+            let r = raw::tyn_evaluate(setting, s, &t.own_ids, &t.own_params, &t.ids, &t.params, &t.species, &t.charges, &t.bonds, &t.lengths, &t.ks, &t.angles, &t.per_angle, positions.as_flattened(),
                 exclusions, &mut room.pairs, &mut room.references, &mut room.starts, &mut room.items, forces.as_flattened_mut());
             if !self.list.took(r.done, r.state) {
                 return Contribution::of("tyn_evaluate", raw::Summed { done: r.done, sum: r.sum }, forces);
@@ -98,7 +100,7 @@ impl Evaluator {
         let (exclusions, room) = self.list.lent();
         let t = &self.tables;
         #[rustfmt::skip]
-        let r = raw::tyn_step(setting, m.pace(), s, *m.potential, &t.ids, &t.params, &t.species, &t.charges, &t.bonds, &t.lengths, &t.ks, &t.angles, &t.per_angle, m.masses,
+        let r = raw::tyn_step(setting, m.pace(), s, *m.potential, &t.own_ids, &t.own_params, &t.ids, &t.params, &t.species, &t.charges, &t.bonds, &t.lengths, &t.ks, &t.angles, &t.per_angle, m.masses,
             exclusions, m.positions.as_flattened_mut(), m.velocities.as_flattened_mut(), &mut room.pairs, &mut room.references, &mut room.starts,
             &mut room.items, m.forces.as_flattened_mut());
         if self.list.took(r.done, r.state) {
@@ -116,7 +118,7 @@ impl Evaluator {
             let (exclusions, room) = self.list.lent();
             let t = &self.tables;
             #[rustfmt::skip]
-            let r = raw::tyn_finish(setting, m.pace(), s, *m.potential, &t.ids, &t.params, &t.species, &t.charges, &t.bonds, &t.lengths, &t.ks, &t.angles, &t.per_angle, m.masses,
+            let r = raw::tyn_finish(setting, m.pace(), s, *m.potential, &t.own_ids, &t.own_params, &t.ids, &t.params, &t.species, &t.charges, &t.bonds, &t.lengths, &t.ks, &t.angles, &t.per_angle, m.masses,
                 exclusions, m.positions.as_flattened(), m.velocities.as_flattened_mut(), &mut room.pairs, &mut room.references, &mut room.starts,
                 &mut room.items, m.forces.as_flattened_mut());
             if !self.list.took(r.done, r.state) {
@@ -136,7 +138,7 @@ impl Evaluator {
             let (exclusions, room) = self.list.lent();
             let t = &self.tables;
             #[rustfmt::skip]
-            let r = raw::tyn_fire(opts.into(), setting, s, &t.ids, &t.params, &t.species, &t.charges, &t.bonds, &t.lengths, &t.ks, &t.angles, &t.per_angle, masses,
+            let r = raw::tyn_fire(opts.into(), setting, s, &t.own_ids, &t.own_params, &t.ids, &t.params, &t.species, &t.charges, &t.bonds, &t.lengths, &t.ks, &t.angles, &t.per_angle, masses,
                 exclusions, positions.as_flattened_mut(), velocities.as_flattened_mut(), &mut room.pairs, &mut room.references, &mut room.starts,
                 &mut room.items, forces.as_flattened_mut());
             if !self.list.took(r.done, r.state) {
@@ -173,7 +175,7 @@ impl Tables {
         let mut t = Self { setting: Setting { units: units::RAW, ..Setting::default() }, ..Self::default() };
         if let Some((lj, numbers)) = &terms.lennard_jones {
             t.setting.lj = LjTerm { present: 1, lj: lj.numbers() };
-            (t.ids, t.params) = lj.table();
+            [(t.own_ids, t.own_params), (t.ids, t.params)] = lj.tables();
             t.species = numbers.clone();
         }
         if let Some((coulomb, charges)) = &terms.coulomb {

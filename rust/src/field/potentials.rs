@@ -8,6 +8,7 @@ use super::units;
 use super::virial::Contribution;
 use crate::{raw, Error};
 use std::collections::HashMap;
+use std::sync::Arc;
 
 type EnergyAndForces = (f64, Vec<[f64; 3]>);
 
@@ -16,7 +17,9 @@ type EnergyAndForces = (f64, Vec<[f64; 3]>);
 pub struct LennardJones {
     /// Per-species `(epsilon eV, sigma Å)` keyed by species id (e.g. atomic number).
     pub params: HashMap<u32, (f64, f64)>,
-    /// Fallback parameters for species with no entry.
+    /// A house table that several potentials share: the rows of species that `params` lacks. Nothing of it is copied into `params` or changed.
+    pub house: Arc<HashMap<u32, (f64, f64)>>,
+    /// Fallback parameters for species with no entry in either.
     pub default: (f64, f64),
     /// Cutoff radius in Å.
     pub cutoff: f64,
@@ -27,12 +30,25 @@ pub struct LennardJones {
 impl LennardJones {
     /// A single-species LJ fluid, shifted.
     pub fn monatomic(epsilon: f64, sigma: f64, cutoff: f64) -> Self {
-        Self { params: HashMap::new(), default: (epsilon, sigma), cutoff, shift: true }
+        Self { params: HashMap::new(), house: Arc::default(), default: (epsilon, sigma), cutoff, shift: true }
     }
 
     /// Argon: ε = 0.0103 eV, σ = 3.4 Å, cutoff 2.5σ.
     pub fn argon() -> Self {
         Self::monatomic(0.0103, 3.4, 2.5 * 3.4)
+    }
+
+    /// The same potential over a shared house table: a species' row is the one of `params` where there is one, else the house's, else the default.
+    pub fn over(self, house: &Arc<HashMap<u32, (f64, f64)>>) -> Self {
+        Self { house: Arc::clone(house), ..self }
+    }
+
+    /// The row of a species: that of `params`, else the house's, else the default.
+    pub fn row(&self, species: u32) -> Result<(f64, f64), Error> {
+        let [(own_ids, own_params), (ids, params)] = self.tables();
+        let r = raw::tyn_species_row(&own_ids, &own_params, &ids, &params, species);
+        r.done.of("tyn_species_row")?;
+        Ok(if r.table == 0 { self.default } else { (r.epsilon, r.sigma) })
     }
 
     /// Energy, forces, and virial over a precomputed neighbor list: `list.pairs()` or `&list`. One species number an atom.
@@ -43,10 +59,10 @@ impl LennardJones {
         pairs: &P,
         cell: Option<&Lattice>,
     ) -> Result<Contribution, Error> {
-        let (ids, params) = self.table();
+        let [(own_ids, own_params), (ids, params)] = self.tables();
         let mut forces = vec![[0.0; 3]; positions.len()];
         let at = positions.as_flattened();
-        let r = raw::tyn_lj_pairs(self.numbers(), cell.into(), &ids, &params, numbers, at, &pairs.rows(), forces.as_flattened_mut());
+        let r = raw::tyn_lj_pairs(self.numbers(), cell.into(), &own_ids, &own_params, &ids, &params, numbers, at, &pairs.rows(), forces.as_flattened_mut());
         Contribution::of("tyn_lj_pairs", r, forces)
     }
 
@@ -58,9 +74,10 @@ impl LennardJones {
 
     /// All-pairs form returning the full contribution including the virial.
     pub fn compute_all(&self, numbers: &[u32], positions: &[[f64; 3]], cell: Option<&Lattice>) -> Result<Contribution, Error> {
-        let (ids, params) = self.table();
+        let [(own_ids, own_params), (ids, params)] = self.tables();
         let mut forces = vec![[0.0; 3]; positions.len()];
-        let r = raw::tyn_lj_all(self.numbers(), cell.into(), &ids, &params, numbers, positions.as_flattened(), forces.as_flattened_mut());
+        let at = positions.as_flattened();
+        let r = raw::tyn_lj_all(self.numbers(), cell.into(), &own_ids, &own_params, &ids, &params, numbers, at, forces.as_flattened_mut());
         Contribution::of("tyn_lj_all", r, forces)
     }
 
@@ -68,12 +85,14 @@ impl LennardJones {
         raw::Lj { epsilon: self.default.0, sigma: self.default.1, cutoff: self.cutoff, shift: self.shift.into() }
     }
 
-    /// The species ascending, and epsilon and sigma of each.
-    pub(super) fn table(&self) -> (Vec<u32>, Vec<f64>) {
-        let mut ids: Vec<u32> = self.params.keys().copied().collect();
-        ids.sort_unstable();
-        let params = ids.iter().flat_map(|id| <[f64; 2]>::from(self.params[id])).collect();
-        (ids, params)
+    /// Both tables, the own one first: the species ascending, and epsilon and sigma of each.
+    pub(super) fn tables(&self) -> [(Vec<u32>, Vec<f64>); 2] {
+        [&self.params, &*self.house].map(|rows| {
+            let mut ids: Vec<u32> = rows.keys().copied().collect();
+            ids.sort_unstable();
+            let params = ids.iter().flat_map(|id| <[f64; 2]>::from(rows[id])).collect();
+            (ids, params)
+        })
     }
 }
 

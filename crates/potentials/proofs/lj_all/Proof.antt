@@ -10,7 +10,7 @@ returns : tie.Need-returns
 returns c = call-refused (c .before .before .before .lj-asked .ensures) _ _ (c .before .a .given .1)
 
 returns-2 : tie.Need-returns-2
-returns-2 c = call-answered (c .before .before .before .before .before .before .lj-asked .ensures) _ _ (c .before .before .before .before .enum-told .given .1) (lj-looked _ _ _ _ _ _ _ _ _ (c .before .before .before .before .before .before .lj-asked .ensures) (c .before .before .before .before .enum-told .given .1) (c .before .before .before .before .before .before .before .before .before .before .before .before .args .species .now) (length (c .before .before .before .before .before .before .before .before .before .before .before .before .args .forces .now)) (allPairs (length (c .before .before .before .before .before .before .before .before .before .before .before .before .args .positions .now) / 3)) (c .before .before .lj-all .ensures))
+returns-2 c = call-answered (c .before .before .before .before .before .before .lj-asked .ensures) _ _ (c .before .before .before .before .enum-told .given .1) (lj-looked _ _ _ _ _ _ _ _ (c .before .before .before .before .before .before .lj-asked .ensures) (c .before .before .before .before .enum-told .given .1) (c .before .before .before .before .before .before .before .before .before .before .before .before .before .before .args .species .now) (length (c .before .before .before .before .before .before .before .before .before .before .before .before .before .before .args .forces .now)) (allPairs (length (c .before .before .before .before .before .before .before .before .before .before .before .before .before .before .args .positions .now) / 3)) (c .before .before .lj-all .ensures))
 
 pub lj-all-spec : {M : Type 1} → statement M
 lj-all-spec =

@@ -9,7 +9,7 @@ returns : tie.Need-returns
 returns c = call-refused (rw (c .before .before .before .before .first-absent .ensures) at (c .before .before .before .lj-asked .ensures)) _ _ (c .before .a .given .1)
 
 returns-2 : tie.Need-returns-2
-returns-2 c = call-answered (rw (c .before .before .before .before .before .before .before .first-absent .ensures) at (c .before .before .before .before .before .before .lj-asked .ensures)) _ _ (c .before .before .before .before .enum-told .given .1) (lj-looked _ _ _ _ _ _ _ _ _ (c .before .before .before .before .before .before .lj-asked .ensures) (c .before .before .before .before .enum-told .given .1) (c .before .before .before .before .before .before .before .before .before .before .before .before .before .before .args .species .now) (length (c .before .before .before .before .before .before .before .before .before .before .before .before .before .before .args .forces .now)) (rows (c .before .before .before .before .before .before .before .before .before .before .before .before .before .before .args .pairs .now)) (c .before .before .lj-pairs .ensures))
+returns-2 c = call-answered (rw (c .before .before .before .before .before .before .before .first-absent .ensures) at (c .before .before .before .before .before .before .lj-asked .ensures)) _ _ (c .before .before .before .before .enum-told .given .1) (lj-looked _ _ _ _ _ _ _ _ (c .before .before .before .before .before .before .lj-asked .ensures) (c .before .before .before .before .enum-told .given .1) (c .before .before .before .before .before .before .before .before .before .before .before .before .before .before .before .before .args .species .now) (length (c .before .before .before .before .before .before .before .before .before .before .before .before .before .before .before .before .args .forces .now)) (rows (c .before .before .before .before .before .before .before .before .before .before .before .before .before .before .before .before .args .pairs .now)) (c .before .before .lj-pairs .ensures))
 
 pub lj-pairs-spec : {M : Type 1} → statement M
 lj-pairs-spec =

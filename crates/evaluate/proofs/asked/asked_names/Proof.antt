@@ -4,7 +4,7 @@ use Rattle.evaluate.proofs.asked.asked_names.Statement.{statement}
 use Rattle.evaluate.proofs.asked.asked_names.Tie as tie
 
 returns : tie.Need-returns
-returns c = unfold namesAsked in rw (← c .before .before .before .before .before .before .asked-bonds .ensures, ← c .before .before .before .before .before .asked-angles .ensures, ← c .before .before .before .before .asked-table .ensures, ← c .before .before .before .asked-ids .ensures, ← c .before .before .and-then .ensures, ← c .before .and-then2 .ensures) (c .and-then3 .ensures)
+returns c = unfold namesAsked in rw (← c .before .before .before .before .before .before .asked-bonds .ensures, ← c .before .before .before .before .before .asked-angles .ensures, ← c .before .before .before .before .asked-table .ensures, ← c .before .before .before .asked-order .ensures, ← c .before .before .and-then .ensures, ← c .before .and-then2 .ensures) (c .and-then3 .ensures)
 
 pub asked-names-spec : {M : Type 1} → statement M
 asked-names-spec =

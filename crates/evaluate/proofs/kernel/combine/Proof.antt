@@ -10,7 +10,7 @@ slice-aggregate-all : tie.Need-slice-aggregate-all
 slice-aggregate-all c = part-long _ _ (omega (arith, c .before .before .shorter .ensures, c .before .scratch .ensures))
 
 returns : tie.Need-returns
-returns c = rw (part-of (length (c .before .before .before .before .before .before .before .before .before .before .before .before .before .before .before .before .before .before .before .before .args .forces .now)) (c .before .before .before .before .before .before .scratch .result) (c .before .before .before .before .before .before .before .shorter .ensures) (c .before .before .before .before .before .before .scratch .ensures)) at (c .before .before .before .all .ensures)
+returns c = rw (part-of (length (c .before .before .before .before .before .before .before .before .before .before .before .before .before .before .before .before .before .before .before .before .before .before .args .forces .now)) (c .before .before .before .before .before .before .scratch .result) (c .before .before .before .before .before .before .before .shorter .ensures) (c .before .before .before .before .before .before .scratch .ensures)) at (c .before .before .before .all .ensures)
 
 pub combine-spec : {M : Type 1} → statement M
 combine-spec =

@@ -8,19 +8,19 @@ use Rattle.evaluate.proofs.asked.asked.Reads as asked-reads
 use Rattle.fire.proofs.asked.motion_fits.Reads as motion-fits-reads
 use Rattle.fire.proofs.asked.settling_ok.Reads as settling-ok-reads
 
--- src/asked.rt:60:9
+-- src/asked.rt:63:9
 motion-fits-requires : tie.Need-motion-fits-requires
 motion-fits-requires c κs = search needs
 
--- src/asked.rt:61:9
+-- src/asked.rt:64:9
 settling-ok-requires : tie.Need-settling-ok-requires
 settling-ok-requires c κs = search needs
 
--- src/asked.rt:62:5
+-- src/asked.rt:65:5
 asked-requires : tie.Need-asked-requires
 asked-requires c κs = search needs
 
--- src/asked.rt:35:1
+-- src/asked.rt:36:1
 returns : tie.Need-returns
 returns c = unfold settlingAsked in rw (← c .before .before .motion-fits .ensures, ← c .before .settling-ok .ensures) (c .asked .ensures)
 

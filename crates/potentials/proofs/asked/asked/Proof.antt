@@ -16,10 +16,7 @@ returns-4 : tie.Need-returns-4
 returns-4 c = unfold askedBy in rw (not-false (c .before .before .before .before .args .fits) (c .before .before .before .if1 .left), le-leb _ _ (c .before .before .if2 .left), not-false (c .before .before .before .before .args .in-range) (c .before .if3 .left), lt-ltb _ _ (c .if4 .taken))
 
 returns-5 : tie.Need-returns-5
-returns-5 c = unfold askedBy in rw (not-false (c .before .before .before .before .before .args .fits) (c .before .before .before .before .if1 .left), le-leb _ _ (c .before .before .before .if2 .left), not-false (c .before .before .before .before .before .args .in-range) (c .before .before .if3 .left), le-ltb _ _ (c .before .if4 .left), not-true (c .before .before .before .before .before .args .ordered) (c .if5 .taken))
-
-returns-6 : tie.Need-returns-6
-returns-6 c = unfold askedBy in rw (not-false (c .before .before .before .before .before .args .fits) (c .before .before .before .before .if1 .left), le-leb _ _ (c .before .before .before .if2 .left), not-false (c .before .before .before .before .before .args .in-range) (c .before .before .if3 .left), le-ltb _ _ (c .before .if4 .left), not-false (c .before .before .before .before .before .args .ordered) (c .if5 .left))
+returns-5 c = unfold askedBy in rw (not-false (c .before .before .before .before .args .fits) (c .before .before .before .if1 .left), le-leb _ _ (c .before .before .if2 .left), not-false (c .before .before .before .before .args .in-range) (c .before .if3 .left), le-ltb _ _ (c .if4 .left))
 
 pub asked-spec : {M : Type 1} → statement M
-asked-spec = tie.close (tie.spec returns returns-2 returns-3 returns-4 returns-5 returns-6)
+asked-spec = tie.close (tie.spec returns returns-2 returns-3 returns-4 returns-5)

@@ -4,7 +4,7 @@ use Rattle.potentials.proofs.kept.recall.Statement.{statement}
 use Rattle.potentials.proofs.kept.recall.Tie as tie
 
 returns : tie.Need-returns
-returns c = (hit _ _ _ _ _ _ _ (c .before .before .before .before .before .before .before .before .before .before .before .before .before .pre) _ _ _ _ (c .before .before .before .before .before .before .slot-of .ensures) (c .before .before .before .before .key-of .ensures) (search needs) (c .before .before .before .if1 .taken), c .before .before .before .before .before .before .before .before .before .before .before .before .before .pre)
+returns c = (hit _ _ _ _ _ _ (c .before .before .before .before .before .before .before .before .before .before .before .before .before .before .before .pre) _ _ _ _ (c .before .before .before .before .before .before .slot-of .ensures) (c .before .before .before .before .key-of .ensures) (search needs) (c .before .before .before .if1 .taken), c .before .before .before .before .before .before .before .before .before .before .before .before .before .before .before .pre)
 
 pub recall-spec : {M : Type 1} → statement M
 recall-spec =

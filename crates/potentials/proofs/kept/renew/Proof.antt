@@ -4,7 +4,7 @@ use Rattle.potentials.proofs.kept.renew.Statement.{statement}
 use Rattle.potentials.proofs.kept.renew.Tie as tie
 
 returns : tie.Need-returns
-returns c = (c .before .numbers-for .ensures, renewed _ _ _ _ _ _ _ (c .before .before .before .before .before .before .before .before .pre .1) _ _ _ _ (c .before .before .before .before .before .before .before .before .pre .0) (c .key-of .ensures) (search needs) _ (c .before .numbers-for .ensures))
+returns c = (c .before .numbers-for .ensures, renewed _ _ _ _ _ _ (c .before .before .before .before .before .before .before .before .before .before .pre .1) _ _ _ _ (c .before .before .before .before .before .before .before .before .before .before .pre .0) (c .key-of .ensures) (search needs) _ (c .before .numbers-for .ensures))
 
 pub renew-spec : {M : Type 1} → statement M
 renew-spec =

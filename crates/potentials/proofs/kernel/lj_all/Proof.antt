@@ -7,7 +7,7 @@ use Rattle.potentials.proofs.kernel.lj_all.Statement.{statement}
 use Rattle.potentials.proofs.kernel.lj_all.Tie as tie
 
 returns : tie.Need-returns
-returns c = lj-from-zero (c .before .before .before .before .before .before .before .before .before .before .before .before .before .before .before .args .cell) (length (c .before .before .before .before .before .before .before .before .before .before .before .before .before .before .before .args .forces .now)) (c .before .before .before .before .before .prepare .ensures) (c .before .before .before .before .zero .ensures) (c .before .before .before .before .before .before .before .before .clear .ensures) (c .before .before .before .before .before .before .before .before .before .before .before .before .before .before .before .args .lj) (c .before .before .before .before .before .before .before .before .before .before .before .before .before .before .before .args .ids .now) (c .before .before .before .before .before .before .before .before .before .before .before .before .before .before .before .args .params .now) (c .before .before .before .before .before .before .before .before .before .before .before .before .before .before .before .args .species .now) (c .before .before .before .before .before .before .before .before .before .before .before .before .before .before .before .args .positions .now) (allPairs (length (c .before .before .before .before .before .before .before .before .before .before .before .before .before .before .before .args .positions .now) / 3)) (c .before .before .all .ensures)
+returns c = lj-from-zero (c .before .before .before .before .before .before .before .before .before .before .before .before .before .before .before .before .before .args .cell) (length (c .before .before .before .before .before .before .before .before .before .before .before .before .before .before .before .before .before .args .forces .now)) (c .before .before .before .before .before .prepare .ensures) (c .before .before .before .before .zero .ensures) (c .before .before .before .before .before .before .before .before .clear .ensures) (c .before .before .before .before .before .before .before .before .before .before .before .before .before .before .before .before .before .args .lj) _ (c .before .before .before .before .before .before .before .before .before .before .before .before .before .before .before .before .before .args .species .now) (c .before .before .before .before .before .before .before .before .before .before .before .before .before .before .before .before .before .args .positions .now) (allPairs (length (c .before .before .before .before .before .before .before .before .before .before .before .before .before .before .before .before .before .args .positions .now) / 3)) (c .before .before .all .ensures)
 
 pub lj-all-spec : {M : Type 1} → statement M
 lj-all-spec =

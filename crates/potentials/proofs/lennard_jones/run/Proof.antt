@@ -4,7 +4,7 @@ use Rattle.potentials.proofs.lennard_jones.run.Statement.{statement}
 use Rattle.potentials.proofs.lennard_jones.run.Tie as tie
 
 walk-requires : tie.Need-walk-requires
-walk-requires c κs = begun _ _ _ _ (c .before .before .before .before .before .numbers-for .ensures)
+walk-requires c κs = begun _ _ _ (c .before .before .before .before .before .numbers-for .ensures)
 
 pub run-spec : {M : Type 1} → statement M
 run-spec =
