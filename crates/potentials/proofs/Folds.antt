@@ -1,13 +1,13 @@
 -- A loop over pairs under way: what is left gives what all gave from the start. Over the rows of a table, over the numbers below m, over numbers that stand for pairs, over an atom's later partners, over all pairs. Assumes nothing.
-use mathlib.Core.Path.{_≡_, refl, sym, ap, ap₂, _∙_}
+use mathlib.Core.Path.{_≡_, refl, sym, ap, _∙_}
 use mathlib.Core.List.{List, _∷_, foldl, foldl-append}
-use Prim.Native.Nat.{ℕ, _+_, _-_, _*_, _/_, _<_, _≤_}
+use Prim.Native.Nat.{ℕ, _+_, _-_, _/_, _<_, _≤_}
 use native.Mathlib.Nat.{zero-add, sub-zero}
 use native.Mathlib.Omega.{arith}
 use lib.ListN.{length, getD, drop}
 use Rattle.lists.specs.Lists.{numbers, upTo, withEach, inside, allPairs, rows}
 use Rattle.lists.proofs.Exactness.{numbers-at, length-upTo, ordered-rising}
-use Rattle.lists.proofs.Rows.{rows-at, length-rows}
+use Rattle.lists.proofs.Rows.{length-rows}
 use Rattle.lists.proofs.Walks.{fold-next, fold-past, numbers-next, numbers-end, later-next, later-end, pairs-next, pairs-end}
 
 -- at place k of the list l, with t so far, all gives r
@@ -26,10 +26,6 @@ module _ {A B : Type 0} {f : B → A → B} where
 
 -- ---- the rows of a table
 module _ {B : Type 0} {f : B → ℕ × ℕ → B} (table : List ℕ) {k : ℕ} {t r : B} where
-  pub rows-turn : {t′ : B} {i j : ℕ} → k < length table / 2 → Left f (rows table) k t r → i ≡ getD table (2 * k) 0 → j ≡ getD table (2 * k + 1) 0 → t′ ≡ f t (i, j) → Left f (rows table) (k + 1) t′ r
-  rows-turn h l p q e =
-      left-turn (0, 0) (rows table) (omega (arith, length-rows table)) (e ∙ ap (f t) (ap₂ (λ (x y : ℕ). (x, y)) p q ∙ sym (rows-at table k h))) l
-
   pub rows-end : length table / 2 ≤ k → Left f (rows table) k t r → t ≡ r
   rows-end h l = left-end (0, 0) (rows table) (omega (arith, length-rows table)) l
 

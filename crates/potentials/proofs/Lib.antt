@@ -1,8 +1,10 @@
 pub mod Desks
+pub mod Blocks
 pub mod Folds
 pub mod Kernels
 pub mod Only
 pub mod Outcomes
+pub mod Places
 pub mod Source
 pub mod Table
 pub mod Turns

@@ -1,3 +1,4 @@
+pub mod Blocks
 pub mod Calls
 pub mod Desks
 pub mod Ranged

@@ -11,6 +11,7 @@ use virial::Summed;
 use virial::Units;
 
 mod asked;
+mod block;
 mod bonds;
 mod coulomb;
 mod kept;

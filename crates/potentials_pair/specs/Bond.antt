@@ -17,3 +17,10 @@ bondNear k r0 d r =
 -- lines 261 to 269: r < 1e-12 is skipped
 unfoldable pub bondPull : Float → Float → Vec3 → Pull
 bondPull k r0 d = cond (lt (normOf d) tiny) Skip (bondNear k r0 d (normOf d))
+
+-- the two floats of `bondNear`, for the code
+unfoldable pub bondEnergy : Float → Float → Float → Float
+bondEnergy k r0 r = half ⊗ k ⊗ (r ⊖ r0) ⊗ (r ⊖ r0)
+
+unfoldable pub bondSlope : Float → Float → Float → Float
+bondSlope k r0 r = neg k ⊗ (r ⊖ r0) ⊘ r

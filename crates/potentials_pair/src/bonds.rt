@@ -1,26 +1,18 @@
-// A harmonic bond over a difference, a force constant and a length at rest.
+// A harmonic bond over a force constant, a length at rest and its length: the two floats of `bondNear`.
 ghost use mathlib.Core.Path.{_≡_};
-ghost use Rattle.potentials_pair.specs.Bond.{bondNear, bondPull};
-use crate::Pull;
-use cell::Vec3;
+ghost use Rattle.potentials_pair.specs.Bond.{bondEnergy, bondSlope};
 
-fn near(k: f64, r0: f64, d: Vec3, r: f64) -> Pull
-    ensures { λ p. ⌜ p ≡ bondNear k r0 d r ⌝ }
+pub fn energy(k: f64, r0: f64, r: f64) -> f64
+    ensures { λ e. ⌜ e ≡ bondEnergy k r0 r ⌝ }
 {
     let dr = r - r0;
-    Pull::Add {
-        energy: 0.5 * k * dr * dr,
-        d: d,
-        f: cell::vectors::scale(d, -k * dr / r),
-    }
+    0.5 * k * dr * dr
 }
 
-pub fn pull(k: f64, r0: f64, d: Vec3) -> Pull
-    ensures { λ p. ⌜ p ≡ bondPull k r0 d ⌝ }
+// How long the force is beside the difference.
+pub fn slope(k: f64, r0: f64, r: f64) -> f64
+    ensures { λ g. ⌜ g ≡ bondSlope k r0 r ⌝ }
 {
-    let r = cell::vectors::norm(d);
-    if r < 1e-12 {
-        return Pull::Skip;
-    }
-    near(k, r0, d, r)
+    let dr = r - r0;
+    -k * dr / r
 }
