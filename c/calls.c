@@ -175,6 +175,19 @@ static void whole_numbers(void)
     EXPECT(tyn_squared_distance(frame, (tyn_spot){0, 0, 0}, (tyn_spot){5, 0, 0}).done.number == 0);
     tyn_whole length = tyn_solve((const uint8_t *)sheet, strlen(sheet), out, sizeof out);
     EXPECT(length.done.number == 0 && length.value == strlen(answer) && memcmp(out, answer, strlen(answer)) == 0);
+    /* to the second form and back; a species stays */
+    static uint8_t two[51241], one[43049];
+    static uint32_t places[3072], species[1024], rows[2048];
+    length = tyn_to_two((const uint8_t *)sheet, strlen(sheet), two, sizeof two);
+    EXPECT(length.done.number == 0 && length.value == 41 + 4 * 39 + 11);
+    tyn_formed read = tyn_read_either(two, length.value, places, 3072, species, 1024, rows, 2048);
+    EXPECT(read.done.number == 0 && read.form == 2 && read.job.atoms == 4 && read.job.pz == 1 && read.job.count == 1 && places[11] == 8 && species[3] == 0 && rows[1] == 2);
+    EXPECT(tyn_to_one(two, length.value, one, sizeof one).value == 41 + 4 * 31 + 11 && memcmp(one, "01", 2) == 0);
+    two[41 + 39 + 37] = '7';
+    EXPECT(tyn_to_one(two, length.value, one, sizeof one).done.number == TYN_TYPED && tyn_to_one(two, length.value, one, sizeof one).done.place == 1);
+    EXPECT(tyn_read_either(two, length.value, places, 3072, species, 1024, rows, 2048).done.number == 0 && species[1] == 7);
+    length = tyn_solve_either(two, length.value, out, sizeof out);
+    EXPECT(length.done.number == 0 && length.value == strlen(answer) && memcmp(out, answer, strlen(answer)) == 0);
 }
 
 int main(void)

@@ -49,6 +49,8 @@ enum tyn_refusal {
     TYN_AGAIN = 10,
     /* an atom is absent, or at the place NO_HEADER the header; one case, so that number and place tell the case */
     TYN_ABSENT = 11,
+    /* a species can't go back to the first form; place: the lowest such atom */
+    TYN_TYPED = 12,
     /* a total would pass 2^64 - 1: the list is there, the totals are as they came */
     TYN_FULL = 13
 };
@@ -248,6 +250,13 @@ typedef struct {
     tyn_done done;
     tyn_job job;
 } tyn_sheet;
+
+/* What a job sheet of either form says; form is that of its header, 1 or 2. */
+typedef struct {
+    tyn_done done;
+    tyn_job job;
+    uint32_t form;
+} tyn_formed;
 
 /* A species' row: the table that it is a part of (0 none, 1 a desk's own, 2 the house's), its epsilon and its sigma; zeros where there is none. */
 typedef struct {
@@ -569,7 +578,7 @@ tyn_whole tyn_label(uint32_t count, const uint32_t *pairs, size_t pairs_len, uin
 /* The printed clumps of a job sheet at the front of out (at least 11264 bytes); the value is their length. Refusal 1. */
 tyn_whole tyn_solve_clumps(const uint8_t *input, size_t input_len, uint8_t *out, size_t out_len);
 
-/* ---- Written sheets. */
+/* ---- Written sheets, and sheets of either form. */
 
 /* The written form of a frame, its atoms and its exclusions at the front of out (43049 bytes are always enough); the value is its length. Refusals 1,
  * 2, 3, 5, 8. */
@@ -578,6 +587,22 @@ tyn_whole tyn_write(tyn_frame f, const uint32_t *coordinates, size_t coordinates
 
 /* The written form of a job sheet, or the line of its refusal, at the front of out (at least 43049 bytes); the value is its length. Refusal 1. */
 tyn_whole tyn_rewrite(const uint8_t *input, size_t input_len, uint8_t *out, size_t out_len);
+
+/* A job sheet of either form: as tyn_read, with a species for each atom (at least 1024 lent), 0 on a sheet of the first form. Refusals 1, 9, 10, 8,
+ * 11, 2, 4. */
+tyn_formed tyn_read_either(const uint8_t *input, size_t input_len, uint32_t *coordinates, size_t coordinates_len, uint32_t *species,
+    size_t species_len, uint32_t *exclusions, size_t exclusions_len);
+
+/* A job sheet of the first form in the second, each species 0, at the front of out (51241 bytes are always enough); the value is its length.
+ * Refusals: those of tyn_read, then 3, 8. */
+tyn_whole tyn_to_two(const uint8_t *input, size_t input_len, uint8_t *out, size_t out_len);
+
+/* A job sheet of the second form in the first, at the front of out (43049 bytes are always enough); the value is its length. Refusals: those of
+ * tyn_read, then 12 (the place is the lowest atom whose species is not 0), then 3, 8. */
+tyn_whole tyn_to_one(const uint8_t *input, size_t input_len, uint8_t *out, size_t out_len);
+
+/* As tyn_solve, of a job sheet of either form. Refusal 1. */
+tyn_whole tyn_solve_either(const uint8_t *input, size_t input_len, uint8_t *out, size_t out_len);
 
 /* ---- A desk's own species rows over the house's table. */
 

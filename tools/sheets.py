@@ -1,11 +1,13 @@
 #!/usr/bin/env python3
-"""Job sheets for the programs `pairs_table`, `rewrite_table` and `clumps_table`, and the answers that an independent model of the papers gives.
+"""Job sheets for the programs `pairs_table`, `rewrite_table`, `forms_table` and `clumps_table`, and the answers that an independent model of the papers gives.
 
-    tools/sheets.py            writes stdin and stdout of the three crates
+    tools/sheets.py            writes stdin and stdout of the four crates
     tools/sheets.py FILE       prints the model's answer for one sheet
     tools/sheets.py FILE rewrite   prints the sheet's written form (02, No. 8)
     tools/sheets.py FILE clumps    prints the model's clumps of one sheet (02, No. 13)
+    tools/sheets.py FILE either    prints the answer for a sheet of either form; to_two, to_one: the sheet moved (02, No. 9)
     tools/sheets.py SEED COUNT     writes that many more sheets to table.in and what `clumps_table` is to print to table.out
+    tools/sheets.py SEED COUNT either   the same of sheets of both forms, for `forms_table`
     tools/sheets.py -SIZE      prints a sheet of that many bytes: five atoms, then an atom's exclusion with itself again and again (65,536 is whole lines);
                                crates/pairs_over/stdin is the one of 65,537
 
@@ -21,6 +23,9 @@ STENCIL = [(0, 0, 0), (0, 0, 1), (0, 1, -1), (0, 1, 0), (0, 1, 1), (1, -1, -1), 
 HEADER = re.compile(rb"01([0-9a-f]{4})([0-9a-f]{8})([0-9a-f]{8})([0-9a-f]{8})0([0-7])([0-9a-f]{8})")
 ATOM = re.compile(rb"02([0-9a-f]{4})([0-9a-f]{8})([0-9a-f]{8})([0-9a-f]{8})")
 EXCLUSION = re.compile(rb"03([0-9a-f]{4})([0-9a-f]{4})")
+# 02, No. 9
+HEADER_TWO = re.compile(rb"11([0-9a-f]{4})([0-9a-f]{8})([0-9a-f]{8})([0-9a-f]{8})0([0-7])([0-9a-f]{8})")
+ATOM_TWO = re.compile(rb"12([0-9a-f]{4})([0-9a-f]{8})([0-9a-f]{8})([0-9a-f]{8})([0-9a-f]{8})")
 
 
 class Refused(Exception):
@@ -32,22 +37,32 @@ def numbers(match):
     return [int(g, 16) for g in match.groups()]
 
 
-def read(data):
+def read(data, form=1):
+    """The sheet in form 1, in form 2, or (0) in the form of its first header or atom line; each line of the other form is malformed."""
+    header, places, excluded, _ = read_in(data, form)
+    return header, places, excluded
+
+
+def read_in(data, form):
     if len(data) > 65536:
         raise Refused(1)
-    header, atoms, excluded = None, {}, set()
+    header, atoms, excluded, species = None, {}, set(), {}
     lines = data.split(b"\n")
     rest = lines.pop()
+    if form == 0:
+        form = next((2 if HEADER_TWO.fullmatch(x) or ATOM_TWO.fullmatch(x) else 1 for x in lines if not EXCLUSION.fullmatch(x)), 1)
+    head_form, atom_form = (HEADER_TWO, ATOM_TWO) if form == 2 else (HEADER, ATOM)
     for n, line in enumerate(lines, 1):
-        if m := HEADER.fullmatch(line):
+        if m := head_form.fullmatch(line):
             if header is not None:
                 raise Refused(10, n)
             header = numbers(m)
-        elif (m := ATOM.fullmatch(line)) and numbers(m)[0] < 1024:
-            k, *place = numbers(m)
+        elif (m := atom_form.fullmatch(line)) and numbers(m)[0] < 1024:
+            k, x, y, z, *kind = numbers(m)
             if k in atoms:
                 raise Refused(10, n)
-            atoms[k] = place
+            atoms[k] = [x, y, z]
+            species[k] = kind[0] if kind else 0
         elif m := EXCLUSION.fullmatch(line):
             a, b = sorted(numbers(m))
             if a != b and (a, b) not in excluded and len(excluded) == 1024:
@@ -69,7 +84,7 @@ def read(data):
     for k in range(count):
         if k not in atoms:
             raise Refused(11, k)
-    return header, [atoms[k] for k in range(count)], excluded
+    return header, [atoms[k] for k in range(count)], excluded, [species[k] for k in range(count)]
 
 
 def axis(d, edge, periodic):
@@ -125,9 +140,32 @@ def rewrite(data):
         return r.text
 
 
-def listed(data):
+def to_two(data):
+    """02, No. 9: a sheet of the first form in the second, species 0, as written."""
+    try:
+        (count, ex, ey, ez, mask, radius), places, excluded = read(data)
+        in_range((ex, ey, ez), [mask >> k & 1 == 1 for k in range(3)], radius, places)
+        return b"".join([header(count, (ex, ey, ez), mask, radius, 0x11)] + [atom_two(k, p, 0) for k, p in enumerate(places)] + [exclusion(*p) for p in sorted(excluded)])
+    except Refused as r:
+        return r.text
+
+
+def to_one(data):
+    """02, No. 9: a sheet of the second form in the first, as written; 12 for the lowest atom whose species can't go."""
+    try:
+        (count, ex, ey, ez, mask, radius), places, excluded, species = read_in(data, 2)
+        for k, t in enumerate(species):
+            if t:
+                raise Refused(12, k)
+        in_range((ex, ey, ez), [mask >> k & 1 == 1 for k in range(3)], radius, places)
+        return b"".join([header(count, (ex, ey, ez), mask, radius)] + [atom(k, p) for k, p in enumerate(places)] + [exclusion(*p) for p in sorted(excluded)])
+    except Refused as r:
+        return r.text
+
+
+def listed(data, form=1):
     """Atoms, listed pairs, checks, and whether all pairs were tried."""
-    (count, ex, ey, ez, mask, radius), places, excluded = read(data)
+    (count, ex, ey, ez, mask, radius), places, excluded = read(data, form)
     edges, periodic = (ex, ey, ez), [mask >> k & 1 == 1 for k in range(3)]
     in_range(edges, periodic, radius, places)
     if count < 2:
@@ -141,9 +179,14 @@ def listed(data):
     return count, near, len(pairs), fallback
 
 
-def solve(data):
+def pairs_either(data):
+    """02, No. 9: as `pairs`, of a sheet of either form."""
+    return solve(data, 0)
+
+
+def solve(data, form=1):
     try:
-        count, near, checks, fallback = listed(data)
+        count, near, checks, fallback = listed(data, form)
         return b"81%08x%08x%02x\n" % (len(near), checks, fallback) + b"".join(b"82%04x%04x\n" % p for p in near)
     except Refused as r:
         return r.text
@@ -175,8 +218,12 @@ def clumps(data):
 
 # ---- sheets
 
-def header(count, edges=(10, 10, 10), mask=7, radius=3):
-    return b"01%04x%08x%08x%08x%02x%08x\n" % (count, *edges, mask, radius)
+def header(count, edges=(10, 10, 10), mask=7, radius=3, mark=1):
+    return b"%02x%04x%08x%08x%08x%02x%08x\n" % (mark, count, *edges, mask, radius)
+
+
+def atom_two(k, place, species):
+    return b"12%04x%08x%08x%08x%08x\n" % (k, *place, species)
 
 
 def atom(k, place):
@@ -361,6 +408,100 @@ def forms():
     return out
 
 
+def typed(rng, lines, kinds):
+    """Lines of the first form in the second, with species of `kinds`."""
+    out = []
+    for line in lines:
+        if line[:2] == b"01":
+            out.append(b"11" + line[2:])
+        elif line[:2] == b"02":
+            out.append(b"12" + line[2:-1] + b"%08x\n" % rng.choice(kinds))
+        else:
+            out.append(line)
+    return out
+
+
+def either_sheets():
+    """Sheets of both forms for `forms_table`."""
+    rng = random.Random(9)
+    join = b"".join
+    none, some_kinds = [0], [0, 0, 1, 2, 0xffffffff]
+    out = [join(EXAMPLE), join(typed(rng, EXAMPLE, none)), join(typed(rng, EXAMPLE, some_kinds)), b"", b"\n", b"0", join(typed(rng, EXAMPLE, none))[:-1],
+           join(typed(rng, EXAMPLE, none)).replace(b"\n", b"\r\n"), join(typed(rng, EXAMPLE, none)).replace(b"a", b"A"), join(typed(rng, EXAMPLE, none)) + b"\n"]
+    # each refusal of a sheet of the second form, at its edge, and each two of them: the one that comes first counts
+    one = [atom(0, (0, 0, 0)), atom(1, (1, 1, 1))]
+    two = [atom_two(0, (0, 0, 0), 0), atom_two(1, (1, 1, 1), 0)]
+    seven = [atom_two(0, (0, 0, 0), 0), atom_two(1, (1, 1, 1), 7)]
+    many = [exclusion(k, 5000 + k) for k in range(1024)]
+    head = header(2, mark=0x11)
+    faults = {"malformed": [b"12\n"], "again": [head], "atom again": [two[0]], "full": many + [exclusion(9, 10)], "stray": [atom_two(5, (1, 1, 1), 0)],
+              "typed stray": [atom_two(5, (1, 1, 1), 3)], "other header": [header(2)], "other atom": [atom(1, (0, 0, 0))]}
+    for rest in (two, seven):
+        out += [join([head] + rest), join(rest), join([head] + rest[:1]), join([head] + rest[1:]), join([header(3, mark=0x11)] + rest), join([header(1025, mark=0x11)] + rest),
+                join([header(2, mark=0x11, radius=6)] + rest), join([header(2, (0, 1, 1), mark=0x11)] + rest), join([header(3, mark=0x11, radius=6)] + rest)]
+        for a in faults.values():
+            if len(a) < 9:
+                out += [join([head] + rest + a), join(a + rest), join(a + [head] + rest)]
+        for a in ("malformed", "again", "atom again", "other header", "other atom", "stray", "typed stray"):
+            for b in ("malformed", "again", "atom again", "other header", "other atom"):
+                if a != b:
+                    out.append(join([head] + rest + faults[a] + faults[b]))
+    out += [join([head] + seven + faults["full"]), join(faults["full"] + [header(2)]), join(many + [head] + two), join(many + [header(2)] + one)]
+    # the first header or atom says the form; exclusions have none
+    out += [join([exclusion(0, 1), header(2)] + one), join([exclusion(0, 1), head] + two), join([exclusion(0, 1)] + one + [head]), join([exclusion(0, 1)] + two + [header(2)]),
+            join([header(2), head] + one), join([head, header(2)] + two), join([header(2)] + two), join([head] + one), join([exclusion(1, 0)]), join([one[0], two[1], header(2)]),
+            join([two[0], one[1], head]), join([head] + two + [exclusion(0, 0), exclusion(7, 0xffff)])]
+    # widths and species: a digit more, a digit less, the width of the other form
+    for line in (b"120001000000010000000100000001\n", b"1200010000000100000001000000010000000\n", b"120001000000010000000100000001000000000\n", b"02000100000001000000010000000100000000\n",
+                 b"12040000000001000000010000000100000000\n", b"1200010000000100000001000000010000000g\n", b"12000100000001000000010000000100000001\n",
+                 b"110002" + b"0000000a" * 3 + b"070000000301\n", b"010002" + b"0000000a" * 3 + b"070000000301\n"):
+        out += [join([head, two[0]]) + line, join([header(2), one[0]]) + line]
+    for kinds in ((0, 0, 0), (1, 0, 0), (0, 1, 0), (0, 0, 1), (0xffffffff, 5, 0), (0, 0x80000000, 9)):
+        for edges in ((10, 10, 10), (1, 1, 1)):
+            out.append(join(shuffled(rng, [header(3, edges, mark=0x11)] + [atom_two(k, (k, k, k), t) for k, t in enumerate(kinds)])))
+    # sound sheets of both forms, the same in other orders, damaged ones, and the moves of each
+    for count, edges, mask, radius, exclusions in ((0, (1, 1, 1), 0, 0, 0), (1, (10, 10, 10), 7, 5, 1), (12, (30, 31, 32), 2, 15, 20), (16, (9, 9, 9), 7, 3, 6), (25, (100, 20, 20), 1, 8, 9), (30, (64, 64, 64), 0, 16, 20)):
+        lines = some(rng, count, edges, mask, radius, exclusions)
+        for kinds in (none, some_kinds):
+            said = typed(rng, lines, kinds)
+            out += [join(said)] + [join(shuffled(rng, said)) for _ in range(3)] + [damaged(rng, join(said)) for _ in range(3)]
+        out += [join(shuffled(rng, lines)), to_two(join(lines)), to_one(to_two(join(lines))), damaged(rng, join(lines))]
+    # mixed by chance
+    for _ in range(24):
+        lines = some(rng, 3, (10, 10, 10), 7, 3, 2)
+        out.append(join(shuffled(rng, [rng.choice((line, typed(rng, [line], some_kinds)[0])) if rng.random() < 0.2 else typed(rng, [line], none)[0] for line in lines])))
+    # the longest forms, and as long as a sheet may be
+    long = some(rng, 1024, (200, 300, 400), 7, 20) + [exclusion(k % 7, 7 + k) for k in range(1024)]
+    out += [join(shuffled(rng, long)), join(shuffled(rng, typed(rng, long, none))), join(typed(rng, long, none + none + [4]))]
+    short = b"".join([head] + two)
+    out += [short + exclusion(0, 0) * ((65536 - len(short)) // 11), short + exclusion(0, 0) * ((65536 - len(short)) // 11 + 1)]
+    return out
+
+
+def more_either(rng, count):
+    """Sheets of both forms by chance: sound, shuffled, mixed, damaged."""
+    out = []
+    for _ in range(count):
+        n = rng.choice((0, 1, 2, 3, 7, 20))
+        edges = tuple(rng.choice((1, 5, 10, 30, 64)) for _ in range(3))
+        lines = some(rng, n, edges, rng.randrange(8), rng.choice((0, 1, 2, 3, 5)), rng.randrange(6))
+        kinds = rng.choice(([0], [0], [0, 0, 0, 1], [1, 2, 0xffffffff]))
+        two = rng.random() < 0.7
+        mixed = rng.choice((0, 0, 0, 0.05, 0.3))
+        said = [typed(rng, [line], kinds)[0] if two != (rng.random() < mixed) else line for line in lines]
+        if rng.random() < 0.2:
+            said.append(rng.choice(said))
+        if rng.random() < 0.2:
+            said.pop(rng.randrange(len(said)))
+        text = b"".join(shuffled(rng, said))
+        out.append(damaged(rng, text) if text and rng.random() < 0.25 else text)
+    return out
+
+
+def all_forms(data):
+    return pairs_either(data) + to_two(data) + to_one(data)
+
+
 def put(folder, names, sheets, answer):
     with open(os.path.join(folder, names[0]), "wb") as f:
         f.write(b"".join(b"%08x\n" % len(s) + s for s in sheets))
@@ -372,21 +513,26 @@ def main():
     if len(sys.argv) > 1 and sys.argv[1].startswith("-"):
         sys.stdout.buffer.write(sized(int(sys.argv[1][1:])))
         return
+    if len(sys.argv) > 3 and sys.argv[3] == "either":
+        put(".", ("table.in", "table.out"), more_either(random.Random(int(sys.argv[1])), int(sys.argv[2])), all_forms)
+        return
     if len(sys.argv) > 2 and sys.argv[1].isdigit():
         put(".", ("table.in", "table.out"), clump_sheets(random.Random(int(sys.argv[1])), int(sys.argv[2])), clumps)
         return
     if len(sys.argv) > 1:
         with open(sys.argv[1], "rb") as f:
-            sys.stdout.buffer.write({"rewrite": rewrite, "clumps": clumps}.get("".join(sys.argv[2:]), solve)(f.read()))
+            sys.stdout.buffer.write({"rewrite": rewrite, "clumps": clumps, "either": pairs_either, "to_two": to_two, "to_one": to_one}.get("".join(sys.argv[2:]), solve)(f.read()))
         return
     crates = os.path.join(os.path.dirname(os.path.abspath(__file__)), "..", "crates")
     sheets = table()
     put(os.path.join(crates, "pairs_table"), ("stdin", "stdout"), sheets, solve)
     written = forms()
     put(os.path.join(crates, "rewrite_table"), ("stdin", "stdout"), written, rewrite)
+    both = either_sheets()
+    put(os.path.join(crates, "forms_table"), ("stdin", "stdout"), both, all_forms)
     more = sheets + clump_sheets(random.Random(2), 60)
     put(os.path.join(crates, "clumps_table"), ("stdin", "stdout"), more, clumps)
-    print(len(sheets), "sheets for pairs_table,", len(written), "for rewrite_table,", len(more), "for clumps_table")
+    print(len(sheets), "sheets for pairs_table,", len(written), "for rewrite_table,", len(both), "for forms_table,", len(more), "for clumps_table")
 
 
 if __name__ == "__main__":

@@ -12,7 +12,7 @@ pub struct Error {
     /// The refusal's number, 1 to 13.
     pub number: u32,
     /// Its place: for 2 the number of atoms, for 3 a 1 where a drifted coordinate is meant, for 4 the row (of a sheet the atom), for 8 the full count, for
-    /// 9 and 10 a sheet's line, for 11 the atom (ffffffff: the header); else 0.
+    /// 9 and 10 a sheet's line, for 11 the atom (ffffffff: the header), for 12 the atom; else 0.
     pub place: u64,
     /// Whether a step stopped after its drift: [`verlet_finish`](crate::field::verlet::verlet_finish) then takes it to its end.
     pub stopped: bool,
@@ -37,6 +37,7 @@ impl Error {
             (10, _) => "a second header, or an atom number again",
             (11, 0xffff_ffff) => "the sheet has no header",
             (11, _) => "an atom of the sheet is absent",
+            (12, _) => "the sheet can't go back to the first form: an atom has a species",
             (13, _) => "a total would pass 2^64 - 1",
             _ => "the library refused",
         }

@@ -116,12 +116,15 @@ impl Snapshot {
         let mut table = vec![0; 2048];
         let read = raw::tyn_read(sheet, &mut places, &mut table);
         read.done.of("tyn_read")?;
-        let job = read.job;
-        Ok(Self {
+        Ok(Self::told(&read.job, &places, &table))
+    }
+
+    pub(crate) fn told(job: &raw::Job, places: &[u32], table: &[u32]) -> Self {
+        Self {
             frame: Frame { edges: [job.ex, job.ey, job.ez], periodic: [job.px != 0, job.py != 0, job.pz != 0], radius: job.radius },
             atoms: places.chunks_exact(3).take(job.atoms as usize).map(|p| [p[0], p[1], p[2]]).collect(),
             exclusions: table.chunks_exact(2).take(job.count as usize).map(|p| (p[0], p[1])).collect(),
-        })
+        }
     }
 
     /// Leaves a pair out, either way round; an atom with itself is no pair.

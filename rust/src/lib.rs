@@ -14,7 +14,7 @@
 //!   on a bad index. Plain data ([`Lattice::cubic`], [`NeighborList::new`], ..) is made untested and tested where it is used.
 //! - [`verlet_step`] and [`fire`](fire()) take an [`Evaluator`] in place of a closure.
 //! - A pair list can be handed to `compute_pairs` itself (`&list` for `list.pairs()`), which spares a copy.
-//! - [`sheet`] is added: job sheets of a whole-number frame, written and rewritten.
+//! - [`sheet`] is added: job sheets of a whole-number frame, of either form, read, written, rewritten and moved.
 //! - Not carried over: `reciprocal`, the tail terms, angles (but [`CosineAngles`], which the original lacks), torsions, Nosé-Hoover, the barostat.
 //! - The original's `units` are constants of its own; [`field::units`] has CODATA's unless the crate is built with TYNGYRLAK_UNITS.
 //!

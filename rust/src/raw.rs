@@ -53,6 +53,7 @@ structs! {
     Sheet { done: Done, job: Job }
     /// Of table 0 none, 1 a desk's own, 2 the house's.
     Row { done: Done, table: u32, epsilon: f64, sigma: f64 }
+    Formed { done: Done, job: Job, form: u32 }
     Evaluated { done: Done, rebuilt: u32, state: State, sum: Sum }
     Stepped { done: Done, stopped: u32, rebuilt: u32, state: State, potential: f64 }
     Fired { done: Done, iteration: u32, stopped: u32, converged: u32, energy: f64, max_force: f64, state: State }
@@ -141,6 +142,10 @@ calls! {
         items: &mut [u32]) -> Built;
     fn tyn_write(f: Frame, coordinates: &[u32], exclusions: &[u32], out: &mut [u8]) -> Whole;
     fn tyn_rewrite(input: &[u8], out: &mut [u8]) -> Whole;
+    fn tyn_read_either(input: &[u8], coordinates: &mut [u32], species: &mut [u32], exclusions: &mut [u32]) -> Formed;
+    fn tyn_to_two(input: &[u8], out: &mut [u8]) -> Whole;
+    fn tyn_to_one(input: &[u8], out: &mut [u8]) -> Whole;
+    fn tyn_solve_either(input: &[u8], out: &mut [u8]) -> Whole;
 
     fn tyn_kinetic_energy(units: Units, velocities: &[f64], masses: &[f64]) -> Number;
     fn tyn_temperature(units: Units, dof: f64, velocities: &[f64], masses: &[f64]) -> Number;

@@ -1,10 +1,13 @@
-//! Job sheets: the written form of a whole-number frame, and of a sheet that was typed by hand (docs/SHEET.md has the lines).
+//! Job sheets: the written form of a whole-number frame, and of a sheet that was typed by hand; sheets of the second form, whose atoms have a species
+//! (docs/SHEET.md has the lines).
 use crate::error::Error;
-use crate::frame::Frame;
+use crate::frame::{Frame, Snapshot};
 use crate::raw;
 
 /// The longest written form: a header, 1,024 atoms and 1,024 exclusions.
 const LONGEST: usize = 43_049;
+/// The same in the second form.
+const LONGEST_TWO: usize = 51_241;
 
 /// The sheet of a frame in its one written form: header, atoms by number, exclusions by low, then high number. Refused are more than 1,024 atoms (2), a
 /// number out of range (3), and exclusions that are not low before high and strictly ascending, more than 1,024, or above ffff (5).
@@ -22,6 +25,56 @@ pub fn write(frame: &Frame, atoms: &[[u32; 3]], exclusions: &[(u32, u32)]) -> Re
 pub fn rewrite(sheet: &[u8]) -> Vec<u8> {
     let mut out = vec![0; LONGEST];
     let told = raw::tyn_rewrite(sheet, &mut out);
+    out.truncate(told.value as usize);
+    out
+}
+
+/// What a sheet of either form says.
+#[derive(Clone, Debug, Default, PartialEq, Eq)]
+pub struct Sheet {
+    /// The frame, its atoms and its exclusions.
+    pub snapshot: Snapshot,
+    /// The species of each atom; 0 on a sheet of the first form.
+    pub species: Vec<u32>,
+    /// 1 or 2.
+    pub form: u32,
+}
+
+/// Reads a sheet of either form; its first header or atom line says which, and from then on a line of the other form is malformed (9). Refusals as
+/// [`Snapshot::from_sheet`], whose reading of a sheet of the first form this is.
+pub fn read(sheet: &[u8]) -> Result<Sheet, Error> {
+    let mut places = vec![0; 3072];
+    let mut species = vec![0; 1024];
+    let mut table = vec![0; 2048];
+    let told = raw::tyn_read_either(sheet, &mut places, &mut species, &mut table);
+    told.done.of("tyn_read_either")?;
+    species.truncate(told.job.atoms as usize);
+    Ok(Sheet { snapshot: Snapshot::told(&told.job, &places, &table), species, form: told.form })
+}
+
+/// A sheet of the first form in the second, as it is written, each species 0. Refusals as [`Snapshot::from_sheet`], then 3.
+pub fn to_two(sheet: &[u8]) -> Result<Vec<u8>, Error> {
+    let mut out = vec![0; LONGEST_TWO];
+    let told = raw::tyn_to_two(sheet, &mut out);
+    told.done.of("tyn_to_two")?;
+    out.truncate(told.value as usize);
+    Ok(out)
+}
+
+/// A sheet of the second form in the first, as it is written. Refusals as [`Snapshot::from_sheet`]; then 12 where an atom has a species, the place being the
+/// lowest such atom; then 3. `to_one(&to_two(s)?)?` is `rewrite(s)`.
+pub fn to_one(sheet: &[u8]) -> Result<Vec<u8>, Error> {
+    let mut out = vec![0; LONGEST];
+    let told = raw::tyn_to_one(sheet, &mut out);
+    told.done.of("tyn_to_one")?;
+    out.truncate(told.value as usize);
+    Ok(out)
+}
+
+/// The pair list of a sheet of either form, or the line of its refusal, as the program `pairs_either` prints it; species don't enter it.
+pub fn pairs(sheet: &[u8]) -> Vec<u8> {
+    let mut out = vec![0; 90_133];
+    let told = raw::tyn_solve_either(sheet, &mut out);
     out.truncate(told.value as usize);
     out
 }

@@ -25,6 +25,9 @@ use Rattle.clumps_label.proofs.Only.{label-only}
 use Rattle.clumps_answer.proofs.Only.{solve-clumps-only}
 use Rattle.sheet_written.proofs.Only.{write-only}
 use Rattle.sheet_rewritten.proofs.Only.{rewrite-only}
+use Rattle.sheet_either.proofs.Only.{read-either-only}
+use Rattle.sheet_moved.proofs.Only.{to-two-only, to-one-only}
+use Rattle.sheet_answer.proofs.TellingEither.{solve-either-only}
 use Rattle.field_structs.proofs.Only.{shown-only, shown-alone}
 use Rattle.field_structs.specs.Unique.{OneOutcome}
 use Rattle.field_structs.specs.declared.FlatPart.{FlatPart}
@@ -85,6 +88,10 @@ use Rattle.field.proofs.clumps.tyn_label as label
 use Rattle.field.proofs.clumps.tyn_solve_clumps as solve-clumps
 use Rattle.field.proofs.sheets.tyn_write as write
 use Rattle.field.proofs.sheets.tyn_rewrite as rewrite
+use Rattle.field.proofs.sheets.tyn_read_either as read-either
+use Rattle.field.proofs.sheets.tyn_to_two as to-two
+use Rattle.field.proofs.sheets.tyn_to_one as to-one
+use Rattle.field.proofs.sheets.tyn_solve_either as solve-either
 use Rattle.field.proofs.forces.tyn_monatomic as monatomic
 use Rattle.field.proofs.forces.tyn_argon as argon
 use Rattle.field.proofs.forces.tyn_uniform as uniform
@@ -290,6 +297,18 @@ tyn-write-only l a r s m n p q = shown-only p q (λ u v h k. let b = write-only 
 
 pub tyn-rewrite-only : OneOutcome rewrite.ended rewrite.Reads.Post
 tyn-rewrite-only l a r s m n p q = shown-only p q (λ u v h k. let b = rewrite-only _ _ u v _ _ h k in (b .0, λ i. (tt, (b .1 i, tt))))
+
+pub tyn-read-either-only : OneOutcome read-either.ended read-either.Reads.Post
+tyn-read-either-only l a r s m n p q = shown-only p q (λ u v h k. let b = read-either-only _ _ _ _ u v _ _ _ _ _ _ h k in (b .0, λ i. (tt, (b .1 i, (b .2 i, (b .3 i, tt))))))
+
+pub tyn-to-two-only : OneOutcome to-two.ended to-two.Reads.Post
+tyn-to-two-only l a r s m n p q = shown-only p q (λ u v h k. let b = to-two-only _ _ u v _ _ h k in (b .0, λ i. (tt, (b .1 i, tt))))
+
+pub tyn-to-one-only : OneOutcome to-one.ended to-one.Reads.Post
+tyn-to-one-only l a r s m n p q = shown-only p q (λ u v h k. let b = to-one-only _ _ u v _ _ h k in (b .0, λ i. (tt, (b .1 i, tt))))
+
+pub tyn-solve-either-only : OneOutcome solve-either.ended solve-either.Reads.Post
+tyn-solve-either-only l a r s m n p q = shown-only p q (λ u v h k. let b = solve-either-only _ _ u v _ _ (h .0) (k .0) in (b .0, λ i. (tt, (b .1 i, tt))))
 
 -- ---- the terms over pairs, and the evaluator
 pub tyn-monatomic-only : OneOutcome monatomic.ended monatomic.Reads.Post

@@ -398,7 +398,7 @@ pub fn built(a: Built) -> FlatBuilt
     }
 }
 
-fn job(j: Job) -> FlatJob
+pub(crate) fn job(j: Job) -> FlatJob
     ensures { λ r. ⌜ r ≡ flatJob j ⌝ }
 {
     FlatJob {
@@ -414,7 +414,7 @@ fn job(j: Job) -> FlatJob
     }
 }
 
-fn zero_job() -> FlatJob
+pub(crate) fn zero_job() -> FlatJob
     ensures { λ r. ⌜ r ≡ zeroJob ⌝ }
 {
     FlatJob {

@@ -12,6 +12,7 @@ pub mod angles;
 pub mod give;
 pub mod give_counted;
 pub mod settlings;
+pub mod give_forms;
 pub mod take;
 
 // ---- arguments
@@ -306,6 +307,14 @@ pub struct FlatJob {
 pub struct FlatSheet {
     pub done: FlatDone,
     pub job: FlatJob,
+}
+
+// What a job sheet of either form says; form is that of its header, 1 or 2.
+#[repr(C)]
+pub struct FlatFormed {
+    pub done: FlatDone,
+    pub job: FlatJob,
+    pub form: u32,
 }
 
 // A part of a lent table, by its first element and its length; 0 and 0 where the call is refused.

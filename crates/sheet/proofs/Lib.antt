@@ -2,10 +2,15 @@ pub mod Copying
 pub mod Leads
 pub mod Keeping
 pub mod Arms
+pub mod Turning
 pub mod Turns
 pub mod Settling
+pub mod TurnsTwo
+pub mod SettlingTwo
 pub mod RowSets
 pub mod Acts
 pub mod Order
+pub mod AnyOrder
+pub mod OrderTwo
 pub mod Only
 pub mod Sizes

@@ -89,8 +89,11 @@ pub record ReadWhole (s : List ℕ) : Type 0 where
   pub meaning : Meaning
   pub read : run (linesOf s) 0 blank ≡ answered meaning
 
+pub run-well : (ls : List Line) (m : Meaning) → run ls 0 blank ≡ answered m → AllWellFormed ls
+run-well ls m e = well-formed ls blank m (run-acts ls 0 blank m e)
+
 pub read-well : (s : List ℕ) → ReadWhole s → AllWellFormed (linesOf s)
-read-well s r = well-formed (linesOf s) blank (r .meaning) (run-acts (linesOf s) 0 blank (r .meaning) (r .read))
+read-well s r = run-well (linesOf s) (r .meaning) (r .read)
 
 -- Whole lines that are all kept come, in any other order, to the same sheet, of as many bytes.
 pub same-sheet : (cs ds : List (List ℕ)) → AllWhole cs → List·Permᴰ cs ds → ReadWhole (joinAll cs) → (sheetOf (joinAll ds) ≡ sheetOf (joinAll cs)) × (length (joinAll cs) ≡ length (joinAll ds))

@@ -88,9 +88,13 @@ then-full : (x : Seen Meaning) → SizedSeen x → FullSeen (thenTested x)
 then-full (answered m) s = with-full m (tested (m .header) (m .atoms .marks)) refl s
 then-full (refused n p) s = tt
 
-sheet-full : (s : List ℕ) → FullSeen (sheetOf s)
-unfolding sheetOf
-sheet-full s = then-full (run (linesOf s) 0 blank) (run-sized (linesOf s) 0 blank (record { size = length-replicate {A = ℕ} 3072 0; few = omega arith }))
+lines-full : (ls : List Line) → FullSeen (thenTested (run ls 0 blank))
+lines-full ls = then-full (run ls 0 blank) (run-sized ls 0 blank (record { size = length-replicate {A = ℕ} 3072 0; few = omega arith }))
+
+-- of the lines of either form
+pub run-full : (ls : List Line) (a : Sound) → thenTested (run ls 0 blank) ≡ answered a → Full a
+run-full ls a e = rw e at (lines-full ls)
 
 pub full : (s : List ℕ) (a : Sound) → sheetOf s ≡ answered a → Full a
-full s a e = rw e at (sheet-full s)
+unfolding sheetOf
+full s a e = run-full (linesOf s) a e

@@ -68,7 +68,7 @@ fn keep_atom(coords: &mut [u32], seen: &mut [u8], number: usize, x: u32, y: u32,
 }
 
 // The n-th line on the desk.
-fn keep(
+pub(crate) fn keep(
     line: Line,
     n: usize,
     desk: Desk,
@@ -116,7 +116,7 @@ fn keep(
     }
 }
 
-fn blank() -> Desk
+pub(crate) fn blank() -> Desk
     ensures { λ r. ⌜ (r .has ≡ false) × (r .count ≡ 0) ⌝ }
 {
     Desk {

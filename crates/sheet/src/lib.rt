@@ -4,6 +4,7 @@ use answer::Refusal;
 
 mod desk;
 mod judge;
+pub mod two;
 
 use crate::desk::Desk;
 use crate::desk::Kept;

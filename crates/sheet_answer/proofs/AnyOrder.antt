@@ -1,20 +1,19 @@
 -- THEOREM. An accepted sheet is whole lines in one way, and in another order they print the same. Assumes nothing.
 use Prim.Native.Nat.{ℕ, _≤_}
-use mathlib.Core.Path.{_≡_, refl, sym, ap, _∙_, subst}
+use mathlib.Core.Path.{_≡_, sym, ap, _∙_, subst}
 use mathlib.Core.Logic.{∥∥₁-elim}
 use mathlib.Core.List.{List, Perm, List·isSet, List·Permᴰ}
 use native.Mathlib.Nat.{ℕ-set}
 use native.Mathlib.Omega.{arith}
 use lib.ListN.{length}
 use borrow.Author.Tests.{le-ltb}
-use Rattle.lists.proofs.Cases.{impossible}
-use Rattle.answer.specs.Seen.{Seen, answered, refused}
+use Rattle.answer.specs.Seen.{refused}
 use Rattle.sheet_lines.specs.Reading.{linesOf}
 use Rattle.sheet_lines.specs.Grammar.{AllWhole, joinAll}
-use Rattle.sheet_lines.proofs.WholeLines.{texts, one-way, in-lines}
-use Rattle.sheet.specs.Meaning.{Meaning}
-use Rattle.sheet.specs.Reading.{Sound, run, blank, thenTested, sheetOf}
+use Rattle.sheet_lines.proofs.AnyForm.{one-way}
+use Rattle.sheet_lines.proofs.WholeLines.{texts, in-lines}
 use Rattle.sheet.proofs.Order.{ReadWhole, read-well, same-sheet}
+use Rattle.sheet.proofs.AnyOrder.{one-kept}
 use Rattle.sheet_answer.specs.Solve.{printed, answerText, solveOf}
 use Rattle.sheet_answer.specs.Theorems.{Accepted, AcceptedInAnyOrder}
 
@@ -31,17 +30,9 @@ whole-lines-in-any-order cs ds w p h r =
 
 -- ---- an accepted sheet
 
-read-whole : (s : List ℕ) (x : Seen Meaning) (a : Sound) → run (linesOf s) 0 blank ≡ x → thenTested x ≡ answered a → ReadWhole s
-read-whole s (answered m) a e p = record { meaning = m; read = e }
-read-whole s (refused n k) a e p = impossible (cc)
-
-accepted-read : (s : List ℕ) (a : Sound) → sheetOf s ≡ answered a → ReadWhole s
-unfolding sheetOf
-accepted-read s a e = read-whole s (run (linesOf s) 0 blank) a refl e
-
 module _ (s : List ℕ) (a : Accepted s) where
   read : ReadWhole s
-  read = accepted-read s (a .sound) (a .is)
+  read = one-kept s (a .sound) (a .is)
 
   parts : AllWhole (texts (linesOf s)) × (s ≡ joinAll (texts (linesOf s)))
   parts = in-lines s (read-well s read)

@@ -39,7 +39,7 @@ unfolding jobText
 job-fits j co ex =
     shown-fits (buildOf (givenFor j co ex) .answer) (buildOf (givenFor j co ex) .pairs) (pairs-kept (givenFor j co ex) ∙ given-room j co ex)
 
-sheet-fits : (x : Seen Sound) → length (answerText x) ≤ 90133
+pub sheet-fits : (x : Seen Sound) → length (answerText x) ≤ 90133
 sheet-fits (answered a) = job-fits (jobFor (a .head) (length (a .rows))) (a .coords) (flat (a .rows))
 sheet-fits (refused n p) = omega (arith, length-refusal n p)
 

@@ -2,3 +2,4 @@ pub mod Telling
 pub mod AnyOrder
 pub mod Only
 pub mod Fitting
+pub mod TellingEither

@@ -29,7 +29,7 @@ use Rattle.sheet.specs.Reading.{Sound, sheetOf}
 use Rattle.sheet.specs.Read as reading
 use Rattle.sheet.specs.declared.Sheet as sheet
 use Rattle.sheet.specs.declared.Sheet.the-variants as sheets
-use Rattle.sheet.proofs.Sizes.{full}
+use Rattle.sheet.proofs.Sizes.{Full, full}
 use Rattle.sheet_answer.specs.declared.SheetList.{SheetList}
 use Rattle.sheet_answer.specs.Solve.{frameFor, givenFor, shownText, jobText, printed, solveOf, answerText}
 use Rattle.sheet_answer.specs.List.{SheetCounts, seenList, ListOutcome, givenIn, withAtoms, jobList, listFor, sheetListOf, ListSays, Sheeted}
@@ -114,7 +114,7 @@ module _ (j : Job) (co ex pairs : List ℕ) (f : Frame) (is : f ≡ frameFor j) 
         }
 
 -- ---- what `read` told
-abbrev told : Seen Job → List ℕ → List ℕ → reading.Outcome
+abbrev pub told : Seen Job → List ℕ → List ℕ → reading.Outcome
 told s co ex = record { shown = s; coordinates = co; exclusions = ex }
 
 -- the numbers handed out stand at the front of the room
@@ -123,19 +123,26 @@ front xs room n e h =
     let s : sets room 0 xs ≡ take 0 room ++ xs ++ drop (0 + length xs) room = sets-eq xs room 0 (omega arith) in
     ap (λ (l : List ℕ). take n l) s ∙ take-at xs (drop (0 + length xs) room) n e
 
-module _ (s co ex : List ℕ) (a : 3072 ≤ length co) (b : 2048 ≤ length ex) where
+-- of a sheet that comes to x
+module _ (co ex : List ℕ) (a : 3072 ≤ length co) (b : 2048 ≤ length ex) (x : Seen Sound) (sized : (w : Sound) → x ≡ answered w → Full w) where
+  abbrev handedIf : Bool → reading.Outcome
+  handedIf t = cond t (reading.handed (refusedBy Lengths) co ex) (reading.handed x co ex)
+
+  abbrev listIf : Bool → List ℕ → ListOutcome
+  listIf t pairs = cond t (record { shown = refusedBy Lengths; pairs = pairs }) (listFor x pairs)
+
   module _ (co′ ex′ : List ℕ) where
     -- a sheet that is answered: its sizes, and its list
     pub record Handed (j : Job) : Type 0 where
       pub atoms : 3 * j .atoms ≤ 3072
       pub count : 2 * j .count ≤ 2048
       pub few : j .atoms ≤ 1024
-      pub list : (pairs : List ℕ) → jobList j (take (3 * j .atoms) co′) (take (2 * j .count) ex′) pairs ≡ listFor (sheetOf s) pairs
+      pub list : (pairs : List ℕ) → jobList j (take (3 * j .atoms) co′) (take (2 * j .count) ex′) pairs ≡ listFor x pairs
 
-    handed-by : (j : Job) (x : Seen Sound) → sheetOf s ≡ x → told (answered j) co′ ex′ ≡ reading.handed x co ex → Handed j
+    handed-by : (j : Job) (y : Seen Sound) → x ≡ y → told (answered j) co′ ex′ ≡ reading.handed y co ex → Handed j
     unfolding reading.jobFor
     handed-by j (answered w) e p =
-        let f = full s w e in
+        let f = sized w e in
         let h : answered j ≡ answered (reading.jobFor (w .head) (length (w .rows))) = ap (λ (o : reading.Outcome). o .shown) p in
         let ji : j ≡ reading.jobFor (w .head) (length (w .rows)) = cc in
         let ja : j .atoms ≡ w .head .atoms = ap (λ (k : Job). k .atoms) ji in
@@ -152,52 +159,47 @@ module _ (s co ex : List ℕ) (a : 3072 ≤ length co) (b : 2048 ≤ length ex) 
         let h : answered j ≡ refused n p = ap (λ (o : reading.Outcome). o .shown) q in
         impossible (cc)
 
+    pub handed-answered : (t : Bool) (j : Job) → told (answered j) co′ ex′ ≡ handedIf t → Handed j × ((pairs : List ℕ) → listFor x pairs ≡ listIf t pairs)
+    handed-answered true j q = let h : answered j ≡ refused 1 0 = ap (λ (o : reading.Outcome). o .shown) q in impossible (cc)
+    handed-answered false j q = (handed-by j x refl q, λ pairs. refl)
+
+    refused-by : (n p : ℕ) (y : Seen Sound) → told (refused n p) co′ ex′ ≡ reading.handed y co ex → (pairs : List ℕ) → record { shown = refused n p; pairs = pairs } ≡ listFor y pairs
+    refused-by n p (answered w) q pairs =
+        let h : refused n p ≡ answered (reading.jobFor (w .head) (length (w .rows))) = ap (λ (o : reading.Outcome). o .shown) q in
+        impossible (cc)
+    refused-by n p (refused k l) q pairs =
+        let h : _≡_ {A = Seen Job} (refused n p) (refused k l) = ap (λ (o : reading.Outcome). o .shown) q in
+        let u : n ≡ k = cc in
+        let v : p ≡ l = cc in
+        rw (u, v)
+
+    pub handed-refused : (t : Bool) (n p : ℕ) → told (refused n p) co′ ex′ ≡ handedIf t → (pairs : List ℕ) → record { shown = refused n p; pairs = pairs } ≡ listIf t pairs
+    handed-refused true n p q pairs = refused-by n p (refused 1 0) q pairs
+    handed-refused false n p q pairs = refused-by n p x q pairs
+
+module _ (s co ex : List ℕ) (a : 3072 ≤ length co) (b : 2048 ≤ length ex) where
   -- `read` by the one test that is left
   read-is : reading.readOf s co ex ≡ cond (ltb 65536 (length s)) (reading.handed (refusedBy Lengths) co ex) (reading.handed (sheetOf s) co ex)
   unfolding reading.readOf
   read-is = rw (le-ltb (length co) 3072 a, le-ltb (length ex) 2048 b)
 
-  pub read-answered : (r : sheet.Sheet) (j : Job) (co′ ex′ : List ℕ) → r ≡ sheets.Answered j → reading.ReadSays s co ex r co′ ex′ → Handed co′ ex′ j × ((pairs : List ℕ) → listFor (sheetOf s) pairs ≡ sheetListOf s pairs)
+  pub read-answered : (r : sheet.Sheet) (j : Job) (co′ ex′ : List ℕ) → r ≡ sheets.Answered j → reading.ReadSays s co ex r co′ ex′ → Handed co ex a b (sheetOf s) (full s) co′ ex′ j × ((pairs : List ℕ) → listFor (sheetOf s) pairs ≡ sheetListOf s pairs)
   unfolding sheetListOf
-  read-answered r j co′ ex′ e says =
-      by-test
-      (λ t. told (answered j) co′ ex′ ≡ cond t (reading.handed (refusedBy Lengths) co ex) (reading.handed (sheetOf s) co ex)
-      → Handed co′ ex′ j × ((pairs : List ℕ) → listFor (sheetOf s) pairs ≡ cond t (record { shown = refusedBy Lengths; pairs = pairs }) (listFor (sheetOf s) pairs)))
-      (ltb 65536 (length s))
-      (λ _ q. let h : answered j ≡ refused 1 0 = ap (λ (o : reading.Outcome). o .shown) q in impossible (cc))
-      (λ _ q. (handed-by co′ ex′ j (sheetOf s) refl q, λ pairs. refl))
-      ((rw e at says) ∙ read-is)
-
-  refused-by : (n p : ℕ) (co′ ex′ : List ℕ) (x : Seen Sound) → told (refused n p) co′ ex′ ≡ reading.handed x co ex → (pairs : List ℕ) → record { shown = refused n p; pairs = pairs } ≡ listFor x pairs
-  refused-by n p co′ ex′ (answered w) q pairs =
-      let h : refused n p ≡ answered (reading.jobFor (w .head) (length (w .rows))) = ap (λ (o : reading.Outcome). o .shown) q in
-      impossible (cc)
-  refused-by n p co′ ex′ (refused k l) q pairs =
-      let h : _≡_ {A = Seen Job} (refused n p) (refused k l) = ap (λ (o : reading.Outcome). o .shown) q in
-      let a : n ≡ k = cc in
-      let b : p ≡ l = cc in
-      rw (a, b)
+  read-answered r j co′ ex′ e says = handed-answered co ex a b (sheetOf s) (full s) co′ ex′ (ltb 65536 (length s)) j ((rw e at says) ∙ read-is)
 
   pub read-refused : (r : sheet.Sheet) (w : Refusal) (co′ ex′ : List ℕ) → r ≡ sheets.Refused w → reading.ReadSays s co ex r co′ ex′ → (pairs : List ℕ) → record { shown = refusedBy w; pairs = pairs } ≡ sheetListOf s pairs
   unfolding sheetListOf
-  read-refused r w co′ ex′ e says pairs =
-      by-test
-      (λ t. told (refusedBy w) co′ ex′ ≡ cond t (reading.handed (refusedBy Lengths) co ex) (reading.handed (sheetOf s) co ex)
-      → record { shown = refusedBy w; pairs = pairs } ≡ cond t (record { shown = refusedBy Lengths; pairs = pairs }) (listFor (sheetOf s) pairs))
-      (ltb 65536 (length s))
-      (λ _ q. refused-by (numberOf w) (placeOf w) co′ ex′ (refused 1 0) q pairs)
-      (λ _ q. refused-by (numberOf w) (placeOf w) co′ ex′ (sheetOf s) q pairs)
-      ((rw e at says) ∙ read-is)
+  read-refused r w co′ ex′ e says pairs = handed-refused co ex a b (sheetOf s) (full s) co′ ex′ (ltb 65536 (length s)) (numberOf w) (placeOf w) ((rw e at says) ∙ read-is) pairs
 
 -- ---- the text of a sheet is that of its list
 with-text : (n : ℕ) (a : Seen Counts) (pairs : List ℕ) → listText (withAtoms n a) pairs ≡ shownText a pairs
 with-text n (answered c) pairs = refl
 with-text n (refused k p) pairs = refl
 
-abbrev textOf : ListOutcome → List ℕ
+abbrev pub textOf : ListOutcome → List ℕ
 textOf o = listText (o .shown) (o .pairs)
 
-sheet-text : (x : Seen Sound) → textOf (listFor x (replicate 16384 0)) ≡ answerText x
+pub sheet-text : (x : Seen Sound) → textOf (listFor x (replicate 16384 0)) ≡ answerText x
 unfolding jobList jobText givenIn givenFor
 sheet-text (answered a) =
     let j = reading.jobFor (a .head) (length (a .rows)) in

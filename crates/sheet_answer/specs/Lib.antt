@@ -1,4 +1,5 @@
 pub mod Solve
 pub mod List
+pub mod Either
 pub mod Theorems
 pub mod Steps

@@ -7,6 +7,7 @@ use Rattle.answer.specs.Seen.{answered}
 use Rattle.sheet_lines.specs.Grammar.{AllWhole, joinAll}
 use Rattle.sheet.specs.Reading.{Sound, sheetOf}
 use Rattle.sheet_answer.specs.Solve.{printed, solveOf}
+use Rattle.sheet_answer.specs.Either.{eitherSound, printedEither}
 
 -- an accepted sheet: short enough, and sound
 pub record Accepted (s : List ℕ) : Type 0 where
@@ -26,3 +27,12 @@ pub record InAnyOrder (s : List ℕ) : Type 0 where
 
 abbrev pub AcceptedInAnyOrder : List ℕ → Type 0
 AcceptedInAnyOrder s = Accepted s → InAnyOrder s
+
+-- The same of sheets of either form (02, No. 9: "Demand 2's line order covers accepted sheets of each form").
+abbrev pub EitherPrints : List ℕ → Type 0
+EitherPrints s =
+    (a : Sound) → eitherSound s ≡ answered a → (cs ds : List (List ℕ)) → AllWhole cs → s ≡ joinAll cs → Perm cs ds → printedEither (joinAll ds) ≡ printedEither s
+
+-- A sheet of the first form prints as it did.
+abbrev pub FirstPrints : List ℕ → Type 0
+FirstPrints s = (a : Sound) → sheetOf s ≡ answered a → printedEither s ≡ printed s

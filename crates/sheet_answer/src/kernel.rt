@@ -34,7 +34,12 @@ fn frame_of(job: Job) -> Frame
 }
 
 // The list of what was read, with 16,384 starts of the call's own.
-fn list_job(job: Job, coordinates: &[u32], exclusions: &[u32], pairs: &mut [u32]) -> SheetList
+pub(crate) fn list_job(
+    job: Job,
+    coordinates: &[u32],
+    exclusions: &[u32],
+    pairs: &mut [u32],
+) -> SheetList
     requires { ⌜ (3 * job .atoms ≤ length (now coordinates)) × (2 * job .count ≤ length (now exclusions)) ⌝ }
     ensures says { λ r. ⌜ record { shown = seenList r; pairs = now (pairs .exit) } ≡ jobList job (take (3 * job .atoms) (now (coordinates .entry))) (take (2 * job .count) (now (exclusions .entry))) (now (pairs .entry)) ⌝ }
     ensures fits { λ r. ⌜ (job .atoms ≤ 1024 → ListFits r (now (pairs .exit))) ⌝ }

@@ -1,4 +1,5 @@
 // A job sheet's printed answer: the list of the sheet (module kernel), and the answer or the refusal written out.
+pub mod either;
 pub mod kernel;
 
 use answer::Refusal;
@@ -33,7 +34,7 @@ fn refuse(r: Refusal, out: &mut [u8]) -> usize
 }
 
 // The text of a list; how many bytes that is.
-fn put_list(list: SheetList, pairs: &[u32], out: &mut [u8]) -> usize
+pub(crate) fn put_list(list: SheetList, pairs: &[u32], out: &mut [u8]) -> usize
     ensures { λ n. ⌜ n ≡ length (listText (seenList list) (now (pairs .entry))) ⌝ }
     ensures { λ _. ⌜ now (out .exit) ≡ sets (now (out .entry)) 0 (listText (seenList list) (now (pairs .entry))) ⌝ }
 {

@@ -1,4 +1,5 @@
-// A job sheet from standard input, its printed answer to standard output; in `rewriting` its written form.
+// A job sheet from standard input, its printed answer to standard output; in `rewriting` its written form, in `forms` a sheet of either form.
+pub mod forms;
 pub mod rewriting;
 
 use answer::Whole;

@@ -19,13 +19,13 @@ use Rattle.sheet_lines.specs.declared.Three.the-variants.{Of, Nothing}
 use Rattle.sheet_lines.specs.declared.Line.{Line}
 use Rattle.sheet_lines.specs.declared.Line.the-variants.{Header, Atom, Exclusion, Malformed, End}
 
-length888 : (x y z : ℕ) → length (text888 x y z) ≡ 24
+pub length888 : (x y z : ℕ) → length (text888 x y z) ≡ 24
 unfolding text888
 length888 x y z = simp (length-append, length8)
 
 -- ---- from a line's bytes to the line
 
-three-text : (s : List ℕ) (at x y z : ℕ) → x < 2 ^ 32 → y < 2 ^ 32 → z < 2 ^ 32 → Stands s at (text888 x y z) → threeAt s at ≡ Of x y z
+pub three-text : (s : List ℕ) (at x y z : ℕ) → x < 2 ^ 32 → y < 2 ^ 32 → z < 2 ^ 32 → Stands s at (text888 x y z) → threeAt s at ≡ Of x y z
 unfolding threeAt threeOf text888
 three-text s at x y z a b d k =
     let p = stands-split s at (text8 x ++ text8 y) (text8 z) k in
@@ -78,11 +78,11 @@ line-text s at End v k = absurd v
 -- ---- from a line that was read to its bytes
 
 -- three numbers that were read stand there, and are in range
-abbrev ThreeStands : List ℕ → ℕ → Three → Type 0
+abbrev pub ThreeStands : List ℕ → ℕ → Three → Type 0
 ThreeStands s at (Of x y z) = (x < 2 ^ 32) × (y < 2 ^ 32) × (z < 2 ^ 32) × Stands s at (text888 x y z)
 ThreeStands s at Nothing = Unit {0}
 
-text-three : (s : List ℕ) (at : ℕ) → ThreeStands s at (threeAt s at)
+pub text-three : (s : List ℕ) (at : ℕ) → ThreeStands s at (threeAt s at)
 unfolding threeAt threeOf text888
 text-three s at =
     cases (ltb (hex8 s at) (2 ^ 32))

@@ -1,4 +1,5 @@
 pub mod GrammarLaws
+pub mod AnyForm
 pub mod Texts
 pub mod WholeLines
 pub mod Unread

@@ -1,62 +1,80 @@
--- A text of lines reads as these lines, and a sheet with no malformed line is its lines' bytes one after the other. Assumes nothing.
-use Prim.Native.Nat.{ℕ, zero, suc, _+_, _≤_, _<_}
-use mathlib.Core.Path.{_≡_, refl, ap, subst, _∙_}
-use mathlib.Core.List.{List, [], _∷_, _++_, append-assoc, List·Permᴰ, List·Permᴰ·nil, List·Permᴰ·cons, List·Permᴰ·swap, List·Permᴰ·trans}
-use native.Mathlib.Nat.{le-of-suc-le-suc, not-suc-le-zero}
-use native.Mathlib.Numerals.{add-one}
+-- The first form: a text of lines reads as these lines, and a sheet with no malformed line is its lines' bytes one after the other. Assumes nothing.
+use Prim.Native.Nat.{ℕ, zero, suc, _+_, _≤_, _/_, _%_}
+use mathlib.Core.Path.{_≡_, refl, sym, ap, subst, _∙_}
+use mathlib.Core.Bool.{cond}
+use mathlib.Core.List.{List, [], _∷_, _++_}
 use native.Mathlib.Omega.{arith}
-use lib.ListN.{length, drop, length-append, List·getD-eq-default}
-use lib.Seq.{getD-append-seam, drop-cons, drop-length}
+use lib.ListN.{length}
 use lib.Dec.{ltb}
-use borrow.Author.Tests.{lt-ltb, le-ltb, ltb-true, ltb-false}
-use Rattle.hex.specs.Digits.{byteAt}
-use Rattle.hex.specs.Glyphs.{text2, text4, text8, Stands}
+use Rattle.hex.specs.Glyphs.{glyphOf, text2, text4, text8, Stands}
 use Rattle.hex.proofs.Choice.{cases}
-use Rattle.hex.proofs.Reading.{stands-split, stands-join}
 use Rattle.sheet_lines.specs.Reading.{lineAt, widthOf, linesFrom, linesOf}
-use Rattle.sheet_lines.specs.Grammar.{text888, lineText, Valid, sheetText, AllValid, WellFormed, AllWellFormed}
+use Rattle.sheet_lines.specs.Grammar.{text888, lineText, Valid, sheetText, AllValid, WellFormed, AllWellFormed, Unbroken, WholeLine, AllWhole, joinAll}
 use Rattle.sheet_lines.specs.declared.Line.{Line}
 use Rattle.sheet_lines.specs.declared.Line.the-variants.{Header, Atom, Exclusion, Malformed, End}
 use Rattle.sheet_lines.proofs.GrammarLaws.{line-text, text-line, length-text, Sound}
+use Rattle.sheet_lines.proofs.AnyForm.{whole-ends, Each, textsBy, linesBy, Form, lines-of-bytes, bytes-of-lines}
 
--- ---- the lines of a text
+-- ---- a line's bytes are a whole line
 
-wide-least : (l : Line) → Valid l → 11 ≤ widthOf l
-wide-least (Header h) v = omega arith
-wide-least (Atom n x y z) v = omega arith
-wide-least (Exclusion a b) v = omega arith
-wide-least Malformed v = absurd v
-wide-least End v = absurd v
+pub unbroken-append : (xs ys : List ℕ) → Unbroken xs → Unbroken ys → Unbroken (xs ++ ys)
+unbroken-append [] ys a b = b
+unbroken-append (x ∷ xs) ys a b = (a .0, unbroken-append xs ys (a .1) b)
 
-pub stands-self : (pre xs : List ℕ) → Stands (pre ++ xs) (length pre) xs
-stands-self pre [] = tt
-stands-self pre (x ∷ xs) =
-    let e : length (pre ++ (x ∷ [])) ≡ length pre + 1 = length-append pre (x ∷ []) in
-    let r : Stands ((pre ++ (x ∷ [])) ++ xs) (length pre + 1) xs = rw e at (stands-self (pre ++ (x ∷ [])) xs) in
-    (getD-append-seam pre x xs 0, rw (append-assoc pre (x ∷ []) xs) at r)
+glyph-no : (d : ℕ) → glyphOf d ≡ 10 → ⊥
+glyph-no d = cases (ltb d 10) (λ p. simp p (λ e. omega arith)) (λ p. simp p (λ e. omega arith))
 
-lines-from : (ls : List Line) (f : ℕ) (s : List ℕ) (at : ℕ) → AllValid ls → Stands s at (sheetText ls) → length s ≡ at + length (sheetText ls) → length ls ≤ f → linesFrom f s at ≡ ls
-lines-from [] zero s at v k e h = refl
-lines-from [] (suc f) s at v k e h = simp (le-ltb at (length s) (omega arith))
-lines-from (l ∷ ls) zero s at v k e h = absurd (not-suc-le-zero h)
-lines-from (l ∷ ls) (suc f) s at v k e h =
-    let p = stands-split s at (lineText l) (sheetText ls) k in
-    let w : length (lineText l) ≡ widthOf l = length-text l in
-    let here : at < length s = omega (arith, wide-least l (v .0), length-append (lineText l) (sheetText ls)) in
-    let line : lineAt s at ≡ l = line-text s at l (v .0) (p .0) in
-    simp (lt-ltb at (length s) here, line)
-    (ap (λ (r : List Line). l ∷ r)
-    (lines-from ls f s (at + widthOf l) (v .1) (rw w at (p .1)) (omega (arith, length-append (lineText l) (sheetText ls))) (le-of-suc-le-suc h)))
+pub unbroken2 : (n : ℕ) → Unbroken (text2 n)
+unfolding text2
+unbroken2 n = (glyph-no (n / 16 % 16), (glyph-no (n % 16), tt))
 
-few-lines : (ls : List Line) → AllValid ls → length ls ≤ length (sheetText ls)
-few-lines [] v = omega arith
-few-lines (l ∷ ls) v = omega (arith, few-lines ls (v .1), wide-least l (v .0), length-text l, length-append (lineText l) (sheetText ls))
+pub unbroken4 : (n : ℕ) → Unbroken (text4 n)
+unfolding text4
+unbroken4 n = unbroken-append (text2 (n / 256)) (text2 (n % 256)) (unbroken2 (n / 256)) (unbroken2 (n % 256))
 
-pub lines-of-text : (ls : List Line) → AllValid ls → linesOf (sheetText ls) ≡ ls
-unfolding linesOf
-lines-of-text ls v = lines-from ls (length (sheetText ls)) (sheetText ls) 0 v (stands-self [] (sheetText ls)) (omega arith) (few-lines ls v)
+pub unbroken8 : (n : ℕ) → Unbroken (text8 n)
+unfolding text8
+unbroken8 n = unbroken-append (text4 (n / 65536)) (text4 (n % 65536)) (unbroken4 (n / 65536)) (unbroken4 (n % 65536))
 
--- ---- the text of the lines
+pub unbroken888 : (x y z : ℕ) → Unbroken (text888 x y z)
+unfolding text888
+unbroken888 x y z = unbroken-append (text8 x ++ text8 y) (text8 z) (unbroken-append (text8 x) (text8 y) (unbroken8 x) (unbroken8 y)) (unbroken8 z)
+
+pub whole-text : (l : Line) → Valid l → WholeLine (lineText l)
+unfolding lineText
+whole-text (Header h) v =
+    record {
+      body = text2 1 ++ text4 (h .atoms) ++ text888 (h .ex) (h .ey) (h .ez) ++ text2 (h .mask) ++ text8 (h .radius);
+      unbroken =
+          unbroken-append (text2 1 ++ text4 (h .atoms) ++ text888 (h .ex) (h .ey) (h .ez) ++ text2 (h .mask)) (text8 (h .radius))
+          (unbroken-append (text2 1 ++ text4 (h .atoms) ++ text888 (h .ex) (h .ey) (h .ez)) (text2 (h .mask))
+          (unbroken-append (text2 1 ++ text4 (h .atoms)) (text888 (h .ex) (h .ey) (h .ez))
+          (unbroken-append (text2 1) (text4 (h .atoms)) (unbroken2 1) (unbroken4 (h .atoms)))
+          (unbroken888 (h .ex) (h .ey) (h .ez)))
+          (unbroken2 (h .mask)))
+          (unbroken8 (h .radius));
+      is = refl;
+    }
+whole-text (Atom n x y z) v =
+    record {
+      body = text2 2 ++ text4 n ++ text888 x y z;
+      unbroken =
+          unbroken-append (text2 2 ++ text4 n) (text888 x y z) (unbroken-append (text2 2) (text4 n) (unbroken2 2) (unbroken4 n)) (unbroken888 x y z);
+      is = refl;
+    }
+whole-text (Exclusion a b) v =
+    record {
+      body = text2 3 ++ text4 a ++ text4 b;
+      unbroken = unbroken-append (text2 3 ++ text4 a) (text4 b) (unbroken-append (text2 3) (text4 a) (unbroken2 3) (unbroken4 a)) (unbroken4 b);
+      is = refl;
+    }
+whole-text Malformed v = absurd v
+whole-text End v = absurd v
+
+pub line-ends : (s : List ℕ) (at : ℕ) (l : Line) → Valid l → Stands s at (lineText l) → at + length (lineText l) ≤ length s
+line-ends s at l v k = whole-ends s at (lineText l) (whole-text l v) k
+
+-- ---- a line that was read
 
 pub sound-good : (s : List ℕ) (at : ℕ) (l : Line) → WellFormed l → Sound s at l → Valid l × Stands s at (lineText l)
 sound-good s at (Header h) g k = k
@@ -65,70 +83,45 @@ sound-good s at (Exclusion a b) g k = k
 sound-good s at Malformed g k = absurd g
 sound-good s at End g k = absurd g
 
-newline-in : (s : List ℕ) (at : ℕ) (xs : List ℕ) → Stands s at (xs ++ (10 ∷ [])) → at + length (xs ++ (10 ∷ [])) ≤ length s
-newline-in s at xs k =
-    let p = stands-split s at xs (10 ∷ []) k in
-    cases (ltb (at + length xs) (length s))
-    (λ q. omega (arith, ltb-true (at + length xs) (length s) q, length-append xs (10 ∷ [])))
-    (λ q.
-    let z : byteAt s (at + length xs) ≡ 0 = List·getD-eq-default s 0 (ltb-false (at + length xs) (length s) q) in
-    absurd (omega (arith, p .1 .0)))
+-- ---- the first form is a form
 
-pub line-ends : (s : List ℕ) (at : ℕ) (l : Line) → Valid l → Stands s at (lineText l) → at + length (lineText l) ≤ length s
-unfolding lineText
-line-ends s at (Header h) v k = newline-in s at (text2 1 ++ text4 (h .atoms) ++ text888 (h .ex) (h .ey) (h .ez) ++ text2 (h .mask) ++ text8 (h .radius)) k
-line-ends s at (Atom n x y z) v k = newline-in s at (text2 2 ++ text4 n ++ text888 x y z) k
-line-ends s at (Exclusion a b) v k = newline-in s at (text2 3 ++ text4 a ++ text4 b) k
-line-ends s at Malformed v k = absurd v
-line-ends s at End v k = absurd v
+pub first-form : Form Line lineText lineAt widthOf Valid WellFormed
+first-form = record { reads = line-text; stood = λ s at g. sound-good s at (lineAt s at) g (text-line s at); wide = length-text; whole = whole-text }
 
-abbrev Spelt : List ℕ → ℕ → List Line → Type 0
-Spelt s at ls = AllValid ls × Stands s at (sheetText ls) × (at + length (sheetText ls) ≡ length s)
+each-valid : (ls : List Line) → AllValid ls → Each Valid ls
+each-valid [] v = tt
+each-valid (l ∷ ls) v = (v .0, each-valid ls (v .1))
 
-spelt : (f : ℕ) (s : List ℕ) (at : ℕ) → at ≤ length s → length s ≤ at + f → AllWellFormed (linesFrom f s at) → Spelt s at (linesFrom f s at)
-spelt zero s at h k = λ g. (tt, tt, omega arith)
-spelt (suc f) s at h k =
-    cases (ltb at (length s))
-    (λ p.
-    simp p
-    (λ g.
-    let v = sound-good s at (lineAt s at) (g .0) (text-line s at) in
-    let w : length (lineText (lineAt s at)) ≡ widthOf (lineAt s at) = length-text (lineAt s at) in
-    let m : at + widthOf (lineAt s at) ≤ length s = omega (arith, line-ends s at (lineAt s at) (v .0) (v .1)) in
-    let r = spelt f s (at + widthOf (lineAt s at)) m (omega (arith, wide-least (lineAt s at) (v .0))) (g .1) in
-    let rest = linesFrom f s (at + widthOf (lineAt s at)) in (
-      (v .0, r .0),
-      stands-join s at (lineText (lineAt s at)) (sheetText (linesFrom f s (at + widthOf (lineAt s at)))) (v .1) (rw w (r .1)),
-      omega (arith, r .2, length-append (lineText (lineAt s at)) (sheetText (linesFrom f s (at + widthOf (lineAt s at))))),
-    )))
-    (λ p. simp p (λ g. (tt, tt, omega (arith, ltb-false at (length s) p))))
+all-valid : (ls : List Line) → Each Valid ls → AllValid ls
+all-valid [] v = tt
+all-valid (l ∷ ls) v = (v .0, all-valid ls (v .1))
 
--- bytes that stand to the end are the rest
-rest-is : (xs s : List ℕ) (at : ℕ) → Stands s at xs → at + length xs ≡ length s → drop at s ≡ xs
-rest-is [] s at k e = let e′ : at ≡ length s = omega arith in ap (λ (j : ℕ). drop j s) e′ ∙ drop-length s
-rest-is (x ∷ xs) s at k e =
-    let h : at < length s = omega arith in
-    drop-cons s at 0 h ∙ (ap (λ (b : ℕ). b ∷ drop (suc at) s) (k .0) ∙ ap (λ (r : List ℕ). x ∷ r) (rw (← add-one at) (rest-is xs s (at + 1) (k .1) (omega arith))))
+pub each-well : (ls : List Line) → AllWellFormed ls → Each WellFormed ls
+each-well [] g = tt
+each-well (l ∷ ls) g = (g .0, each-well ls (g .1))
+
+lines-same : (f : ℕ) (s : List ℕ) (at : ℕ) → linesFrom f s at ≡ linesBy lineAt widthOf f s at
+lines-same zero s at = refl
+lines-same (suc f) s at = ap (λ (r : List Line). cond (ltb at (length s)) (lineAt s at ∷ r) []) (lines-same f s (at + widthOf (lineAt s at)))
+
+pub lines-by : (s : List ℕ) → linesOf s ≡ linesBy lineAt widthOf (length s) s 0
+unfolding linesOf
+lines-by s = lines-same (length s) s 0
+
+pub join-texts : (ls : List Line) → joinAll (textsBy lineText ls) ≡ sheetText ls
+join-texts [] = refl
+join-texts (l ∷ ls) = ap (λ (r : List ℕ). lineText l ++ r) (join-texts ls)
+
+pub lines-of-text : (ls : List Line) → AllValid ls → linesOf (sheetText ls) ≡ ls
+lines-of-text ls v =
+    ap linesOf (sym (join-texts ls))
+    ∙ (lines-by (joinAll (textsBy lineText ls)) ∙ lines-of-bytes Line lineText lineAt widthOf Valid WellFormed first-form ls (each-valid ls v))
 
 -- a sheet with no malformed line is its lines' bytes, one after the other
 pub text-of-lines : (s : List ℕ) → AllWellFormed (linesOf s) → AllValid (linesOf s) × (s ≡ sheetText (linesOf s))
-unfolding linesOf
 text-of-lines s g =
-    let t = spelt (length s) s 0 (omega arith) (omega arith) g in
-    (t .0, rest-is (sheetText (linesFrom (length s) s 0)) s 0 (t .1) (t .2))
-
--- ---- in another order
-
-pub valid-order : {ls ms : List Line} → List·Permᴰ ls ms → AllValid ls → AllValid ms
-valid-order List·Permᴰ·nil v = v
-valid-order (List·Permᴰ·cons e p) v = (subst (λ (x : Line). Valid x) e (v .0), valid-order p (v .1))
-valid-order (List·Permᴰ·swap e f) v = (subst (λ (x : Line). Valid x) f (v .1 .0), (subst (λ (x : Line). Valid x) e (v .0), v .1 .1))
-valid-order (List·Permᴰ·trans p q) v = valid-order q (valid-order p v)
-
-pub length-order : {ls ms : List Line} → List·Permᴰ ls ms → length (sheetText ls) ≡ length (sheetText ms)
-length-order List·Permᴰ·nil = refl
-length-order (List·Permᴰ·cons {a = a} {b = b} {l₁ = l₁} {l₂ = l₂} e p) =
-    omega (arith, length-append (lineText a) (sheetText l₁), length-append (lineText b) (sheetText l₂), ap (λ (x : Line). length (lineText x)) e, length-order p)
-length-order (List·Permᴰ·swap {a = a} {b = b} {a′ = a′} {b′ = b′} {l = l} e f) =
-    omega (arith, length-append (lineText a) (lineText b ++ sheetText l), length-append (lineText b) (sheetText l), length-append (lineText a′) (lineText b′ ++ sheetText l), length-append (lineText b′) (sheetText l), ap (λ (x : Line). length (lineText x)) e, ap (λ (x : Line). length (lineText x)) f)
-length-order (List·Permᴰ·trans p q) = length-order p ∙ length-order q
+    let e = lines-by s in
+    let t = bytes-of-lines Line lineText lineAt widthOf Valid WellFormed first-form s (subst (λ (ls : List Line). Each WellFormed ls) e (each-well (linesOf s) g)) in (
+      all-valid (linesOf s) (subst (λ (ls : List Line). Each Valid ls) (sym e) (t .0)),
+      t .1 ∙ (ap (λ (ls : List Line). joinAll (textsBy lineText ls)) (sym e) ∙ join-texts (linesOf s)),
+    )

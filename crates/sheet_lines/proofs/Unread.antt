@@ -20,8 +20,8 @@ use Rattle.sheet_lines.specs.declared.Three.the-variants.{Of, Nothing}
 use Rattle.sheet_lines.specs.declared.Line.{Line}
 use Rattle.sheet_lines.specs.declared.Line.the-variants.{Header, Atom, Exclusion, Malformed, End}
 use Rattle.sheet_lines.proofs.GrammarLaws.{line-text, text-line, length-text}
-use Rattle.sheet_lines.proofs.Texts.{stands-self, sound-good, line-ends}
-use Rattle.sheet_lines.proofs.WholeLines.{unsplit, whole-text}
+use Rattle.sheet_lines.proofs.AnyForm.{stands-self, unsplit}
+use Rattle.sheet_lines.proofs.Texts.{sound-good, line-ends, whole-text}
 
 -- bytes that stand at a place are what is there
 stands-drop : (xs s : List ℕ) (at : ℕ) → Stands s at xs → at + length xs ≤ length s → drop at s ≡ xs ++ drop (at + length xs) s

@@ -33,7 +33,7 @@ pub enum Line {
     End,
 }
 
-fn three_of(x: u64, y: u64, z: u64) -> Three
+pub fn three_of(x: u64, y: u64, z: u64) -> Three
     ensures { λ r. ⌜ r ≡ threeOf x y z ⌝ }
 {
     if x < 4294967296 {
@@ -57,7 +57,7 @@ fn three_at(s: &[u8], at: usize) -> Three
     three_of(x, y, z)
 }
 
-fn header_of(atoms: u64, edges: Three, mask: u64, radius: u64, end: u8) -> Line
+pub fn header_of(atoms: u64, edges: Three, mask: u64, radius: u64, end: u8) -> Line
     ensures { λ r. ⌜ r ≡ headerOf atoms edges mask radius end ⌝ }
 {
     let Three::Of(x, y, z) = edges else {
@@ -85,7 +85,7 @@ fn header_of(atoms: u64, edges: Three, mask: u64, radius: u64, end: u8) -> Line
     })
 }
 
-fn atom_of(number: u64, place: Three, end: u8) -> Line
+pub fn atom_of(number: u64, place: Three, end: u8) -> Line
     ensures { λ r. ⌜ r ≡ atomOf number place end ⌝ }
 {
     let Three::Of(x, y, z) = place else {
@@ -104,7 +104,7 @@ fn atom_of(number: u64, place: Three, end: u8) -> Line
     Line::Malformed
 }
 
-fn exclusion_of(a: u64, b: u64, end: u8) -> Line
+pub fn exclusion_of(a: u64, b: u64, end: u8) -> Line
     ensures { λ r. ⌜ r ≡ exclusionOf a b end ⌝ }
 {
     if a < 65536 {

@@ -1,32 +1,28 @@
 -- THEOREMS. Sheets of equal meaning, and these alone, have one written form; it is a sheet of that meaning, and rewritten it is itself. Assumes nothing.
-use Prim.Native.Nat.{ℕ, _*_, _≤_}
+use Prim.Native.Nat.{ℕ, _≤_}
 use mathlib.Core.Path.{_≡_, refl, sym, ap, ap₂, _∙_, subst}
 use mathlib.Core.Bool.{Bool, true, false, cond}
 use mathlib.Core.Logic.{∥∥₁-elim}
-use mathlib.Core.List.{List, Perm, List·isSet, List·Permᴰ}
+use mathlib.Core.List.{List, List·isSet, List·Permᴰ}
 use native.Mathlib.Nat.{ℕ-set}
 use native.Mathlib.Omega.{arith}
-use lib.ListN.{length, take}
-use lib.Seq.{sets}
+use lib.ListN.{length}
 use borrow.Author.Tests.{le-ltb}
 use Rattle.answer.specs.Seen.{Seen, answered, refused}
 use Rattle.answer.specs.declared.Done.{Done}
 use Rattle.answer.specs.declared.Done.the-variants as dones
 use Rattle.answer.specs.declared.Refusal.the-variants.{Range}
 use Rattle.lists.specs.Lists.{flat}
-use Rattle.lists.proofs.Cases.{impossible}
 use Rattle.exclusions.specs.Table.{isRow}
-use Rattle.frame.specs.declared.Frame.{Frame}
 use Rattle.frame.specs.Build.{rangesOk}
 use Rattle.sheet_lines.specs.Grammar.{AllWhole, joinAll}
-use Rattle.sheet_lines.specs.Reading.{linesOf}
 use Rattle.sheet_printed.specs.Printed.{refusalLine}
 use Rattle.sheet.specs.declared.Job.{Job}
-use Rattle.sheet.specs.Meaning.{Meaning}
-use Rattle.sheet.specs.Reading.{Sound, run, blank, thenTested, sheetOf}
+use Rattle.sheet.specs.Reading.{Sound, sheetOf}
 use Rattle.sheet.specs.Read as reading
 use Rattle.sheet.proofs.Order.{ReadWhole, same-sheet}
-use Rattle.sheet_answer.specs.Solve.{frameFor, answerText, printed, solveOf}
+use Rattle.sheet.proofs.AnyOrder.{one-kept}
+use Rattle.sheet_answer.specs.Solve.{answerText, printed, solveOf}
 use Rattle.sheet_written.specs.Written.{writtenText}
 use Rattle.sheet_written.specs.Write as writing
 use Rattle.sheet_rewritten.specs.Rewrite.{boxOf, formOf, formText, rewritten, rewriteOf}
@@ -113,14 +109,6 @@ writes-read s co ex out a b j e =
     (λ r. text-is (h .sound) ∙ sym (form-is s (record { short = h .short; sound = h .sound; is = h .is; ranged = r })))))
 
 -- ---- in another order
-read-whole : (s : List ℕ) (x : Seen Meaning) (a : Sound) → run (linesOf s) 0 blank ≡ x → thenTested x ≡ answered a → ReadWhole s
-read-whole s (answered m) a e p = record { meaning = m; read = e }
-read-whole s (refused n k) a e p = impossible (cc)
-
-accepted-read : (s : List ℕ) (a : Sound) → sheetOf s ≡ answered a → ReadWhole s
-unfolding sheetOf
-accepted-read s a e = read-whole s (run (linesOf s) 0 blank) a refl e
-
 in-order : (cs ds : List (List ℕ)) → AllWhole cs → List·Permᴰ cs ds → length (joinAll cs) ≤ 65536 → ReadWhole (joinAll cs) → rewritten (joinAll ds) ≡ rewritten (joinAll cs)
 unfolding rewritten
 in-order cs ds w p h r =
@@ -130,4 +118,4 @@ in-order cs ds w p h r =
 pub any-order : (s : List ℕ) → AnyOrder s
 any-order s v cs ds w e p =
     ∥∥₁-elim p (List·isSet ℕ-set (rewritten (joinAll ds)) (rewritten s))
-    (λ d. in-order cs ds w d (subst (λ (z : List ℕ). length z ≤ 65536) e (v .short)) (subst ReadWhole e (accepted-read s (v .sound) (v .is))) ∙ ap rewritten (sym e))
+    (λ d. in-order cs ds w d (subst (λ (z : List ℕ). length z ≤ 65536) e (v .short)) (subst ReadWhole e (one-kept s (v .sound) (v .is))) ∙ ap rewritten (sym e))

@@ -19,7 +19,7 @@ ghost use Rattle.sheet_answer.specs.Solve.{frameFor};
 ghost use Rattle.sheet_rewritten.specs.Rewrite.{RewriteSays};
 ghost use Rattle.sheet_rewritten.specs.Steps.{frameText};
 
-fn frame_of(job: Job) -> Frame
+pub fn frame_of(job: Job) -> Frame
     ensures { λ r. ⌜ r ≡ frameFor job ⌝ }
 {
     Frame {

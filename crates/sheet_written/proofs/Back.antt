@@ -1,7 +1,7 @@
 -- The written lines of a header, atoms and exclusions come to just these. Assumes nothing.
 use Prim.Native.Nat.{ℕ, zero, suc, _+_, _*_, _-_, _/_, _%_, _≤_, _<_, _^_}
 use mathlib.Core.Path.{_≡_, refl, sym, ap, ap₂, _∙_}
-use mathlib.Core.Bool.{Bool, true, cond, _&&_}
+use mathlib.Core.Bool.{Bool, true, false, cond, _&&_}
 use mathlib.Core.Option.{Option, none, some}
 use mathlib.Core.List.{List, [], _∷_, _++_, map, append-assoc, append-nil}
 use native.Mathlib.Nat.{add-zero, zero-add, suc-add}
@@ -27,17 +27,25 @@ use Rattle.exclusions.proofs.Search.{tail-table, ascending}
 use Rattle.hex.proofs.Writing.{sets-append}
 use Rattle.sheet_lines.specs.declared.Head.{Head}
 use Rattle.sheet_lines.specs.declared.Line.{Line}
-use Rattle.sheet_lines.specs.declared.Line.the-variants.{Header}
+use Rattle.sheet_lines.specs.declared.Line.the-variants.{Header, Atom, Exclusion, Malformed, End}
 use Rattle.sheet_lines.specs.Grammar.{Valid, AllValid}
+use Rattle.sheet_lines.proofs.AnyForm.{Each}
 use Rattle.sheet_lines.proofs.Texts.{lines-of-text}
+use Rattle.sheet_lines_two.specs.declared.TwoLine.{TwoLine}
+use Rattle.sheet_lines_two.specs.Twos.{plainTwo, toldOf, twosOf}
+use Rattle.sheet_lines_two.specs.Grammar.{ValidWith, ValidTwo}
+use Rattle.sheet_lines_two.proofs.WholeTwos.{twos-of-text}
 use Rattle.sheet.specs.Meaning.{Meaning, Atoms, andThen, acted, actOf, headed, seated, excluding, placed, fresh}
 use Rattle.sheet.specs.Reading.{refusalFor, onward, run, blank, leadOf, strayOf, absentOf, counted, tested, Sound, soundWith, thenTested, sheetOf}
 use Rattle.sheet.specs.Read.{jobFor, readOf}
+use Rattle.sheet.specs.ReadTwo.{SoundTwo, speciesIn, withSpecies, paired, ranTwo, sheetTwo}
 use Rattle.sheet_written.specs.Written.{headOf, atomLine, atomLines, rowLine, writtenLines, writtenText}
 use Rattle.sheet_written.specs.Write.{writeAsked, Outcome, laidIn, writeAfter, writeOf}
+use Rattle.sheet_written.specs.WrittenTwo.{plainText, writtenTwo}
 use Rattle.sheet_written.specs.Theorems.{jobWith, WriteReads}
 use Rattle.sheet_written.proofs.Flags.{flags-back}
 use Rattle.sheet_written.proofs.Cases.{Fine, fine, bytes-are}
+use Rattle.sheet_written.proofs.TwoAfterAnother.{bytes-two}
 
 -- ---- a line that acts
 goes : (l : Line) (ls : List Line) (n : ℕ) (m m′ : Meaning) → acted (actOf l) m ≡ some m′ → run (l ∷ ls) n m ≡ run ls (n + 1) m′
@@ -305,7 +313,7 @@ module _ (f : Frame) (xs table : List ℕ) (g : Fine f xs table) where
 abbrev laidBy : Bool → List ℕ → List ℕ → Outcome
 laidBy full text out = cond full (record { shown = refused 8 (length text); out = out }) (record { shown = answered (length text); out = sets out 0 text })
 
-laid-front : (text out : List ℕ) (n : ℕ) → laidIn text out .shown ≡ answered n → take n (laidIn text out .out) ≡ text
+pub laid-front : (text out : List ℕ) (n : ℕ) → laidIn text out .shown ≡ answered n → take n (laidIn text out .out) ≡ text
 unfolding laidIn
 laid-front text out n =
     by-test (λ x. laidBy x text out .shown ≡ answered n → take n (laidBy x text out .out) ≡ text) (ltb (length out) (length text))
@@ -324,3 +332,97 @@ unfolding writeOf
 write-reads f xs table out n e co ex a b =
     let p = read-of f xs table out n (writeAsked f xs table) refl e in
     ap (λ (s : List ℕ). readOf s co ex) (p .0) ∙ read-written f xs table (p .1) co ex a b
+
+-- ---- in the second form, each species 0
+
+valid-plain : (l : Line) → Valid l → ValidWith l 0
+valid-plain (Header h) v = (v, refl)
+valid-plain (Atom n x y z) v = (v, omega arith)
+valid-plain (Exclusion a b) v = (v, refl)
+valid-plain Malformed v = absurd v
+valid-plain End v = absurd v
+
+each-plain : (ls : List Line) → AllValid ls → Each ValidTwo (map plainTwo ls)
+each-plain [] v = tt
+each-plain (l ∷ ls) v = (valid-plain l (v .0), each-plain ls (v .1))
+
+-- told with their coordinates they are the lines themselves
+told-core : (ls : List Line) → map (toldOf false) (map plainTwo ls) ≡ ls
+told-core [] = refl
+told-core (l ∷ ls) = ap (λ (r : List Line). l ∷ r) (told-core ls)
+
+-- told with their species they are the lines of atoms that all stand at 0
+told-append : (ls ks : List Line) → map (toldOf true) (map plainTwo (ls ++ ks)) ≡ map (toldOf true) (map plainTwo ls) ++ map (toldOf true) (map plainTwo ks)
+told-append [] ks = refl
+told-append (l ∷ ls) ks = ap (λ (r : List Line). toldOf true (plainTwo l) ∷ r) (told-append ls ks)
+
+nought-at : (m i : ℕ) → getD (noughts m) i 0 ≡ 0
+nought-at zero i = refl
+nought-at (suc m) zero = refl
+nought-at (suc m) (suc i) = nought-at m i
+
+told-atoms : (xs : List ℕ) (m : ℕ) (l : List ℕ) → map (toldOf true) (map plainTwo (map (atomLine xs) l)) ≡ map (atomLine (noughts m)) l
+unfolding atomLine
+told-atoms xs m [] = refl
+told-atoms xs m (k ∷ l) =
+    let e : atomLine (noughts m) k ≡ Atom k 0 0 0 = rw (nought-at m (3 * k), nought-at m (3 * k + 1), nought-at m (3 * k + 2)) in
+    ap₂ (λ (u : Line) (r : List Line). u ∷ r) (sym e) (told-atoms xs m l)
+
+told-rows : (l : List (ℕ × ℕ)) → map (toldOf true) (map plainTwo (map rowLine l)) ≡ map rowLine l
+told-rows [] = refl
+told-rows (p ∷ l) = ap (λ (r : List Line). rowLine p ∷ r) (told-rows l)
+
+long-noughts : (n : ℕ) → length (noughts n) ≡ n
+long-noughts n = length-replicate {A = ℕ} n 0
+
+told-written : (h : Head) (xs : List ℕ) (l : List (ℕ × ℕ)) → map (toldOf true) (map plainTwo (writtenLines h xs l)) ≡ writtenLines h (noughts (3 * (length xs / 3))) l
+unfolding writtenLines atomLines
+told-written h xs l =
+    let e : length xs / 3 ≡ length (noughts (3 * (length xs / 3))) / 3 = omega (arith, long-noughts (3 * (length xs / 3))) in
+    ap (λ (r : List Line). Header h ∷ r)
+    (told-append (map (atomLine xs) (upTo (length xs / 3))) (map rowLine l)
+    ∙ ap₂ (λ (u v : List Line). u ++ v) (told-atoms xs (3 * (length xs / 3)) (upTo (length xs / 3)) ∙ ap (λ (n : ℕ). map (atomLine (noughts (3 * (length xs / 3)))) (upTo n)) e) (told-rows l))
+
+-- noughts put over noughts
+noughts-put : (n j : ℕ) → sets (noughts (n + j)) 0 (noughts n) ≡ noughts (n + j)
+noughts-put n j =
+    front (noughts n) (noughts (n + j)) (omega (arith, long-noughts n, long-noughts (n + j)))
+    ∙ (ap (λ (i : ℕ). noughts n ++ drop i (noughts (n + j))) (long-noughts n) ∙ (ap (λ (r : List ℕ). noughts n ++ r) (drop-noughts n j) ∙ replicate-append-replicate n j 0))
+
+species-noughts : (n m : ℕ) → speciesIn n (noughts m) ≡ noughts n
+species-noughts zero m = refl
+species-noughts (suc n) m =
+    ap₂ (λ (r : List ℕ) (i : ℕ). r ++ (i ∷ [])) (species-noughts n m) (nought-at m (3 * n)) ∙ (replicate-append-replicate n 1 0 ∙ ap (λ (i : ℕ). noughts i) (add-one n))
+
+module _ (h : Head) (xs : List ℕ) (l : List (ℕ × ℕ)) (size : length xs ≡ 3 * h .atoms) (few : h .atoms ≤ 1024) (t : isTable l ≡ true) (k : length l ≤ 1024) where
+  kinds-written : (n : ℕ) → n ≡ 3 * h .atoms → run (writtenLines h (noughts n) l) 0 blank ≡ answered (record { header = some h; atoms = record { coords = noughts 3072; marks = sets (noughts 1024) 0 (ones (h .atoms)) }; rows = l })
+  unfolding come z m₀
+  kinds-written n e =
+      let j : 3072 ≡ n + (3072 - n) = omega arith in
+      run-written h (noughts n) l (long-noughts n ∙ e) few t k
+      ∙ ap (λ (c : List ℕ). answered (record { header = some h; atoms = record { coords = c; marks = sets (noughts 1024) 0 (ones (h .atoms)) }; rows = l }))
+      (ap (λ (i : ℕ). sets (noughts i) 0 (noughts n)) j ∙ (noughts-put n (3072 - n) ∙ ap (λ (i : ℕ). noughts i) (sym j)))
+
+  pub two-written : (s : List ℕ) → twosOf s ≡ map plainTwo (writtenLines h xs l) → sheetTwo s ≡ answered (record { sound = record { head = h; coords = xs; rows = l }; species = replicate (h .atoms) 0 })
+  unfolding sheetTwo ranTwo
+  two-written s e =
+      let n : 3 * (length xs / 3) ≡ 3 * h .atoms = omega arith in
+      let a : run (map (toldOf true) (twosOf s)) 0 blank ≡ answered (record { header = some h; atoms = record { coords = noughts 3072; marks = sets (noughts 1024) 0 (ones (h .atoms)) }; rows = l }) =
+      ap (λ (ls : List TwoLine). run (map (toldOf true) ls) 0 blank) e ∙ (ap (λ (ls : List Line). run ls 0 blank) (told-written h xs l) ∙ kinds-written (3 * (length xs / 3)) n) in
+      let b : run (map (toldOf false) (twosOf s)) 0 blank ≡ run (writtenLines h xs l) 0 blank = ap (λ (ls : List TwoLine). run (map (toldOf false) ls) 0 blank) e ∙ ap (λ (ls : List Line). run ls 0 blank) (told-core (writtenLines h xs l)) in
+      ap₂ paired a b
+      ∙ (ap (λ (x : Seen Sound). withSpecies x (noughts 3072)) (sound-written h xs l size few t k)
+      ∙ ap (λ (r : List ℕ). answered (record { sound = record { head = h; coords = xs; rows = l }; species = r })) (species-noughts (h .atoms) 3072))
+
+-- what `write_two` writes is read as that header, those coordinates and those rows, with species 0
+module _ (f : Frame) (xs table : List ℕ) (g : Fine f xs table) where
+  pub reads-two : sheetTwo (writtenTwo f xs table) ≡ answered (record { sound = record { head = headOf f (length xs / 3); coords = xs; rows = rows table }; species = replicate (length xs / 3) 0 })
+  unfolding writtenTwo
+  reads-two =
+      two-written (headOf f (length xs / 3)) xs (rows table) (omega (arith, head-atoms f xs table g, g .threes)) (omega (arith, head-atoms f xs table g, g .few)) (g .exclusions .ascending) (omega (arith, length-rows table, g .exclusions .few))
+      (plainText (writtenLines (headOf f (length xs / 3)) xs (rows table)))
+      (twos-of-text (map plainTwo (writtenLines (headOf f (length xs / 3)) xs (rows table))) (each-plain (writtenLines (headOf f (length xs / 3)) xs (rows table)) (valid-written f xs table g)))
+      ∙ ap (λ (n : ℕ). answered (record { sound = record { head = headOf f (length xs / 3); coords = xs; rows = rows table }; species = replicate n 0 })) (head-atoms f xs table g)
+
+  pub two-few : length (writtenTwo f xs table) ≤ 51241
+  two-few = omega (arith, bytes-two f xs table, g .few, g .exclusions .few)

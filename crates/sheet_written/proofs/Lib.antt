@@ -1,4 +1,5 @@
 pub mod OneAfterAnother
+pub mod TwoAfterAnother
 pub mod Cases
 pub mod Only
 pub mod Flags

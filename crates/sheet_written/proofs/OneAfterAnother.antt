@@ -32,26 +32,34 @@ three-put at x y z l m₁ m₂ m₃ p q r =
     let two : m₂ ≡ sets l at (text8 x ++ text8 y) = put-put 8 (text8 x) (text8 y) l m₁ m₂ at (length8 x) p q in
     put-put 16 (text8 x ++ text8 y) (text8 z) l m₂ m₃ at (simp (length-append, length8)) two r
 
-pub header-put : (h : Head) (l m₁ m₂ m₃ m₄ m₅ m₆ : List ℕ) → m₁ ≡ sets l 0 (text2 1) → m₂ ≡ sets m₁ 2 (text4 (h .atoms)) → m₃ ≡ sets m₂ 6 (text888 (h .ex) (h .ey) (h .ez)) → m₄ ≡ sets m₃ 30 (text2 (h .mask)) → m₅ ≡ sets m₄ 32 (text8 (h .radius)) → m₆ ≡ set m₅ 40 10 → m₆ ≡ sets l 0 (lineText (Header h))
-unfolding lineText
-header-put h l m₁ m₂ m₃ m₄ m₅ m₆ p q r s t u =
-    let a = text2 1 ++ text4 (h .atoms) in
-    let b = text2 1 ++ text4 (h .atoms) ++ text888 (h .ex) (h .ey) (h .ez) in
-    let d = text2 1 ++ text4 (h .atoms) ++ text888 (h .ex) (h .ey) (h .ez) ++ text2 (h .mask) in
-    let e = text2 1 ++ text4 (h .atoms) ++ text888 (h .ex) (h .ey) (h .ez) ++ text2 (h .mask) ++ text8 (h .radius) in
-    let two : m₂ ≡ sets l 0 a = put-put 2 (text2 1) (text4 (h .atoms)) l m₁ m₂ 0 (length2 1) p q in
+-- a header's numbers after the two digits of its kind
+pub head-put : (k : ℕ) (h : Head) (l m₁ m₂ m₃ m₄ m₅ m₆ : List ℕ) → m₁ ≡ sets l 0 (text2 k) → m₂ ≡ sets m₁ 2 (text4 (h .atoms)) → m₃ ≡ sets m₂ 6 (text888 (h .ex) (h .ey) (h .ez)) → m₄ ≡ sets m₃ 30 (text2 (h .mask)) → m₅ ≡ sets m₄ 32 (text8 (h .radius)) → m₆ ≡ set m₅ 40 10 → m₆ ≡ sets l 0 (text2 k ++ text4 (h .atoms) ++ text888 (h .ex) (h .ey) (h .ez) ++ text2 (h .mask) ++ text8 (h .radius) ++ (10 ∷ []))
+head-put k h l m₁ m₂ m₃ m₄ m₅ m₆ p q r s t u =
+    let a = text2 k ++ text4 (h .atoms) in
+    let b = text2 k ++ text4 (h .atoms) ++ text888 (h .ex) (h .ey) (h .ez) in
+    let d = text2 k ++ text4 (h .atoms) ++ text888 (h .ex) (h .ey) (h .ez) ++ text2 (h .mask) in
+    let e = text2 k ++ text4 (h .atoms) ++ text888 (h .ex) (h .ey) (h .ez) ++ text2 (h .mask) ++ text8 (h .radius) in
+    let two : m₂ ≡ sets l 0 a = put-put 2 (text2 k) (text4 (h .atoms)) l m₁ m₂ 0 (length2 k) p q in
     let three : m₃ ≡ sets l 0 b = put-put 6 a (text888 (h .ex) (h .ey) (h .ez)) l m₂ m₃ 0 (simp (length-append, length2, length4)) two r in
     let four : m₄ ≡ sets l 0 d = put-put 30 b (text2 (h .mask)) l m₃ m₄ 0 (simp (length-append, length2, length4, long888)) three s in
     let five : m₅ ≡ sets l 0 e = put-put 32 d (text8 (h .radius)) l m₄ m₅ 0 (simp (length-append, length2, length4, long888)) four t in
     put-put 40 e (10 ∷ []) l m₅ m₆ 0 (simp (length-append, length2, length4, length8, long888)) five u
 
+pub header-put : (h : Head) (l m₁ m₂ m₃ m₄ m₅ m₆ : List ℕ) → m₁ ≡ sets l 0 (text2 1) → m₂ ≡ sets m₁ 2 (text4 (h .atoms)) → m₃ ≡ sets m₂ 6 (text888 (h .ex) (h .ey) (h .ez)) → m₄ ≡ sets m₃ 30 (text2 (h .mask)) → m₅ ≡ sets m₄ 32 (text8 (h .radius)) → m₆ ≡ set m₅ 40 10 → m₆ ≡ sets l 0 (lineText (Header h))
+unfolding lineText
+header-put h l m₁ m₂ m₃ m₄ m₅ m₆ p q r s t u = head-put 1 h l m₁ m₂ m₃ m₄ m₅ m₆ p q r s t u
+
 -- ---- a line, and those that are left after it
 
+-- of any text of lines: what is left after a line, written after it
+pub turn-of : (text : Line → List ℕ) (total : List Line → List ℕ) (l : Line) (ls : List Line) → total (l ∷ ls) ≡ text l ++ total ls → (out out′ t : List ℕ) (at to : ℕ) → out′ ≡ sets out at (text l) → to ≡ at + length (text l) → sets out at (total (l ∷ ls)) ≡ t → sets out′ to (total ls) ≡ t
+turn-of text total l ls c out out′ t at to p q r =
+    ap (λ (o : List ℕ). sets o to (total ls)) p
+    ∙ (ap (λ (k : ℕ). sets (sets out at (text l)) k (total ls)) q
+    ∙ (sets-append (text l) (total ls) out at ∙ (ap (λ (x : List ℕ). sets out at x) (sym c) ∙ r)))
+
 pub line-turn : (l : Line) (ls : List Line) (out out′ t : List ℕ) (at to : ℕ) → out′ ≡ sets out at (lineText l) → to ≡ at + widthOf l → sets out at (sheetText (l ∷ ls)) ≡ t → sets out′ to (sheetText ls) ≡ t
-line-turn l ls out out′ t at to p q r =
-    ap (λ (o : List ℕ). sets o to (sheetText ls)) p
-    ∙ (ap (λ (k : ℕ). sets (sets out at (lineText l)) k (sheetText ls)) (q ∙ ap (λ (w : ℕ). at + w) (sym (length-text l)))
-    ∙ (sets-append (lineText l) (sheetText ls) out at ∙ r))
+line-turn l ls out out′ t at to p q r = turn-of lineText sheetText l ls refl out out′ t at to p (q ∙ ap (λ (w : ℕ). at + w) (sym (length-text l))) r
 
 -- ---- the atoms by number: what is left, written from here, gives what all gives from the start
 module _ (xs out₀ : List ℕ) where
@@ -116,20 +124,29 @@ module _ (table out₀ : List ℕ) (at : ℕ) where
 
 -- ---- the whole
 
+-- of any text of lines that is that of its lines, one after the other
+module _ (text : Line → List ℕ) (total : List Line → List ℕ) (nil : total [] ≡ []) (cons : (l : Line) (ls : List Line) → total (l ∷ ls) ≡ text l ++ total ls) where
+  pub append-of : (ls ks : List Line) → total (ls ++ ks) ≡ total ls ++ total ks
+  append-of [] ks = ap (λ (t : List ℕ). t ++ total ks) (sym nil)
+  append-of (l ∷ ls) ks =
+      cons l (ls ++ ks)
+      ∙ (ap (λ (t : List ℕ). text l ++ t) (append-of ls ks)
+      ∙ (sym (append-assoc (text l) (total ls) (total ks)) ∙ ap (λ (t : List ℕ). t ++ total ks) (sym (cons l ls))))
+
+  pub long-of : {A : Type 0} (f : A → Line) (w : ℕ) (l : List A) → ((a : A) → length (text (f a)) ≡ w) → length (total (map f l)) ≡ w * length l
+  long-of f w [] h = omega (arith, ap length nil)
+  long-of f w (a ∷ l) h =
+      ap length (cons (f a) (map f l))
+      ∙ (length-append (text (f a)) (total (map f l)) ∙ (ap (λ (k : ℕ). k + length (total (map f l))) (h a) ∙ (ap (λ (k : ℕ). w + k) (long-of f w l h) ∙ more w (length l))))
+    where
+      more : (w k : ℕ) → w + w * k ≡ w * suc k
+      more w k = sym (mul-suc w k ∙ add-comm (w * k) w)
+
 pub sheet-append : (ls ks : List Line) → sheetText (ls ++ ks) ≡ sheetText ls ++ sheetText ks
-sheet-append [] ks = refl
-sheet-append (l ∷ ls) ks =
-    ap (λ (t : List ℕ). lineText l ++ t) (sheet-append ls ks) ∙ sym (append-assoc (lineText l) (sheetText ls) (sheetText ks))
+sheet-append ls ks = append-of lineText sheetText refl (λ l ms. refl) ls ks
 
 long-map : {A : Type 0} (f : A → Line) (w : ℕ) (l : List A) → ((a : A) → widthOf (f a) ≡ w) → length (sheetText (map f l)) ≡ w * length l
-long-map f w [] h = omega arith
-long-map f w (a ∷ l) h =
-    let one : length (lineText (f a)) ≡ w = length-text (f a) ∙ h a in
-    let rest : length (sheetText (map f l)) ≡ w * length l = long-map f w l h in
-    length-append (lineText (f a)) (sheetText (map f l)) ∙ (ap (λ (k : ℕ). k + length (sheetText (map f l))) one ∙ (ap (λ (k : ℕ). w + k) rest ∙ more w (length l)))
-  where
-    more : (w k : ℕ) → w + w * k ≡ w * suc k
-    more w k = sym (mul-suc w k ∙ add-comm (w * k) w)
+long-map f w l h = long-of lineText sheetText refl (λ l ms. refl) f w l (λ a. length-text (f a) ∙ h a)
 
 pub long-atoms : (xs : List ℕ) → length (sheetText (atomLines xs)) ≡ 31 * (length xs / 3)
 unfolding atomLines atomLine

@@ -1,3 +1,4 @@
 pub mod Written
 pub mod Write
+pub mod WrittenTwo
 pub mod Theorems

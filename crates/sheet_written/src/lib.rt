@@ -8,6 +8,7 @@ use sheet_lines::Head;
 
 mod asked;
 mod lines;
+pub mod two;
 
 ghost use mathlib.Core.Path.{_≡_};
 ghost use Prim.Native.Nat.{_≤_};
@@ -22,7 +23,7 @@ fn bit(on: bool, worth: u32) -> u32
 }
 
 // The header of a frame with so many atoms.
-fn head_of(f: Frame, atoms: u32) -> Head
+pub(crate) fn head_of(f: Frame, atoms: u32) -> Head
     ensures { λ r. ⌜ r ≡ headOf f atoms ⌝ }
 {
     let x = bit(f.x.round, 1);

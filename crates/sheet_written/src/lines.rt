@@ -15,7 +15,7 @@ ghost use Rattle.sheet_lines.specs.declared.Line.the-variants.{Header, Atom, Ex
 ghost use Rattle.sheet_written.specs.Written.{atomLines, rowLine};
 
 // Three numbers of eight digits.
-fn put888(out: &mut [u8], at: usize, x: u32, y: u32, z: u32)
+pub(crate) fn put888(out: &mut [u8], at: usize, x: u32, y: u32, z: u32)
     requires { ⌜ at ≤ 65536 ⌝ }
     ensures { λ _. ⌜ now (out .exit) ≡ sets (now (out .entry)) at (text888 x y z) ⌝ }
 {
@@ -77,7 +77,7 @@ pub(crate) fn put_atoms(out: &mut [u8], xs: &[u32])
 
 // The exclusions, a line a row.
 pub(crate) fn put_rows(out: &mut [u8], at: usize, table: &[u32])
-    requires { ⌜ (at ≤ 32768) × (length (now table) ≤ 2049) ⌝ }
+    requires { ⌜ (at ≤ 43008) × (length (now table) ≤ 2049) ⌝ }
     ensures { λ _. ⌜ now (out .exit) ≡ sets (now (out .entry)) at (sheetText (map rowLine (rows (now (table .entry))))) ⌝ }
 {
     let m = table.len() / 2;

@@ -1,0 +1,3 @@
+pub mod Either
+pub mod Only
+pub mod Forms

@@ -1,0 +1,2 @@
+pub mod GrammarTwo
+pub mod WholeTwos
