@@ -25,10 +25,29 @@
 //! steps COUNT DT [SHOWN]           every so many steps a line of progress
 //! atom MASS SPECIES CHARGE X Y Z [VX VY VZ]
 //! grid NX NY NZ MASS SPECIES KELVIN      atoms spread evenly over the cell, with velocities of that temperature
+//! read FILE [KELVIN]               atoms and cell of an extended XYZ file (its last frame); velocities of that temperature where it gives none
+//! write FILE EVERY                 a trajectory in extended XYZ: at the start, every so many steps and at the end
+//! shells COUNT [PER_ANGSTROM]      at each line of progress the pairs within the list's cutoff are counted by distance; a table at the end
 //! unfold                           at the end also the mean squared displacement, of paths that are folded at each step and unfolded by their boxes
 //! ```
+//!
+//! A trajectory is written beside its name, as FILE.part, frame by whole frame, and gets its name when the run is done: nothing is half written. `python -m
+//! tyngyrlak.plot` draws what a run prints.
+#[path = "night/open.rs"]
+mod open;
+#[path = "night/shells.rs"]
+mod shells;
+#[path = "night/trajectory.rs"]
+mod trajectory;
+#[path = "night/xyz.rs"]
+mod xyz;
+
+use open::Open;
+use shells::Counted;
 use std::error::Error;
+use std::process::ExitCode;
 use std::time::Instant;
+use trajectory::Trajectory;
 use tyngyrlak::*;
 
 /// g/cm³ in one amu/Å³.
@@ -55,6 +74,11 @@ struct Run {
     positions: Vec<[f64; 3]>,
     velocities: Vec<[f64; 3]>,
     unfold: bool,
+    /// The file that was read, and the trajectory: its file and how often.
+    source: Option<String>,
+    trajectory: Option<(String, usize)>,
+    /// How many shells, and the whole numbers an Å.
+    shells: Option<(usize, f64)>,
 }
 
 /// How a fresh box is settled: the most iterations, the tolerance, and the iterations of a round.
@@ -95,10 +119,32 @@ impl Path {
     }
 }
 
-fn main() -> Result<(), Box<dyn Error>> {
+/// Velocities of a temperature: each component is uniform with its variance; the seed is fixed, so that a run can be repeated.
+fn shaken() -> impl FnMut(f64, f64) -> [f64; 3] {
+    let mut seed = 1u32;
+    move |kelvin, mass| {
+        let width = (3.0 * units::KB_EV_PER_K * kelvin * units::FORCE_TO_ACCEL / mass).sqrt();
+        [(); 3].map(|()| {
+            seed = seed.wrapping_mul(1664525).wrapping_add(1013904223);
+            width * ((seed >> 8) as f64 / 8388608.0 - 1.0)
+        })
+    }
+}
+
+fn main() -> ExitCode {
+    match night() {
+        Ok(()) => ExitCode::SUCCESS,
+        Err(e) => {
+            eprintln!("night: {e}");
+            ExitCode::FAILURE
+        }
+    }
+}
+
+fn night() -> Result<(), Box<dyn Error>> {
     let path = std::env::args().nth(1).unwrap_or(concat!(env!("CARGO_MANIFEST_DIR"), "/examples/argon.run").into());
     let mut run = Run::default();
-    for (at, line) in std::fs::read_to_string(&path)?.lines().enumerate() {
+    for (at, line) in std::fs::read_to_string(&path).map_err(|e| format!("{path}: {e}"))?.lines().enumerate() {
         let words: Vec<&str> = line.split('#').next().unwrap_or("").split_whitespace().collect();
         if let Some((&what, rest)) = words.split_first() {
             run.read(what, rest).map_err(|e| format!("{path}, line {}: {e}", at + 1))?;
@@ -113,6 +159,16 @@ impl Run {
             let axis = words.first().and_then(|w| "xyz".find(w)).ok_or("an axis is x, y or z")?;
             self.cell.as_mut().ok_or("there is no cell yet")?.periodic[axis] = false;
             return Ok(());
+        }
+        match (what, words) {
+            ("read", &[file]) => return self.file(file, 0.0),
+            ("read", &[file, kelvin]) => return self.file(file, kelvin.parse().map_err(|_| format!("`{kelvin}` is no temperature"))?),
+            ("write", &[file, every]) => {
+                let every = every.parse().ok().filter(|&k| k > 0).ok_or(format!("`{every}` is no number of steps"))?;
+                self.trajectory = Some((file.into(), every));
+                return Ok(());
+            }
+            _ => {}
         }
         let x = words.iter().map(|w| w.parse::<f64>().map_err(|_| format!("`{w}` is no number"))).collect::<Result<Vec<f64>, _>>()?;
         match (what, x.as_slice()) {
@@ -150,6 +206,8 @@ impl Run {
             ("atom", &[mass, species, charge, x, y, z]) => self.atom(mass, species, charge, [x, y, z], [0.0; 3]),
             ("atom", &[mass, species, charge, x, y, z, vx, vy, vz]) => self.atom(mass, species, charge, [x, y, z], [vx, vy, vz]),
             ("unfold", &[]) => self.unfold = true,
+            ("shells", &[count]) => self.shells = Some((count as usize, 1000.0)),
+            ("shells", &[count, per]) => self.shells = Some((count as usize, per)),
             ("grid", &[nx, ny, nz, mass, species, kelvin]) => self.grid([nx, ny, nz], mass, species, kelvin)?,
             _ => return Err(format!("`{what}` with {} numbers is nothing", x.len()).into()),
         }
@@ -170,29 +228,39 @@ impl Run {
         self.velocities.push(velocity);
     }
 
-    /// Each velocity component is uniform with the variance of the temperature; the seed is fixed, so that a run can be repeated.
+    fn file(&mut self, file: &str, kelvin: f64) -> Result<(), Box<dyn Error>> {
+        let text = std::fs::read_to_string(file).map_err(|e| format!("{file}: {e}"))?;
+        let frame = xyz::read(file, &text)?;
+        self.cell = frame.cell.or(self.cell);
+        self.source = Some(file.into());
+        let mut shake = shaken();
+        for a in frame.atoms {
+            let velocity = if frame.moving { a.velocity } else { shake(kelvin, a.mass) };
+            self.atom(a.mass, f64::from(a.number), a.charge, a.position, velocity);
+        }
+        Ok(())
+    }
+
     fn grid(&mut self, counts: [f64; 3], mass: f64, species: f64, kelvin: f64) -> Result<(), Box<dyn Error>> {
         let cell = self.cell.ok_or("a grid wants a cell")?;
-        let width = (3.0 * units::KB_EV_PER_K * kelvin * units::FORCE_TO_ACCEL / mass).sqrt();
-        let mut seed = 1u32;
-        let mut shake = || {
-            seed = seed.wrapping_mul(1664525).wrapping_add(1013904223);
-            width * ((seed >> 8) as f64 / 8388608.0 - 1.0)
-        };
+        let mut shake = shaken();
         let [nx, ny, nz] = counts.map(|c| c as usize);
         for i in 0..nx * ny * nz {
             let s = [i / (ny * nz), i / nz % ny, i % nz];
             let s = [0, 1, 2].map(|k| (s[k] as f64 + 0.5) / counts[k]);
-            self.atom(mass, species, 0.0, cell.to_cartesian(s)?, [shake(), shake(), shake()]);
+            self.atom(mass, species, 0.0, cell.to_cartesian(s)?, shake(kelvin, mass));
         }
         Ok(())
     }
 
     /// FIRE's velocities are its own: the atoms keep theirs.
-    fn settle(&mut self, settle: Settle, eval: &mut Evaluator) -> Result<(), Box<dyn Error>> {
+    fn settle(&mut self, settle: Settle, open: &mut Option<Open>, eval: &mut Evaluator) -> Result<(), Box<dyn Error>> {
         let mut own = vec![[0.0; 3]; self.positions.len()];
         let (mut done, round) = (0, settle.shown.max(1));
         loop {
+            if let Some(lent) = open.as_mut().and_then(|o| o.changed(&self.positions)) {
+                eval.cell = lent;
+            }
             let opts = FireOptions { max_iters: round.min(settle.most - done), force_tol: settle.tolerance, ..FireOptions::default() };
             let r = fire(&mut self.positions, &mut own, &self.masses, &opts, eval).map_err(|e| format!("settling, after {done} iterations: {e}"))?;
             done += r.iters;
@@ -203,9 +271,24 @@ impl Run {
         }
     }
 
+    /// The trajectory, where one is wanted: it is tested here and begun when the first evaluation was answered.
+    fn planned(&self) -> Result<Option<Trajectory>, String> {
+        let Some((file, every)) = &self.trajectory else { return Ok(None) };
+        if self.source.as_ref() == Some(file) {
+            return Err(format!("{file} is read: the trajectory wants another name"));
+        }
+        let atom = |k: usize| xyz::Atom { number: self.numbers[k], mass: self.masses[k], charge: self.charges[k], ..Default::default() };
+        Trajectory::planned(file, *every, self.cell, (0..self.numbers.len()).map(atom).collect()).map(Some)
+    }
+
     fn go(mut self) -> Result<(), Box<dyn Error>> {
         let n = self.positions.len();
         let dof = 3.0 * n as f64;
+        let cell = self.cell;
+        let volume = cell.map(|c| c.volume()).transpose()?.map(f64::abs);
+        let mut trajectory = self.planned()?;
+        let mut shells = self.shells.map(|(count, per)| Counted::new(count, per, cell, self.list.cutoff, &self.excluded)).transpose()?;
+        let mut open = cell.and_then(|c| Open::new(c, self.list.cutoff + self.list.skin));
         let terms = Terms {
             lennard_jones: self.lj.take().map(|lj| (lj, std::mem::take(&mut self.numbers))),
             coulomb: self.coulomb.take().map(|q| (q, std::mem::take(&mut self.charges))),
@@ -215,29 +298,52 @@ impl Run {
         self.list.set_exclusions(std::mem::take(&mut self.excluded));
         let mut eval = Evaluator::new(std::mem::take(&mut self.list), &terms, self.cell);
         if let Some(settle) = self.settle.take() {
-            self.settle(settle, &mut eval)?;
+            self.settle(settle, &mut open, &mut eval)?;
+        }
+        if let Some(lent) = open.as_mut().and_then(|o| o.changed(&self.positions)) {
+            eval.cell = lent;
         }
         let start = eval.evaluate(&self.positions)?;
         let (mut forces, mut potential) = (start.forces, start.energy);
         println!("{n} atoms, {} pairs, {} steps of {} fs", eval.list.pair_rows().len(), self.steps, self.dt);
-        let cell = self.cell;
+        if let Some(t) = &mut trajectory {
+            t.begin()?;
+            t.add(0, 0.0, potential, &self.positions, &self.velocities)?;
+        }
         let mut paths = Vec::new();
         if self.unfold {
             paths = self.positions.iter().map(|&r| Path::new(cell.as_ref(), r)).collect::<Result<Vec<_>, _>>()?;
         }
         let (clock, shown) = (Instant::now(), if self.shown == 0 { self.steps.div_ceil(10).max(1) } else { self.shown });
         for step in 1..=self.steps {
+            if let Some(lent) = open.as_mut().and_then(|o| o.changed(&self.positions)) {
+                eval.cell = lent;
+            }
             verlet_step(self.dt, self.thermostat, &mut self.positions, &mut self.velocities, &self.masses, &mut forces, &mut potential, &mut eval)
                 .map_err(|e| format!("step {step}: {e}"))?;
             for (path, &r) in paths.iter_mut().zip(&self.positions) {
                 path.seen(cell.as_ref(), r)?;
             }
+            if let Some(t) = trajectory.as_mut().filter(|t| t.due(step) || step == self.steps) {
+                t.add(step, step as f64 * self.dt, potential, &self.positions, &self.velocities)?;
+            }
             if step % shown == 0 || step == self.steps {
                 let kinetic = kinetic_energy(&self.velocities, &self.masses)?;
                 let kelvin = temperature(&self.velocities, &self.masses, dof)?;
                 let rate = step as f64 / clock.elapsed().as_secs_f64();
-                println!("step {step:>8}  {kelvin:9.3} K  {:14.6} eV  {:>5} builds  {rate:8.1} steps/s", kinetic + potential, eval.list.builds());
+                let mut pressed = String::new();
+                if let Some(v) = volume {
+                    let virial = eval.evaluate(&self.positions)?.scalar_virial()?;
+                    pressed = format!("  {:12.4} MPa", 1000.0 * to_gpa(pressure(kinetic, virial, v)?)?);
+                }
+                println!("step {step:>8}  {kelvin:9.3} K  {:14.6} eV{pressed}  {:>5} builds  {rate:8.1} steps/s", kinetic + potential, eval.list.builds());
+                if let Some(counted) = &mut shells {
+                    counted.add(&self.positions)?;
+                }
             }
+        }
+        if let Some(t) = trajectory {
+            t.finish()?;
         }
         let end = eval.evaluate(&self.positions)?;
         println!("temperature  {:.6} K", temperature(&self.velocities, &self.masses, dof)?);
@@ -245,11 +351,13 @@ impl Run {
             let sum = paths.iter().map(|p| p.squared(cell.as_ref())).sum::<Result<f64, _>>()?;
             println!("displacement {:.6} A2, mean of the squares", sum / n as f64);
         }
-        let Some(cell) = cell else {
+        if let Some(counted) = &shells {
+            counted.print();
+        }
+        let Some(volume) = volume else {
             println!("no cell: no density and no pressure");
             return Ok(());
         };
-        let volume = cell.volume()?.abs();
         let p = pressure(kinetic_energy(&self.velocities, &self.masses)?, end.scalar_virial()?, volume)?;
         println!("density      {:.6} g/cm3", GRAMS * self.masses.iter().sum::<f64>() / volume);
         println!("pressure     {:.6} MPa", 1000.0 * to_gpa(p)?);
