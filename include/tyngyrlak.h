@@ -386,6 +386,40 @@ typedef struct {
     tyn_state state;
 } tyn_fired;
 
+/* How many rows of each table are left; lengths and ks are the Rust's per_bond and per_bond_k. */
+typedef struct {
+    size_t atoms;
+    size_t bonds;
+    size_t lengths;
+    size_t ks;
+    size_t angles;
+    size_t per_angle;
+    size_t exclusions;
+} tyn_left;
+
+/* How many rows of each table are left, zeros where refused; and the list's state, which comes back in every case. */
+typedef struct {
+    tyn_done done;
+    tyn_left left;
+    tyn_state state;
+} tyn_struck;
+
+/* One atom with all its numbers. */
+typedef struct {
+    tyn_vec3 position;
+    tyn_vec3 velocity;
+    double mass;
+    double charge;
+    uint32_t species;
+} tyn_new_atom;
+
+/* How many atoms there are now; and the list's state, which comes back in every case. */
+typedef struct {
+    tyn_done done;
+    uint32_t count;
+    tyn_state state;
+} tyn_entered;
+
 /* ---- Helpers on floats: total on every float, no refusal. One not-a-number. */
 
 /* The square root of x, rounded to nearest; of a number below 0 not a number. */
@@ -712,6 +746,22 @@ tyn_fired tyn_fire(tyn_fire_options o, tyn_setting setting, tyn_state s, const u
     const uint32_t *exclusions, size_t exclusions_len, double *positions, size_t positions_len, double *velocities, size_t velocities_len,
     uint32_t *pairs, size_t pairs_len, double *references, size_t references_len, uint32_t *starts, size_t starts_len, uint32_t *items,
     size_t items_len, double *forces, size_t forces_len);
+
+/* ---- Atoms struck from a running melt, and put into it. */
+
+/* Strike the atoms whose mark is 1 (0 keeps one), with every bond, angle and exclusion that names one and the rows of lengths, ks and per_angle
+ * beside them; an exclusion that names no atom and rows past the last bond or angle go too. In place: survivors in their old order at the front, past
+ * the new counts everything as it came. The state has no pairs and no references then. Refusals 1, 2, 3 (a mark), 4 (a bond, then an angle), 5;
+ * nothing is moved then. */
+tyn_struck tyn_strike(const uint32_t *marks, size_t marks_len, tyn_state s, double *positions, size_t positions_len, double *velocities,
+    size_t velocities_len, double *masses, size_t masses_len, double *charges, size_t charges_len, uint32_t *species, size_t species_len,
+    uint32_t *bonds, size_t bonds_len, double *lengths, size_t lengths_len, double *ks, size_t ks_len, uint32_t *angles, size_t angles_len,
+    double *per_angle, size_t per_angle_len, uint32_t *exclusions, size_t exclusions_len);
+
+/* One atom more after the first count, with all its numbers. The state has no pairs and no references then. Refusals 1 (also where the room is full),
+ * 2, 3; nothing is stored then. */
+tyn_entered tyn_put(uint32_t count, tyn_new_atom new, tyn_state s, double *positions, size_t positions_len, double *velocities,
+    size_t velocities_len, double *masses, size_t masses_len, double *charges, size_t charges_len, uint32_t *species, size_t species_len);
 
 #ifdef __cplusplus
 }

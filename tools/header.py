@@ -9,8 +9,8 @@ import textwrap
 
 ROOT = os.path.dirname(os.path.dirname(os.path.abspath(__file__)))
 HEADER = os.path.join(ROOT, "include", "tyngyrlak.h")
-GROUPS = ["floats", "cells", "virials", "pairs", "boxes", "parts", "frames", "skins", "counts", "clumps", "sheets", "desks", "forces", "angles", "speeds", "motion", "settlings"]
-STRUCTS = ["cell/src/lib", "virial/src/lib", "potentials/src/lib", "potentials_angle/src/lib", "frame/src/lib", "field_structs/src/lib"]
+GROUPS = ["floats", "cells", "virials", "pairs", "boxes", "parts", "frames", "skins", "counts", "clumps", "sheets", "desks", "forces", "angles", "speeds", "motion", "settlings", "strikes"]
+STRUCTS = ["cell/src/lib", "virial/src/lib", "potentials/src/lib", "potentials_angle/src/lib", "frame/src/lib", "strike/src/lib", "field_structs/src/lib"]
 NUMBERS = {"f64": "double", "u8": "uint8_t", "u32": "uint32_t", "u64": "uint64_t", "i32": "int32_t", "i64": "int64_t", "usize": "size_t"}
 
 TOP = """\

@@ -263,6 +263,46 @@ class Fire(unittest.TestCase):
                          "tyn_fire: refusal 7, place 0: the grid needs more than 32,768 cells (in iteration 4) (the step stopped after its drift)")
 
 
+class Melts(unittest.TestCase):
+    def melt(self, n):
+        p = liquid(n, 24.0)
+        species, charges = np.arange(n, dtype=np.uint32) % 2, 0.01 * (np.arange(n) % 3 - 1.0)
+        bonds = [(i, i + 1) for i in range(0, n - 1, 2)]
+        terms = t.Terms(
+            lennard_jones=(t.LennardJones({0: (0.01, 3.4), 1: (0.02, 3.0)}, (1.0, 1.0), 6.0), species), coulomb=(t.Coulomb(6.0), charges),
+            bonds=(t.HarmonicBonds(0.5, 3.0, per_bond=np.linspace(2.5, 3.5, 9)), bonds),
+        )
+        list = t.NeighborList(6.0, 1.0)
+        list.set_exclusions(bonds)
+        return t.Melt(t.Evaluator(list, terms, t.Lattice.cubic(24.0)), p, np.zeros((n, 3)), np.linspace(12.0, 40.0, n))
+
+    def test_struck_and_put(self):
+        m = self.melt(60)
+        for _ in range(5):
+            m.step(1.0)
+        before, masses = m.positions.copy(), m.masses.copy()
+        marks = np.arange(60) % 7 == 3
+        left = m.strike(marks)
+        self.assertEqual(left.atoms, 60 - marks.sum())
+        self.assertTrue(np.array_equal(m.positions, before[~marks]) and np.array_equal(m.masses, masses[~marks]))
+        stay = np.cumsum(~marks) - 1
+        pairs = [(int(stay[i]), int(stay[i + 1])) for i in range(0, 59, 2) if not marks[i] and not marks[i + 1]]
+        self.assertEqual(m.evaluator.list.exclusions(), set(pairs))
+        self.assertEqual(left.bonds, len(pairs))
+        self.assertEqual(m.put(t.NewAtom((1.0, 2.0, 3.0), (0.0, 0.0, 0.0), 18.0, 0.01, 1)), left.atoms)
+        self.assertEqual((m.positions[-1].tolist(), m.masses[-1]), ([1.0, 2.0, 3.0], 18.0))
+        m.step(0.01)
+
+    def test_refusals(self):
+        m = self.melt(8)
+        before = m.positions.copy()
+        self.assertEqual(refused(self, m.strike, np.zeros(7, bool)), (1, 0))
+        self.assertEqual(refused(self, m.put, t.NewAtom((1e9, 0.0, 0.0), (0.0, 0.0, 0.0), 18.0)), (3, 0))
+        self.assertTrue(np.array_equal(m.positions, before))
+        with self.assertRaises(TypeError):
+            m.strike([1] * 8)
+
+
 class Sheets(unittest.TestCase):
     SHEET = (
         b"020003000000050000000500000008\n0300020000\n0100040000000a0000000a0000000a0700000003\n"

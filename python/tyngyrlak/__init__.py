@@ -19,6 +19,7 @@ from .error import Error
 from .evaluate import Evaluator, Terms
 from .fire import FireOptions, FireResult, fire
 from .frame import Frame, FramePairs, Sheet, Snapshot
+from .melt import Left, Melt, NewAtom
 from .neighbor import NeighborList
 from .potentials import CosineAngles, Coulomb, HarmonicBonds, LennardJones
 from .shells import Shells
@@ -28,7 +29,7 @@ from .virial import Contribution, pressure, pressure_tensor, to_gpa
 __version__ = "0.1.0"
 __all__ = [
     "Berendsen", "Clumps", "Contribution", "CosineAngles", "Coulomb", "Error", "Evaluator", "FireOptions", "FireResult", "Frame", "FramePairs", "HarmonicBonds", "Lattice",
-    "LennardJones", "NeighborList", "NotProved", "Sheet", "Shells", "Snapshot", "Stepped", "Terms", "apply_berendsen", "clumps", "fire", "kinetic_energy", "label",
+    "Left", "LennardJones", "Melt", "NeighborList", "NewAtom", "NotProved", "Sheet", "Shells", "Snapshot", "Stepped", "Terms", "apply_berendsen", "clumps", "fire", "kinetic_energy", "label",
     "library", "made", "min_image", "min_image_counted", "pressure", "pressure_tensor", "sheet", "sheet_clumps", "temperature", "to_gpa", "units",
     "verlet_finish", "verlet_step",
 ]

@@ -300,6 +300,33 @@ class Fired(Structure):
     ]
 
 
+class Left(Structure):
+    """How many rows of each table are left; lengths and ks are the Rust's per_bond and per_bond_k."""
+
+    _fields_ = [
+        ("atoms", c_size_t), ("bonds", c_size_t), ("lengths", c_size_t), ("ks", c_size_t), ("angles", c_size_t), ("per_angle", c_size_t),
+        ("exclusions", c_size_t),
+    ]
+
+
+class Struck(Structure):
+    """How many rows of each table are left, zeros where refused; and the list's state, which comes back in every case."""
+
+    _fields_ = [("done", Done), ("left", Left), ("state", State)]
+
+
+class NewAtom(Structure):
+    """One atom with all its numbers."""
+
+    _fields_ = [("position", Vec3), ("velocity", Vec3), ("mass", c_double), ("charge", c_double), ("species", c_uint32)]
+
+
+class Entered(Structure):
+    """How many atoms there are now; and the list's state, which comes back in every case."""
+
+    _fields_ = [("done", Done), ("count", c_uint32), ("state", State)]
+
+
 tyn_root = Call("tyn_root", c_double, (plain("x", c_double),), "The square root of x, rounded to nearest; of a number below 0 not a number.")
 
 tyn_floor = Call("tyn_floor", c_double, (plain("x", c_double),), "The largest whole number that is at most x.")
@@ -587,3 +614,15 @@ tyn_fire = Call("tyn_fire", Fired, (
     lent("velocities", "float64", True), lent("pairs", "uint32", True), lent("references", "float64", True), lent("starts", "uint32", True),
     lent("items", "uint32", True), lent("forces", "float64", True),
 ), "Relaxes the positions to a local minimum of the energy by damped steps: the first evaluation, the atoms at rest, then iterations until the largest force component is within the tolerance or the limit is reached. forces is a room. A refusal inside an iteration tells it and leaves what a step stopped there leaves. Refusals 1, 2, 6, 3, 4, 5, then 7, 8, in an iteration also the drift (3, place 1).")
+
+tyn_strike = Call("tyn_strike", Struck, (
+    lent("marks", "uint32", False), plain("s", State), lent("positions", "float64", True), lent("velocities", "float64", True),
+    lent("masses", "float64", True), lent("charges", "float64", True), lent("species", "uint32", True), lent("bonds", "uint32", True),
+    lent("lengths", "float64", True), lent("ks", "float64", True), lent("angles", "uint32", True), lent("per_angle", "float64", True),
+    lent("exclusions", "uint32", True),
+), "Strike the atoms whose mark is 1 (0 keeps one), with every bond, angle and exclusion that names one and the rows of lengths, ks and per_angle beside them; an exclusion that names no atom and rows past the last bond or angle go too. In place: survivors in their old order at the front, past the new counts everything as it came. The state has no pairs and no references then. Refusals 1, 2, 3 (a mark), 4 (a bond, then an angle), 5; nothing is moved then.")
+
+tyn_put = Call("tyn_put", Entered, (
+    whole("count", c_uint32), plain("new", NewAtom), plain("s", State), lent("positions", "float64", True), lent("velocities", "float64", True),
+    lent("masses", "float64", True), lent("charges", "float64", True), lent("species", "uint32", True),
+), "One atom more after the first count, with all its numbers. The state has no pairs and no references then. Refusals 1 (also where the room is full), 2, 3; nothing is stored then.")

@@ -99,6 +99,11 @@ class Evaluator:
             self.list.put_back(kept)
             positions[...], velocities[...] = p, v
 
+    def ready(self, n):
+        """The tables of what belongs to atoms, for so many of them. (A Melt strikes and puts in them.)"""
+        self._make_ready(n)
+        return self._tables
+
     def _setting(self):
         """The terms with the cell of now: both may have changed since the last call."""
         lj, coulomb, bond, angle = self._terms

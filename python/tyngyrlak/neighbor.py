@@ -125,6 +125,10 @@ class NeighborList:
         s.cutoff, s.skin = self.cutoff, self.skin
         return s
 
+    def emptied(self, state, excluded):
+        """What a strike or a new atom leaves of the list: this state, and so many rows of the exclusion table."""
+        self.cutoff, self.skin, self._state, self._excluded = state.cutoff, state.skin, state, excluded
+
     def table(self):
         """The exclusion table."""
         return self._table[: 2 * self._excluded]

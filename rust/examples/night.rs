@@ -28,6 +28,7 @@
 //! read FILE [KELVIN]               atoms and cell of an extended XYZ file (its last frame); velocities of that temperature where it gives none
 //! write FILE EVERY                 a trajectory in extended XYZ: at the start, every so many steps and at the end
 //! shells COUNT [PER_ANGSTROM]      at each line of progress the pairs within the list's cutoff are counted by distance; a table at the end
+//! slab LOW HIGH                    atoms whose z is outside are struck, with their bonds, angles and exclusions, whenever a line is shown
 //! unfold                           at the end also the mean squared displacement, of paths that are folded at each step and unfolded by their boxes
 //! ```
 //!
@@ -79,6 +80,7 @@ struct Run {
     trajectory: Option<(String, usize)>,
     /// How many shells, and the whole numbers an Å.
     shells: Option<(usize, f64)>,
+    slab: Option<[f64; 2]>,
 }
 
 /// How a fresh box is settled: the most iterations, the tolerance, and the iterations of a round.
@@ -208,6 +210,7 @@ impl Run {
             ("unfold", &[]) => self.unfold = true,
             ("shells", &[count]) => self.shells = Some((count as usize, 1000.0)),
             ("shells", &[count, per]) => self.shells = Some((count as usize, per)),
+            ("slab", &[low, high]) => self.slab = Some([low, high]),
             ("grid", &[nx, ny, nz, mass, species, kelvin]) => self.grid([nx, ny, nz], mass, species, kelvin)?,
             _ => return Err(format!("`{what}` with {} numbers is nothing", x.len()).into()),
         }
@@ -282,10 +285,11 @@ impl Run {
     }
 
     fn go(mut self) -> Result<(), Box<dyn Error>> {
-        let n = self.positions.len();
-        let dof = 3.0 * n as f64;
         let cell = self.cell;
         let volume = cell.map(|c| c.volume()).transpose()?.map(f64::abs);
+        if self.slab.is_some() && self.shells.is_some() {
+            return Err("shells count the same atoms at each line: not beside a slab".into());
+        }
         let mut trajectory = self.planned()?;
         let mut shells = self.shells.map(|(count, per)| Counted::new(count, per, cell, self.list.cutoff, &self.excluded)).transpose()?;
         let mut open = cell.and_then(|c| Open::new(c, self.list.cutoff + self.list.skin));
@@ -303,53 +307,58 @@ impl Run {
         if let Some(lent) = open.as_mut().and_then(|o| o.changed(&self.positions)) {
             eval.cell = lent;
         }
-        let start = eval.evaluate(&self.positions)?;
-        let (mut forces, mut potential) = (start.forces, start.energy);
-        println!("{n} atoms, {} pairs, {} steps of {} fs", eval.list.pair_rows().len(), self.steps, self.dt);
+        let mut melt = Melt::new(eval, std::mem::take(&mut self.positions), std::mem::take(&mut self.velocities), std::mem::take(&mut self.masses))?;
+        let n = melt.positions().len();
+        println!("{n} atoms, {} pairs, {} steps of {} fs", melt.evaluator().list.pair_rows().len(), self.steps, self.dt);
         if let Some(t) = &mut trajectory {
             t.begin()?;
-            t.add(0, 0.0, potential, &self.positions, &self.velocities)?;
+            t.add(0, 0.0, melt.potential(), melt.positions(), melt.velocities())?;
         }
         let mut paths = Vec::new();
         if self.unfold {
-            paths = self.positions.iter().map(|&r| Path::new(cell.as_ref(), r)).collect::<Result<Vec<_>, _>>()?;
+            paths = melt.positions().iter().map(|&r| Path::new(cell.as_ref(), r)).collect::<Result<Vec<_>, _>>()?;
         }
         let (clock, shown) = (Instant::now(), if self.shown == 0 { self.steps.div_ceil(10).max(1) } else { self.shown });
         for step in 1..=self.steps {
-            if let Some(lent) = open.as_mut().and_then(|o| o.changed(&self.positions)) {
-                eval.cell = lent;
+            if let Some(lent) = open.as_mut().and_then(|o| o.changed(melt.positions())) {
+                melt.set_cell(lent);
             }
-            verlet_step(self.dt, self.thermostat, &mut self.positions, &mut self.velocities, &self.masses, &mut forces, &mut potential, &mut eval)
-                .map_err(|e| format!("step {step}: {e}"))?;
-            for (path, &r) in paths.iter_mut().zip(&self.positions) {
+            melt.step(self.dt, self.thermostat).map_err(|e| format!("step {step}: {e}"))?;
+            for (path, &r) in paths.iter_mut().zip(melt.positions()) {
                 path.seen(cell.as_ref(), r)?;
             }
             if let Some(t) = trajectory.as_mut().filter(|t| t.due(step) || step == self.steps) {
-                t.add(step, step as f64 * self.dt, potential, &self.positions, &self.velocities)?;
+                t.add(step, step as f64 * self.dt, melt.potential(), melt.positions(), melt.velocities())?;
             }
             if step % shown == 0 || step == self.steps {
-                let kinetic = kinetic_energy(&self.velocities, &self.masses)?;
-                let kelvin = temperature(&self.velocities, &self.masses, dof)?;
+                let kinetic = kinetic_energy(melt.velocities(), melt.masses())?;
                 let rate = step as f64 / clock.elapsed().as_secs_f64();
                 let mut pressed = String::new();
                 if let Some(v) = volume {
-                    let virial = eval.evaluate(&self.positions)?.scalar_virial()?;
+                    let virial = melt.evaluate()?.scalar_virial()?;
                     pressed = format!("  {:12.4} MPa", 1000.0 * to_gpa(pressure(kinetic, virial, v)?)?);
                 }
-                println!("step {step:>8}  {kelvin:9.3} K  {:14.6} eV{pressed}  {:>5} builds  {rate:8.1} steps/s", kinetic + potential, eval.list.builds());
+                let (kelvin, builds) = (kelvin(&melt)?, melt.evaluator().list.builds());
+                println!("step {step:>8}  {kelvin:9.3} K  {:14.6} eV{pressed}  {builds:>5} builds  {rate:8.1} steps/s", kinetic + melt.potential());
                 if let Some(counted) = &mut shells {
-                    counted.add(&self.positions)?;
+                    counted.add(melt.positions())?;
+                }
+                if let Some(slab) = self.slab {
+                    leave(&mut melt, slab, &mut paths, &mut trajectory)?;
                 }
             }
         }
         if let Some(t) = trajectory {
             t.finish()?;
         }
-        let end = eval.evaluate(&self.positions)?;
-        println!("temperature  {:.6} K", temperature(&self.velocities, &self.masses, dof)?);
+        let end = melt.evaluate()?;
+        println!("temperature  {:.6} K", kelvin(&melt)?);
+        if self.slab.is_some() {
+            println!("struck       {} atoms, {} left", n - melt.positions().len(), melt.positions().len());
+        }
         if self.unfold {
             let sum = paths.iter().map(|p| p.squared(cell.as_ref())).sum::<Result<f64, _>>()?;
-            println!("displacement {:.6} A2, mean of the squares", sum / n as f64);
+            println!("displacement {:.6} A2, mean of the squares", sum / paths.len() as f64);
         }
         if let Some(counted) = &shells {
             counted.print();
@@ -358,9 +367,27 @@ impl Run {
             println!("no cell: no density and no pressure");
             return Ok(());
         };
-        let p = pressure(kinetic_energy(&self.velocities, &self.masses)?, end.scalar_virial()?, volume)?;
-        println!("density      {:.6} g/cm3", GRAMS * self.masses.iter().sum::<f64>() / volume);
+        let p = pressure(kinetic_energy(melt.velocities(), melt.masses())?, end.scalar_virial()?, volume)?;
+        println!("density      {:.6} g/cm3", GRAMS * melt.masses().iter().sum::<f64>() / volume);
         println!("pressure     {:.6} MPa", 1000.0 * to_gpa(p)?);
         Ok(())
     }
+}
+
+fn kelvin(melt: &Melt) -> Result<f64, tyngyrlak::Error> {
+    temperature(melt.velocities(), melt.masses(), 3.0 * melt.positions().len() as f64)
+}
+
+/// Strikes the atoms that left the slab, with their paths and their place in the trajectory.
+fn leave(melt: &mut Melt, [low, high]: [f64; 2], paths: &mut Vec<Path>, trajectory: &mut Option<Trajectory>) -> Result<(), tyngyrlak::Error> {
+    let marks: Vec<bool> = melt.positions().iter().map(|r| r[2] < low || high < r[2]).collect();
+    if marks.contains(&true) {
+        melt.strike(&marks)?;
+        if let Some(t) = trajectory {
+            t.strike(&marks);
+        }
+        let mut marks = marks.iter();
+        paths.retain(|_| marks.next() == Some(&false));
+    }
+    Ok(())
 }

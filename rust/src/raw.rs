@@ -37,6 +37,9 @@ structs! {
     FireOptions { max_iters: u32, force_tol: f64, dt: f64, dt_max: f64 }
     Frame { ex: u32, ey: u32, ez: u32, px: u32, py: u32, pz: u32, radius: u32 }
     Spot { x: u32, y: u32, z: u32 }
+    /// How many rows of each table are left.
+    Left { atoms: usize, bonds: usize, lengths: usize, ks: usize, angles: usize, per_angle: usize, exclusions: usize }
+    NewAtom { position: Vec3, velocity: Vec3, mass: f64, charge: f64, species: u32 }
 
     YesNo { done: Done, value: u32 }
     RowsAnswer { done: Done, rows: Rows }
@@ -57,6 +60,8 @@ structs! {
     Evaluated { done: Done, rebuilt: u32, state: State, sum: Sum }
     Stepped { done: Done, stopped: u32, rebuilt: u32, state: State, potential: f64 }
     Fired { done: Done, iteration: u32, stopped: u32, converged: u32, energy: f64, max_force: f64, state: State }
+    Struck { done: Done, left: Left, state: State }
+    Entered { done: Done, count: u32, state: State }
 }
 
 // Splits each argument into what C is handed ([..] of a declaration), the parameter of the safe form, and what it hands on: a slice is a pointer and a length.
@@ -159,6 +164,11 @@ calls! {
     fn tyn_fire(o: FireOptions, setting: Setting, s: State, own_ids: &[u32], own_params: &[f64], ids: &[u32], params: &[f64], species: &[u32], charges: &[f64], bonds: &[u32],
         lengths: &[f64], ks: &[f64], angles: &[u32], per_angle: &[f64], masses: &[f64], exclusions: &[u32], positions: &mut [f64], velocities: &mut [f64], pairs: &mut [u32],
         references: &mut [f64], starts: &mut [u32], items: &mut [u32], forces: &mut [f64]) -> Fired;
+
+    fn tyn_strike(marks: &[u32], s: State, positions: &mut [f64], velocities: &mut [f64], masses: &mut [f64], charges: &mut [f64], species: &mut [u32],
+        bonds: &mut [u32], lengths: &mut [f64], ks: &mut [f64], angles: &mut [u32], per_angle: &mut [f64], exclusions: &mut [u32]) -> Struck;
+    fn tyn_put(count: u32, new: NewAtom, s: State, positions: &mut [f64], velocities: &mut [f64], masses: &mut [f64], charges: &mut [f64],
+        species: &mut [u32]) -> Entered;
 }
 
 impl From<[f64; 3]> for Vec3 {

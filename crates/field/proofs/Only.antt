@@ -19,6 +19,7 @@ use Rattle.verlet_step.proofs.Only.{step-only, finish-only}
 use Rattle.frame.proofs.Only.{squared-distance-only, build-only}
 use Rattle.skin.proofs.Only.{within-skin-only}
 use Rattle.shells.proofs.Only.{add-shells-only}
+use Rattle.strike.proofs.Only.{strike-only, put-only}
 use Rattle.sheet.proofs.Only.{read-only}
 use Rattle.sheet_answer.proofs.Only.{solve-only}
 use Rattle.clumps_label.proofs.Only.{label-only}
@@ -108,6 +109,8 @@ use Rattle.field.proofs.speeds.tyn_kinetic_energy as kinetic-energy
 use Rattle.field.proofs.speeds.tyn_temperature as temperature
 use Rattle.field.proofs.speeds.tyn_berendsen as berendsen
 use Rattle.field.proofs.settlings.tyn_fire as settling
+use Rattle.field.proofs.strikes.tyn_strike as strike
+use Rattle.field.proofs.strikes.tyn_put as put
 use Rattle.field.proofs.motion.tyn_step as step
 use Rattle.field.proofs.motion.tyn_finish as finish
 
@@ -367,3 +370,10 @@ tyn-finish-only l a r s m n p q = shown-only p q (λ u v h k. let b = finish-onl
 -- ---- settling
 pub tyn-fire-only : OneOutcome settling.ended settling.Reads.Post
 tyn-fire-only l a r s m n p q = shown-only p q (λ u v h k. let b = fire-only _ _ u v _ _ _ _ _ _ _ _ _ _ _ _ _ _ h k in (b .0, λ i. (tt, (tt, (tt, (tt, (tt, (tt, (tt, (tt, (tt, (tt, (tt, (tt, (tt, (tt, (tt, (tt, (b .1 i, (b .2 i, (b .3 i, (b .4 i, (b .5 i, (b .6 i, (b .7 i, tt)))))))))))))))))))))))))
+
+-- ---- striking atoms
+pub tyn-strike-only : OneOutcome strike.ended strike.Reads.Post
+tyn-strike-only l a r s m n p q = shown-only p q (λ u v h k. let b = strike-only _ _ _ _ u v _ _ _ _ h k in (b .0, λ i. (tt, (tt, (b .1 i .positions, (b .1 i .velocities, (b .1 i .masses, (b .1 i .charges, (b .1 i .species, (b .2 i .bonds, (b .2 i .lengths, (b .2 i .ks, (b .2 i .angles, (b .2 i .perAngle, (b .2 i .exclusions, tt)))))))))))))))
+
+pub tyn-put-only : OneOutcome put.ended put.Reads.Post
+tyn-put-only l a r s m n p q = shown-only p q (λ u v h k. let b = put-only _ _ _ _ u v _ _ h k in (b .0, λ i. (tt, (tt, (tt, (b .1 i .positions, (b .1 i .velocities, (b .1 i .masses, (b .1 i .charges, (b .1 i .species, tt))))))))))

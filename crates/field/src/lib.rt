@@ -17,4 +17,5 @@ pub mod settlings;
 pub mod sheets;
 pub mod skins;
 pub mod speeds;
+pub mod strikes;
 pub mod virials;

@@ -4,5 +4,6 @@ pub mod FlatCounted
 pub mod Settlings
 pub mod FlatForms
 pub mod Taken
+pub mod Strikes
 pub mod Shown
 pub mod Unique

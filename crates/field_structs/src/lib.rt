@@ -5,14 +5,16 @@ use cell::Rows;
 use cell::Vec3;
 use potentials::Bond;
 use potentials_angle::Angle;
+use strike::Left;
 use virial::Sum;
 use virial::Units;
 
 pub mod angles;
 pub mod give;
 pub mod give_counted;
-pub mod settlings;
 pub mod give_forms;
+pub mod settlings;
+pub mod strikes;
 pub mod take;
 
 // ---- arguments
@@ -286,6 +288,22 @@ pub struct FlatFired {
     pub converged: u32,
     pub energy: f64,
     pub max_force: f64,
+    pub state: FlatState,
+}
+
+// How many rows of each table are left, zeros where refused; and the list's state, which comes back in every case.
+#[repr(C)]
+pub struct FlatStruck {
+    pub done: FlatDone,
+    pub left: Left,
+    pub state: FlatState,
+}
+
+// How many atoms there are now; and the list's state, which comes back in every case.
+#[repr(C)]
+pub struct FlatEntered {
+    pub done: FlatDone,
+    pub count: u32,
     pub state: FlatState,
 }
 

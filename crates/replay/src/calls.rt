@@ -17,6 +17,7 @@ use crate::settlings;
 use crate::sheets;
 use crate::skins;
 use crate::steps;
+use crate::strikes;
 use crate::velocities;
 use crate::virials;
 
@@ -72,6 +73,9 @@ pub(crate) fn answer(call: u64, ws: &[u64], out: &mut [u64; 8208]) -> usize {
     }
     if call == 105 {
         return settlings::answer(ws, out);
+    }
+    if call == 106 || call == 107 {
+        return strikes::answer(call, ws, out);
     }
     steps::answer(call, ws, out)
 }

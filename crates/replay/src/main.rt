@@ -23,6 +23,7 @@ mod settlings;
 mod sheets;
 mod skins;
 mod steps;
+mod strikes;
 mod tables;
 mod velocities;
 mod virials;

@@ -42,6 +42,12 @@ impl Trajectory {
         self.file.as_mut().map_or(Ok(()), |f| f.write_all(frame.as_bytes())).map_err(|e| format!("{}: {e}", self.part))
     }
 
+    /// The marked atoms are in no later frame.
+    pub fn strike(&mut self, marks: &[bool]) {
+        let mut marks = marks.iter();
+        self.atoms.retain(|_| marks.next() == Some(&false));
+    }
+
     /// The file gets its name.
     pub fn finish(mut self) -> Result<(), String> {
         let Some(file) = self.file.take() else { return Ok(()) };

@@ -33,25 +33,25 @@ pub struct Evaluator {
     pub list: NeighborList,
     /// The cell, if there is one.
     pub cell: Option<Lattice>,
-    tables: Tables,
+    pub(super) tables: Tables,
 }
 
 /// The terms as the library takes them.
 #[derive(Debug, Clone, Default)]
-struct Tables {
+pub(super) struct Tables {
     /// With no cell: the evaluator's own stands in it while a call runs.
     setting: Setting,
     own_ids: Vec<u32>,
     own_params: Vec<f64>,
     ids: Vec<u32>,
     params: Vec<f64>,
-    species: Vec<u32>,
-    charges: Vec<f64>,
-    bonds: Vec<u32>,
-    lengths: Vec<f64>,
-    ks: Vec<f64>,
-    angles: Vec<u32>,
-    per_angle: Vec<f64>,
+    pub(super) species: Vec<u32>,
+    pub(super) charges: Vec<f64>,
+    pub(super) bonds: Vec<u32>,
+    pub(super) lengths: Vec<f64>,
+    pub(super) ks: Vec<f64>,
+    pub(super) angles: Vec<u32>,
+    pub(super) per_angle: Vec<f64>,
 }
 
 /// What a step reads and writes beside the evaluator.
@@ -158,7 +158,7 @@ impl Evaluator {
     }
 
     /// The library wants a species and a charge an atom also where the term that reads them is absent.
-    fn make_ready(&mut self, atoms: usize) {
+    pub(super) fn make_ready(&mut self, atoms: usize) {
         self.list.make_ready(atoms);
         let t = &mut self.tables;
         if t.setting.lj.present == 0 {

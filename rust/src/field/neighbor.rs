@@ -187,6 +187,22 @@ impl NeighborList {
         &self.table[..2 * self.excluded as usize]
     }
 
+    /// The exclusion table, which a strike closes up.
+    pub(crate) fn table_mut(&mut self) -> &mut [u32] {
+        &mut self.table[..2 * self.excluded as usize]
+    }
+
+    /// What a strike or a new atom leaves of the list: this state, and so many rows of the exclusion table.
+    pub(crate) fn emptied(&mut self, state: State, excluded: u32) {
+        (self.state, self.excluded) = (state, excluded);
+        self.listed = OnceLock::new();
+    }
+
+    /// How many pairs are excluded.
+    pub(crate) fn excluded_rows(&self) -> u32 {
+        self.excluded
+    }
+
     /// The exclusion table and the rooms, which a call is lent.
     pub(crate) fn lent(&mut self) -> (&[u32], &mut Rooms) {
         (&self.table[..2 * self.excluded as usize], &mut self.rooms)
