@@ -54,19 +54,19 @@ pub fn read(sheet: &[u8]) -> Result<Sheet, Error> {
 
 /// A sheet of the first form in the second, as it is written, each species 0. Refusals as [`Snapshot::from_sheet`], then 3.
 pub fn to_two(sheet: &[u8]) -> Result<Vec<u8>, Error> {
-    let mut out = vec![0; LONGEST_TWO];
-    let told = raw::tyn_to_two(sheet, &mut out);
-    told.done.of("tyn_to_two")?;
-    out.truncate(told.value as usize);
-    Ok(out)
+    moved("tyn_to_two", raw::tyn_to_two, sheet, LONGEST_TWO)
 }
 
 /// A sheet of the second form in the first, as it is written. Refusals as [`Snapshot::from_sheet`]; then 12 where an atom has a species, the place being the
 /// lowest such atom; then 3. `to_one(&to_two(s)?)?` is `rewrite(s)`.
 pub fn to_one(sheet: &[u8]) -> Result<Vec<u8>, Error> {
-    let mut out = vec![0; LONGEST];
-    let told = raw::tyn_to_one(sheet, &mut out);
-    told.done.of("tyn_to_one")?;
+    moved("tyn_to_one", raw::tyn_to_one, sheet, LONGEST)
+}
+
+fn moved(name: &'static str, call: fn(&[u8], &mut [u8]) -> raw::Whole, sheet: &[u8], room: usize) -> Result<Vec<u8>, Error> {
+    let mut out = vec![0; room];
+    let told = call(sheet, &mut out);
+    told.done.of(name)?;
     out.truncate(told.value as usize);
     Ok(out)
 }
