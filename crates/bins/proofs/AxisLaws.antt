@@ -10,7 +10,7 @@ use lib.Dec.{eqb, ltb}
 use lib.IntN.{ℤ, pos, negsuc}
 use Rattle.bins.specs.declared.Axis.{Axis}
 use Rattle.bins.specs.declared.Bin.the-variants.{Is, Off}
-use Rattle.bins.specs.Axis.{Good, touch, remEuclid, within, stepped, follows}
+use Rattle.bins.specs.Axis.{Good, touch, remEuclid, binWithin, stepped, follows}
 use Rattle.lists.proofs.Cases.{below-or, or-cases, or-left, or-right, and-both, both-and}
 
 -- the three steps
@@ -108,7 +108,7 @@ either false = refl
 
 module _ (n a : ℕ) where
   on-in : (r : Bool) → a + 1 < n → stepped (axis n r) a (pos 1) ≡ Is (a + 1)
-  unfolding stepped remEuclid within
+  unfolding stepped remEuclid binWithin
   on-in true h = rw (lt-ltb a n (omega arith)) (ap Is (mod-eq-of-lt h))
   on-in false h = rw (lt-ltb a n (omega arith), lt-ltb (a + 1) n h) refl
 
@@ -117,16 +117,16 @@ module _ (n a : ℕ) where
   on-last e = rw (lt-ltb a n (omega arith)) (ap Is (ap (λ (k : ℕ). k % n) e ∙ mod-self n))
 
   on-out : n ≤ a + 1 → stepped (axis n false) a (pos 1) ≡ Off
-  unfolding stepped within
+  unfolding stepped binWithin
   on-out h = rw (le-ltb (a + 1) n h) (either (ltb a n))
 
   stay-in : (r : Bool) → a < n → stepped (axis n r) a (pos 0) ≡ Is a
-  unfolding stepped remEuclid within
+  unfolding stepped remEuclid binWithin
   stay-in true h = rw (lt-ltb a n h) (ap Is (rw (add-zero a) (mod-eq-of-lt h)))
   stay-in false h = rw (lt-ltb a n h) (rw (add-zero a) (rw (lt-ltb a n h) refl))
 
   back-in : (r : Bool) → 1 ≤ a → a < n → stepped (axis n r) a (negsuc 0) ≡ Is (a - 1)
-  unfolding stepped remEuclid within
+  unfolding stepped remEuclid binWithin
   back-in true p h = rw (lt-ltb a n h) (rw (le-ltb a 1 p) (ap Is (mod-eq-of-lt (omega arith))))
   back-in false p h = rw (lt-ltb a n h) (rw (le-ltb a 1 p) (rw (lt-ltb (a - 1) n (omega arith)) refl))
 
@@ -135,7 +135,7 @@ unfolding stepped remEuclid
 back-first n a h e = rw (lt-ltb a n h) (rw e (ap Is (omega (arith, zero-mod n))))
 
 back-out : (n a : ℕ) → a ≡ 0 → stepped (axis n false) a (negsuc 0) ≡ Off
-unfolding stepped within
+unfolding stepped binWithin
 back-out n a e = rw e (either (ltb 0 n))
 
 -- a step leads to b exactly where `stepped` says so

@@ -11,7 +11,7 @@ use borrow.Author.Tests.{lt-ltb, le-ltb}
 use Rattle.lists.specs.Lists.{keep, flat, rows}
 use Rattle.lists.proofs.Cases.{below-or}
 use Rattle.lists.proofs.Rows.{flat-append, length-flat, two-at, rows-flat}
-use Rattle.bins.specs.Listing.{Scene, Listing, pushed, considerOf, listOf, fresh, checkedOf, foundOf, laidOf}
+use Rattle.bins.specs.Listing.{Scene, Listing, pushed, considerOf, listOf, emptyListing, checkedOf, foundOf, laidOf}
 
 module _ (old : List ℕ) (done : List (ℕ × ℕ)) where
   pub laid-length : length (laidOf old done) ≡ length old
@@ -97,8 +97,8 @@ module _ (e : Scene) (old : List ℕ) where
 
   -- from nothing: as many pairs as are found, as many checks as are not excluded, and the memory with the first pairs that fit
   pub listed : (cands : List (ℕ × ℕ))
-      → listOf e (fresh old) cands
+      → listOf e (emptyListing old) cands
       ≡ record { tally = record { count = length (foundOf e cands); checks = length (checkedOf e cands) }; mem = laidOf old (foundOf e cands) }
   listed cands =
       let sum : 0 + length (checkedOf e cands) ≡ length (checkedOf e cands) = omega arith in
-      ap (λ (m : List ℕ). listOf e (fresh m) cands) (sym (laid-none old)) ∙ rw sum at (runs cands [] 0)
+      ap (λ (m : List ℕ). listOf e (emptyListing m) cands) (sym (laid-none old)) ∙ rw sum at (runs cands [] 0)

@@ -4,7 +4,7 @@ use mathlib.Core.List.{List}
 use Prim.Native.Nat.{ℕ}
 use Rattle.answer.specs.declared.Done.{Done}
 use Rattle.answer.proofs.Only.{done-only}
-use Rattle.bins.specs.Sort.{AskedSays}
+use Rattle.bins.specs.Sort.{AtomsAskedSays}
 
-pub asked-only : (cell : ℕ) (starts items : List ℕ) (r s : Done) → AskedSays cell starts items r → AskedSays cell starts items s → r ≡ s
+pub asked-only : (cell : ℕ) (starts items : List ℕ) (r s : Done) → AtomsAskedSays cell starts items r → AtomsAskedSays cell starts items s → r ≡ s
 asked-only cell starts items r s h k = done-only r s (h ∙ sym k)

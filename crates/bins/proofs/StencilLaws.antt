@@ -15,8 +15,8 @@ use Rattle.bins.specs.declared.Cell.{Cell}
 use Rattle.bins.specs.declared.Bin.{Bin}
 use Rattle.bins.specs.declared.Bin.the-variants.{Is, Off}
 use Rattle.bins.specs.declared.Reached.the-variants.{To, Nowhere}
-use Rattle.bins.specs.Axis.{stepped, remEuclid, within}
-use Rattle.bins.specs.Stencil.{GoodGrid, InGrid, Row, MetOnce, touching, halfStencil, offset, joined, reached}
+use Rattle.bins.specs.Axis.{stepped, remEuclid, binWithin}
+use Rattle.bins.specs.Stencil.{GoodGrid, InGrid, Row, MetOnce, touching, halfStencil, offset, joinedBins, reached}
 use Rattle.lists.specs.Lists.{every, upTo, numbers}
 use Rattle.lists.proofs.Cases.{below-or, and-both, both-and}
 use Rattle.lists.proofs.Walks.{every-at}
@@ -165,8 +165,8 @@ nowhere-to c e = let z : _≡_ {A = ℕ} 0 1 = cc in omega arith
 pub to-inj : (a b : Cell) → To a ≡ To b → a ≡ b
 to-inj a b e = cc
 
-joined-to : (p q r : Bin) (c : Cell) → joined p q r ≡ To c → (p ≡ Is (c .x)) × (q ≡ Is (c .y)) × (r ≡ Is (c .z))
-unfolding joined
+joined-to : (p q r : Bin) (c : Cell) → joinedBins p q r ≡ To c → (p ≡ Is (c .x)) × (q ≡ Is (c .y)) × (r ≡ Is (c .z))
+unfolding joinedBins
 joined-to Off q r c e = absurd (nowhere-to c e)
 joined-to (Is a) Off r c e = absurd (nowhere-to c e)
 joined-to (Is a) (Is b) Off c e = absurd (nowhere-to c e)
@@ -174,8 +174,8 @@ joined-to (Is a) (Is b) (Is d) c e =
     let f = to-inj (record { x = a; y = b; z = d }) c e in
     (ap (λ (t : Cell). Is (t .x)) f, ap (λ (t : Cell). Is (t .y)) f, ap (λ (t : Cell). Is (t .z)) f)
 
-to-joined : {p q r : Bin} (c : Cell) → p ≡ Is (c .x) → q ≡ Is (c .y) → r ≡ Is (c .z) → joined p q r ≡ To c
-unfolding joined
+to-joined : {p q r : Bin} (c : Cell) → p ≡ Is (c .x) → q ≡ Is (c .y) → r ≡ Is (c .z) → joinedBins p q r ≡ To c
+unfolding joinedBins
 to-joined c e f h = rw (e, f, h) refl
 
 module _ (g : Grid) where
@@ -288,19 +288,19 @@ offset-dir s h = let r = right-row s h in (sym (r .on-x), sym (r .on-y), sym (r 
 -- ---- for the code: what three steps make of a row
 module _ (g : Grid) (c : Cell) (s : ℕ) where
   pub off-x : stepped (g .x) (c .x) (offset s 0) ≡ Off → Nowhere ≡ reached g c s
-  unfolding reached joined
+  unfolding reached joinedBins
   off-x e = rw e refl
 
   pub off-y : {x : ℕ} → stepped (g .x) (c .x) (offset s 0) ≡ Is x → stepped (g .y) (c .y) (offset s 1) ≡ Off → Nowhere ≡ reached g c s
-  unfolding reached joined
+  unfolding reached joinedBins
   off-y e f = rw (e, f) refl
 
   pub off-z : {x y : ℕ} → stepped (g .x) (c .x) (offset s 0) ≡ Is x → stepped (g .y) (c .y) (offset s 1) ≡ Is y → stepped (g .z) (c .z) (offset s 2) ≡ Off → Nowhere ≡ reached g c s
-  unfolding reached joined
+  unfolding reached joinedBins
   off-z e f h = rw (e, f, h) refl
 
   pub to-cell : {x y z : ℕ} → stepped (g .x) (c .x) (offset s 0) ≡ Is x → stepped (g .y) (c .y) (offset s 1) ≡ Is y → stepped (g .z) (c .z) (offset s 2) ≡ Is z → To (record { x = x; y = y; z = z }) ≡ reached g c s
-  unfolding reached joined
+  unfolding reached joinedBins
   to-cell e f h = rw (e, f, h) refl
 
 -- what is reached is in the grid
@@ -309,8 +309,8 @@ unfolding remEuclid
 rem-less (pos k) n h = mod-lt k h
 rem-less (negsuc k) n h = omega arith
 
-within-less : (n : ℕ) (v : ℤ) (b : ℕ) → within n v ≡ Is b → b < n
-unfolding within
+within-less : (n : ℕ) (v : ℤ) (b : ℕ) → binWithin n v ≡ Is b → b < n
+unfolding binWithin
 within-less n (pos k) b e = go (ltb k n) refl e
   where
     go : (t : Bool) → ltb k n ≡ t → cond t (Is k) Off ≡ Is b → b < n
@@ -322,7 +322,7 @@ stepped-less : (a : Axis) (c : ℕ) (d : ℤ) (b : ℕ) → stepped a c d ≡ Is
 unfolding stepped
 stepped-less a c d b e = go (ltb c (a .size)) (a .round) refl e
   where
-    go : (t r : Bool) → ltb c (a .size) ≡ t → cond t (cond r (Is (remEuclid (pos c +ℤ d) (a .size))) (within (a .size) (pos c +ℤ d))) Off ≡ Is b → (c < a .size) × (b < a .size)
+    go : (t r : Bool) → ltb c (a .size) ≡ t → cond t (cond r (Is (remEuclid (pos c +ℤ d) (a .size))) (binWithin (a .size) (pos c +ℤ d))) Off ≡ Is b → (c < a .size) × (b < a .size)
     go false r p q = absurd (off-is b q)
     go true true p q =
         let h = ltb-true c (a .size) p in

@@ -27,15 +27,15 @@ remEuclid (pos k) n = k % n
 remEuclid (negsuc k) n = n - 1 - k % n
 
 -- v as a bin of an open axis, where it is one
-unfoldable pub within : ℕ → ℤ → Bin
-within n (pos k) = cond (ltb k n) (Is k) Off
-within n (negsuc k) = Off
+unfoldable pub binWithin : ℕ → ℤ → Bin
+binWithin n (pos k) = cond (ltb k n) (Is k) Off
+binWithin n (negsuc k) = Off
 
 -- the bin that the step d leads to from the bin c: neighbor.rs, `offset_index`, lines of one axis. None where it leaves an open axis, and none from
 -- what is no bin of the axis, of which the Rust has no case
 unfoldable pub stepped : Axis → ℕ → ℤ → Bin
-unfolding remEuclid within
+unfolding remEuclid binWithin
 stepped ax c d =
     cond (ltb c (ax .size))
-    (cond (ax .round) (Is (remEuclid (pos c +ℤ d) (ax .size))) (within (ax .size) (pos c +ℤ d)))
+    (cond (ax .round) (Is (remEuclid (pos c +ℤ d) (ax .size))) (binWithin (ax .size) (pos c +ℤ d)))
     Off

@@ -39,8 +39,8 @@ abbrev pub listOf : Scene → Listing → List (ℕ × ℕ) → Listing
 listOf e = foldl (considerOf e)
 
 -- nothing listed yet
-abbrev pub fresh : List ℕ → Listing
-fresh mem = record { tally = record { count = 0; checks = 0 }; mem = mem }
+abbrev pub emptyListing : List ℕ → Listing
+emptyListing mem = record { tally = record { count = 0; checks = 0 }; mem = mem }
 
 -- ---- the same, read off as lists: the pairs whose distance is evaluated, those that are near, and the lent memory with the first that fit
 abbrev pub free : Scene → ℕ × ℕ → Bool

@@ -38,48 +38,48 @@ unfoldable pub touching : Grid → Cell → Cell → Bool
 touching g a b = touch (g .x) (a .x) (b .x) && (touch (g .y) (a .y) (b .y) && touch (g .z) (a .z) (b .z))
 
 -- a step: -1, 0 or 1
-abbrev pub Small : ℤ → Type 0
-Small d = (d ≡ negsuc 0) ⊎ ((d ≡ pos 0) ⊎ (d ≡ pos 1))
+abbrev pub UnitStep : ℤ → Type 0
+UnitStep d = (d ≡ negsuc 0) ⊎ ((d ≡ pos 0) ⊎ (d ≡ pos 1))
 
-row : ℤ → ℤ → ℤ → List ℤ
-row a b c = a ∷ b ∷ c ∷ []
+unitRow : ℤ → ℤ → ℤ → List ℤ
+unitRow a b c = a ∷ b ∷ c ∷ []
 
 -- the rows of neighbor.rs's `HALF_STENCIL`, as written
 unfoldable pub halfStencil : List (List ℤ)
-unfolding row
+unfolding unitRow
 halfStencil =
-    row (pos 0) (pos 0) (pos 0)
-    ∷ row (pos 0) (pos 0) (pos 1)
-    ∷ row (pos 0) (pos 1) (negsuc 0)
-    ∷ row (pos 0) (pos 1) (pos 0)
-    ∷ row (pos 0) (pos 1) (pos 1)
-    ∷ row (pos 1) (negsuc 0) (negsuc 0)
-    ∷ row (pos 1) (negsuc 0) (pos 0)
-    ∷ row (pos 1) (negsuc 0) (pos 1)
-    ∷ row (pos 1) (pos 0) (negsuc 0)
-    ∷ row (pos 1) (pos 0) (pos 0)
-    ∷ row (pos 1) (pos 0) (pos 1)
-    ∷ row (pos 1) (pos 1) (negsuc 0)
-    ∷ row (pos 1) (pos 1) (pos 0)
-    ∷ row (pos 1) (pos 1) (pos 1)
+    unitRow (pos 0) (pos 0) (pos 0)
+    ∷ unitRow (pos 0) (pos 0) (pos 1)
+    ∷ unitRow (pos 0) (pos 1) (negsuc 0)
+    ∷ unitRow (pos 0) (pos 1) (pos 0)
+    ∷ unitRow (pos 0) (pos 1) (pos 1)
+    ∷ unitRow (pos 1) (negsuc 0) (negsuc 0)
+    ∷ unitRow (pos 1) (negsuc 0) (pos 0)
+    ∷ unitRow (pos 1) (negsuc 0) (pos 1)
+    ∷ unitRow (pos 1) (pos 0) (negsuc 0)
+    ∷ unitRow (pos 1) (pos 0) (pos 0)
+    ∷ unitRow (pos 1) (pos 0) (pos 1)
+    ∷ unitRow (pos 1) (pos 1) (negsuc 0)
+    ∷ unitRow (pos 1) (pos 1) (pos 0)
+    ∷ unitRow (pos 1) (pos 1) (pos 1)
     ∷ []
 
--- the step of row s on axis k; past the rows, none
+-- the step of unitRow s on axis k; past the rows, none
 unfoldable pub offset : ℕ → ℕ → ℤ
 unfolding halfStencil
 offset s k = getD (getD halfStencil s []) k (pos 0)
 
-unfoldable pub joined : Bin → Bin → Bin → Reached
-joined Off y z = Nowhere
-joined (Is a) Off z = Nowhere
-joined (Is a) (Is b) Off = Nowhere
-joined (Is a) (Is b) (Is c) = To (record { x = a; y = b; z = c })
+unfoldable pub joinedBins : Bin → Bin → Bin → Reached
+joinedBins Off y z = Nowhere
+joinedBins (Is a) Off z = Nowhere
+joinedBins (Is a) (Is b) Off = Nowhere
+joinedBins (Is a) (Is b) (Is c) = To (record { x = a; y = b; z = c })
 
--- the cell that row s leads to, or nowhere where the step leaves an open axis: neighbor.rs, `offset_index`
+-- the cell that unitRow s leads to, or nowhere where the step leaves an open axis: neighbor.rs, `offset_index`
 unfoldable pub reached : Grid → Cell → ℕ → Reached
-unfolding stepped joined offset
+unfolding stepped joinedBins offset
 reached g c s =
-    joined (stepped (g .x) (c .x) (offset s 0)) (stepped (g .y) (c .y) (offset s 1))
+    joinedBins (stepped (g .x) (c .x) (offset s 0)) (stepped (g .y) (c .y) (offset s 1))
     (stepped (g .z) (c .z) (offset s 2))
 
 abbrev pub GoodGrid : Grid → Type 0
@@ -88,11 +88,11 @@ GoodGrid g = Good (g .x) × Good (g .y) × Good (g .z)
 abbrev pub InGrid : Grid → Cell → Type 0
 InGrid g c = (c .x < g .x .size) × (c .y < g .y .size) × (c .z < g .z .size)
 
--- a row after the first that leads from a to b
+-- a unitRow after the first that leads from a to b
 abbrev pub Row : Grid → Cell → Cell → Type 0
 Row g a b = (s : ℕ) × (1 ≤ s) × (s < 14) × (reached g a s ≡ To b)
 
--- Two cells touch exactly where they are one cell, or one row leads from one of them to the other; and then only one does, and only one way.
+-- Two cells touch exactly where they are one cell, or one unitRow leads from one of them to the other; and then only one does, and only one way.
 pub record MetOnce (g : Grid) (a b : Cell) : Type 0 where
   pub found : touching g a b ≡ true → (a ≡ b → ⊥) → Row g a b ⊎ Row g b a
   pub touches : Row g a b → touching g a b ≡ true

@@ -9,7 +9,7 @@ ghost use mathlib.Core.Path.{_≡_};
 ghost use Prim.Native.Nat.{_<_};
 ghost use Rattle.bins.specs.Axis.{stepped};
 ghost use Rattle.bins.specs.Listing.{pushed};
-ghost use Rattle.bins.specs.Stencil.{cells, flatten, homeOf, offset, reached, Small};
+ghost use Rattle.bins.specs.Stencil.{cells, flatten, homeOf, offset, reached, UnitStep};
 
 fn wide(x: u16) -> u64
     ensures { λ r. ⌜ (r ≡ x) × (r < 65536) ⌝ }
@@ -50,7 +50,7 @@ pub fn home_of(g: Grid, h: u64) -> Cell
 
 // Where a step of -1, 0 or 1 leads, by the sign of the step: no signed arithmetic.
 fn step_on(a: Axis, c: u16, d: i32) -> Bin
-    requires { ⌜ Small d ⌝ }
+    requires { ⌜ UnitStep d ⌝ }
     ensures { λ r. ⌜ r ≡ stepped a c d ⌝ }
 {
     let size = a.size;

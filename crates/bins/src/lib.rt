@@ -6,7 +6,7 @@ mod sorting;
 use answer::Done;
 use answer::Refusal;
 ghost use mathlib.Core.Path.{_≡_};
-ghost use Rattle.bins.specs.Sort.{heldOf, atomsIn, AskedSays};
+ghost use Rattle.bins.specs.Sort.{cellHeld, atomsIn, AtomsAskedSays};
 
 // One axis of a grid: how many bins it has, and whether it is periodic. A grid has at most 32,768 cells, so sixteen bits hold a size.
 pub struct Axis {
@@ -53,7 +53,7 @@ pub struct Tally {
 
 // Whether the tables have the cell: its two starts are there, in order, and within the items.
 fn is_held(cell: usize, starts: &[u32], items: &[u32]) -> bool
-    ensures { λ r. ⌜ r ≡ heldOf cell (now (starts .entry)) (now (items .entry)) ⌝ }
+    ensures { λ r. ⌜ r ≡ cellHeld cell (now (starts .entry)) (now (items .entry)) ⌝ }
 {
     if starts.len() < 2 {
         return false;
@@ -78,7 +78,7 @@ pub fn atoms_in<'a>(cell: usize, starts: &[u32], items: &'a [u32]) -> &'a [u32]
 
 // Refusal 1 where the cell's starts are not there, or fall, or end past the items.
 pub fn atoms_in_asked(cell: usize, starts: &[u32], items: &[u32]) -> Done
-    ensures { λ r. ⌜ AskedSays cell (now (starts .entry)) (now (items .entry)) r ⌝ }
+    ensures { λ r. ⌜ AtomsAskedSays cell (now (starts .entry)) (now (items .entry)) r ⌝ }
 {
     if is_held(cell, starts, items) {
         return Done::Answered;

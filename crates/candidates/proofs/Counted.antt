@@ -23,7 +23,7 @@ use Rattle.bins.proofs.Tables.{Filled, done-long, done-at, done-front}
 use Rattle.exclusions.specs.Table.{before, samePair, isTable, isRow}
 use Rattle.exclusions.proofs.RowOrder.{before-other, pair-same, same-pair}
 use Rattle.exclusions.proofs.Search.{ascending, tail-table}
-use Rattle.candidates.specs.Checks.{lazy, there, beside, cellIn, rowsBelow, rowsTouching}
+use Rattle.candidates.specs.Checks.{lazy, there, besideIn, cellFrom, rowsBelow, rowsTouching}
 
 -- ---- tests on a list
 keep-all : {A : Type 0} (l : List A) → keep (λ a. true) l ≡ l
@@ -161,7 +161,7 @@ module _ (table : List ℕ) (h : isTable (rows table) ≡ true) (n : ℕ) where
 touching-agree : (g : Grid) (n : ℕ) (c d : ℕ → Cell) (rs : List (ℕ × ℕ)) → ((k : ℕ) → k < n → c k ≡ d k) → rowsTouching g n c rs ≡ rowsTouching g n d rs
 unfolding rowsTouching
 touching-agree g n c d rs same =
-    many-agree (beside g n c) (beside g n d) rs
+    many-agree (besideIn g n c) (besideIn g n d) rs
     (λ p.
     by-test (λ t. there n p ≡ t → t && touching g (c (p .0)) (c (p .1)) ≡ t && touching g (d (p .0)) (d (p .1))) (there n p)
     (λ e f.
@@ -178,7 +178,7 @@ home-flat g c k =
 -- each atom's cell is the one at its place: the count over the places at the front of a room is that over the cells
 module _ {g : Grid} {n : ℕ} {cellOf : ℕ → Cell} {room done : List ℕ} (h : Filled g n cellOf room done) where
   pub done-rows : {own : Grid} → own ≡ g → (rs : List (ℕ × ℕ))
-      → rowsTouching own (length (take n (done ++ drop n room))) (cellIn own (take n (done ++ drop n room))) rs ≡ rowsTouching g n cellOf rs
+      → rowsTouching own (length (take n (done ++ drop n room))) (cellFrom own (take n (done ++ drop n room))) rs ≡ rowsTouching g n cellOf rs
   done-rows e rs =
       rw (done-front h, done-long h, e)
-      (touching-agree g n (cellIn g done) cellOf rs (λ k l. ap (homeOf g) (done-at h k l) ∙ home-flat g (cellOf k) (h .placed k l)))
+      (touching-agree g n (cellFrom g done) cellOf rs (λ k l. ap (homeOf g) (done-at h k l) ∙ home-flat g (cellOf k) (h .placed k l)))

@@ -7,7 +7,7 @@ use native.Mathlib.Omega.{arith}
 use lib.ListN.{length}
 use Rattle.lists.proofs.Exactness.{length-keep}
 use Rattle.bins.specs.declared.Tally.{Tally}
-use Rattle.bins.specs.Listing.{Scene, Listing, pushed, considerOf, listOf, fresh, close, checkedOf, foundOf, laidOf, Ready}
+use Rattle.bins.specs.Listing.{Scene, Listing, pushed, considerOf, listOf, emptyListing, close, checkedOf, foundOf, laidOf, Ready}
 use Rattle.bins.proofs.Runs.{ready-end}
 use Rattle.bins.proofs.Laid.{listed, laid-length}
 use Rattle.exclusions.specs.Table.{lookedUp}
@@ -40,14 +40,14 @@ pub record Ended (e : Scene) (old : List ℕ) (cands : List (ℕ × ℕ)) (t : T
   pub few : t .checks < 4294967296
   pub same : length m ≡ length old
 
-pub ended : (e : Scene) (old : List ℕ) (cands : List (ℕ × ℕ)) (t : Tally) (m : List ℕ) → record { tally = t; mem = m } ≡ listOf (lazy e) (fresh old) cands
+pub ended : (e : Scene) (old : List ℕ) (cands : List (ℕ × ℕ)) (t : Tally) (m : List ℕ) → record { tally = t; mem = m } ≡ listOf (lazy e) (emptyListing old) cands
     → Ready (record { count = 0; checks = 0 }) (length cands) → Ended e old cands t m
 ended e old cands t m q r =
-    let z = ready-end (lazy e) (fresh old) cands r in
+    let z = ready-end (lazy e) (emptyListing old) cands r in
     let l = listed (lazy e) old cands in
     let mem : m ≡ laidOf old (foundOf e cands) = ap (λ (s : Listing). s .mem) (q ∙ l) ∙ ap (laidOf old) (lazy-found e cands) in
     let count : t .count ≡ length (foundOf e cands) = ap (λ (s : Listing). s .tally .count) (q ∙ l) ∙ ap length (lazy-found e cands) in
-    let t-is : t ≡ listOf (lazy e) (fresh old) cands .tally = ap (λ (s : Listing). s .tally) q in
+    let t-is : t ≡ listOf (lazy e) (emptyListing old) cands .tally = ap (λ (s : Listing). s .tally) q in
     record {
       count = count;
       all = ap (λ (s : Listing). s .tally .checks) (q ∙ l) ∙ ap length (lazy-checked e cands);

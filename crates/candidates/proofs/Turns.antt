@@ -15,7 +15,7 @@ use Rattle.bins.specs.declared.Grid.{Grid}
 use Rattle.bins.specs.declared.Cell.{Cell}
 use Rattle.bins.specs.Stencil.{touching}
 use Rattle.exclusions.specs.Table.{rowAt}
-use Rattle.candidates.specs.Checks.{there, beside}
+use Rattle.candidates.specs.Checks.{there, besideIn}
 
 -- k rows are passed, `count` of them pass the test, and what is left gives the rest
 pub record Counting (q : ℕ × ℕ → Bool) (t : List ℕ) (count k : ℕ) : Type 0 where
@@ -48,8 +48,8 @@ module _ (n low high : ℕ) {x : Bool} (is : x ≡ there n (low, high)) where
   both-there h = let r = and-both (ltb low n) (ltb high n) (sym is ∙ h) in (ltb-true low n (r .0), ltb-true high n (r .1))
 
   module _ (g : Grid) (cellOf : ℕ → Cell) where
-    pub beside-not : x ≡ false → false ≡ beside g n cellOf (low, high)
+    pub beside-not : x ≡ false → false ≡ besideIn g n cellOf (low, high)
     beside-not h = rw (← is, h)
 
-    pub beside-is : x ≡ true → {y : Bool} → y ≡ touching g (cellOf low) (cellOf high) → y ≡ beside g n cellOf (low, high)
+    pub beside-is : x ≡ true → {y : Bool} → y ≡ touching g (cellOf low) (cellOf high) → y ≡ besideIn g n cellOf (low, high)
     beside-is h e = rw (← is, h) e

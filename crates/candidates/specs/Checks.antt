@@ -19,8 +19,8 @@ abbrev pub there : ℕ → ℕ × ℕ → Bool
 there n p = ltb (p .0) n && ltb (p .1) n
 
 -- and whose cells touch
-abbrev pub beside : Grid → ℕ → (ℕ → Cell) → ℕ × ℕ → Bool
-beside g n cellOf p = there n p && touching g (cellOf (p .0)) (cellOf (p .1))
+abbrev pub besideIn : Grid → ℕ → (ℕ → Cell) → ℕ × ℕ → Bool
+besideIn g n cellOf p = there n p && touching g (cellOf (p .0)) (cellOf (p .1))
 
 -- of all pairs, the rows that are among them
 unfoldable pub rowsBelow : ℕ → List (ℕ × ℕ) → ℕ
@@ -28,8 +28,8 @@ rowsBelow n rs = howMany (there n) rs
 
 -- of the pairs in touching cells, the rows that are among them
 unfoldable pub rowsTouching : Grid → ℕ → (ℕ → Cell) → List (ℕ × ℕ) → ℕ
-rowsTouching g n cellOf rs = howMany (beside g n cellOf) rs
+rowsTouching g n cellOf rs = howMany (besideIn g n cellOf) rs
 
 -- each atom's cell, from the place that it has in the grid's tables
-abbrev pub cellIn : Grid → List ℕ → ℕ → Cell
-cellIn g places i = homeOf g (getD places i 0)
+abbrev pub cellFrom : Grid → List ℕ → ℕ → Cell
+cellFrom g places i = homeOf g (getD places i 0)

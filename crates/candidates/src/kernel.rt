@@ -9,7 +9,7 @@ ghost use lib.ListN.{length};
 ghost use Rattle.lists.specs.Lists.{rows};
 ghost use Rattle.bins.specs.Axis.{follows, touch};
 ghost use Rattle.bins.specs.Stencil.{touching as touchingOf};
-ghost use Rattle.candidates.specs.Checks.{there, beside, cellIn, rowsBelow, rowsTouching};
+ghost use Rattle.candidates.specs.Checks.{there, besideIn, cellFrom, rowsBelow, rowsTouching};
 
 fn wide(x: u16) -> u64
     ensures { λ r. ⌜ (r ≡ x) × (r < 65536) ⌝ }
@@ -63,7 +63,7 @@ fn is_there(n: usize, low: u32, high: u32) -> bool
 
 // Whether both atoms of a row are there, and their cells touch.
 fn is_beside(g: Grid, places: &[u32], low: u32, high: u32) -> bool
-    ensures { λ r. ⌜ r ≡ beside g (length (now (places .entry))) (cellIn g (now (places .entry))) (low, high) ⌝ }
+    ensures { λ r. ⌜ r ≡ besideIn g (length (now (places .entry))) (cellFrom g (now (places .entry))) (low, high) ⌝ }
 {
     if !is_there(places.len(), low, high) {
         return false;
@@ -88,7 +88,7 @@ pub fn rows_below(table: &[u32], n: usize) -> u64
 
 // The rows whose two atoms are there, in cells that touch; `places` has the place of each atom's cell in the grid's tables.
 pub fn rows_touching(g: Grid, places: &[u32], table: &[u32]) -> u64
-    ensures { λ r. ⌜ r ≡ rowsTouching g (length (now (places .entry))) (cellIn g (now (places .entry))) (rows (now (table .entry))) ⌝ }
+    ensures { λ r. ⌜ r ≡ rowsTouching g (length (now (places .entry))) (cellFrom g (now (places .entry))) (rows (now (table .entry))) ⌝ }
 {
     let mut count: u64 = 0;
     let mut k = 0;

@@ -3,19 +3,19 @@ use mathlib.Core.Path.{refl}
 use lib.Ieee.{ofBits, round}
 use Rattle.float.specs.Def.{roundOf, rootOf}
 use Rattle.lists.specs.Lists.{numbers, each, keep, howMany, every, some, ordered, withEach, inside, across, rows}
-use Rattle.bins.specs.Axis.{touch, stepped, remEuclid, within, follows}
+use Rattle.bins.specs.Axis.{touch, stepped, remEuclid, binWithin, follows}
 use Rattle.bins.specs.Edge.{binsOn, binOn, gap, distance, axisOn}
-use Rattle.bins.specs.Stencil.{flatten, cells, sameCell, touching, halfStencil, offset, joined, reached}
+use Rattle.bins.specs.Stencil.{flatten, cells, sameCell, touching, halfStencil, offset, joinedBins, reached}
 use Rattle.bins.specs.Traversal.{bin, met, visit, cellPairs, pairsOf}
 use Rattle.exclusions.specs.Table.{isTable, isRow}
 use Rattle.frame.specs.Distance.{spotOf, squaredOf, nearOf, edgeOk, sideOk, frameOk, spotOk}
-use Rattle.frame.specs.Laying.{gridOf, cellOf, narrow, plainOf, crowded}
+use Rattle.frame.specs.Laying.{gridOf, cellOfSpot, narrow, plainOf, crowded}
 use Rattle.frame.specs.Build.{sceneOf, candidates, nearPairs, beside, checksOf, lengthsBad, rangesOk, shownOf, runOf, afterOf, buildOf, frameAsked}
 use Rattle.skin.specs.Skin.{movedLittle, allMovedLittle, countsDiffer, skinSeen}
 use Rattle.cases.specs.Marked.{Marked}
 
 pub marked : Marked
-unfolding roundOf rootOf ofBits round numbers each keep howMany every some ordered withEach inside across rows follows touch stepped remEuclid within binsOn binOn gap distance axisOn flatten cells sameCell touching halfStencil offset joined reached bin met visit cellPairs pairsOf isTable isRow spotOf squaredOf nearOf edgeOk sideOk frameOk spotOk gridOf cellOf narrow plainOf crowded sceneOf candidates nearPairs beside checksOf lengthsBad rangesOk frameAsked shownOf runOf afterOf buildOf movedLittle allMovedLittle countsDiffer skinSeen
+unfolding roundOf rootOf ofBits round numbers each keep howMany every some ordered withEach inside across rows follows touch stepped remEuclid binWithin binsOn binOn gap distance axisOn flatten cells sameCell touching halfStencil offset joinedBins reached bin met visit cellPairs pairsOf isTable isRow spotOf squaredOf nearOf edgeOk sideOk frameOk spotOk gridOf cellOfSpot narrow plainOf crowded sceneOf candidates nearPairs beside checksOf lengthsBad rangesOk frameAsked shownOf runOf afterOf buildOf movedLittle allMovedLittle countsDiffer skinSeen
 marked =
     record {
       round-half = refl;

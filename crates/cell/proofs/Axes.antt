@@ -8,7 +8,7 @@ use Rattle.float.specs.Def.{absOf}
 use Rattle.cell_axis.specs.Image.{axisOf, inReach, FarSays}
 use Rattle.cell_axis.proofs.Unit.{nearest-one}
 use Rattle.cell.specs.Cell.{one, roundAxisOf}
-use Rattle.cell.specs.General.{boxBy, fractionBy}
+use Rattle.cell.specs.General.{boxBy, roundedBy}
 
 -- one axis: a is the magnitude of x, t the answer of `in_reach`, r that of `far`
 pub record Axis (a len x : Float) (t : Bool) (r : Float) : Type 0 where
@@ -53,7 +53,7 @@ box-far px py pz lx ly lz dx dy dz ax ay az tx ty tz u v w gx gy gz h =
     }
 
 pub fraction-far : (px py pz : Bool) (x y z ax ay az : Float) (tx ty tz : Bool) (u v w : Float) → T (fits binary64 x) → T (fits binary64 y) → T (fits binary64 z)
-    → Axis ax one x tx u → Axis ay one y ty v → Axis az one z tz w → (px && py && pz && (tx && ty && tz)) ≡ true → record { x = u; y = v; z = w } ≡ fractionBy px py pz x y z
+    → Axis ax one x tx u → Axis ay one y ty v → Axis az one z tz w → (px && py && pz && (tx && ty && tz)) ≡ true → record { x = u; y = v; z = w } ≡ roundedBy px py pz x y z
 fraction-far px py pz x y z ax ay az tx ty tz u v w fx fy fz gx gy gz h =
     let s = six px py pz tx ty tz h in
     λ i. record {

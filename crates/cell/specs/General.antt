@@ -30,8 +30,8 @@ runningInRow m x y z = runningOf (runningOf (runningOf m x) y) z
 abbrev pub boxBy : Bool → Bool → Bool → Float → Float → Float → Float → Float → Float → Vec3
 boxBy px py pz lx ly lz dx dy dz = record { x = axisOf px lx dx; y = axisOf py ly dy; z = axisOf pz lz dz }
 
-abbrev pub fractionBy : Bool → Bool → Bool → Float → Float → Float → Vec3
-fractionBy px py pz x y z = record { x = roundAxisOf px x; y = roundAxisOf py y; z = roundAxisOf pz z }
+abbrev pub roundedBy : Bool → Bool → Bool → Float → Float → Float → Vec3
+roundedBy px py pz x y z = record { x = roundAxisOf px x; y = roundAxisOf py y; z = roundAxisOf pz z }
 
 abbrev pub rowVec : List Float → Vec3
 rowVec r = record { x = at r 0; y = at r 1; z = at r 2 }
@@ -58,7 +58,7 @@ generalOf l = cond (skewedOf l) (asGeneral l) unasked
 unfoldable pub generalBy : Lattice → General → Vec3 → Vec3
 generalBy l g d =
     cond (g .singular) d
-    (timesOf (matrixOf l) (fractionBy (l .px) (l .py) (l .pz) (dotOf (g .ix) d) (dotOf (g .iy) d) (dotOf (g .iz) d)))
+    (timesOf (matrixOf l) (roundedBy (l .px) (l .py) (l .pz) (dotOf (g .ix) d) (dotOf (g .iy) d) (dotOf (g .iz) d)))
 
 unfoldable pub imageBy : Lattice → General → Vec3 → Vec3
 imageBy l g d = cond (g .skewed) (generalBy l g d) (boxImageOf l d)

@@ -2,7 +2,7 @@
 // coordinates, wrap, widths and the minimum image.
 ghost use mathlib.Core.Path.{_≡_};
 ghost use Rattle.cell.specs.Cell.{orthorhombicOf, cubicOf, offDiagonalOf, isOrthorhombicOf, toFractionalOf, toCartesianOf, wrapAxisOf, wrapFractionOf, wrapOf, widthOf, perpWidthsOf, roundAxisOf, generalImageOf, skewedOf, latticeImageOf, imageOf};
-ghost use Rattle.cell.specs.General.{boxBy, fractionBy, rowVec, generalOf, generalBy, imageBy};
+ghost use Rattle.cell.specs.General.{boxBy, roundedBy, rowVec, generalOf, generalBy, imageBy};
 use crate::Cell;
 use crate::General;
 use crate::Image;
@@ -174,7 +174,7 @@ fn box_image(
 
 // .. and on the general way, where the lengths are 1.
 fn round_fraction(px: bool, py: bool, pz: bool, x: f64, y: f64, z: f64) -> Vec3
-    ensures { λ r. ⌜ r ≡ fractionBy px py pz x y z ⌝ }
+    ensures { λ r. ⌜ r ≡ roundedBy px py pz x y z ⌝ }
 {
     let ax = float::abs(x);
     let ay = float::abs(y);

@@ -2,7 +2,7 @@
 use Prim.Native.Nat.{ℕ, suc, _+_, _*_, _%_, _≤_, _<_}
 use mathlib.Core.Path.{_≡_, refl, sym, ap, _∙_}
 use mathlib.Core.Bool.{Bool, true, false, cond}
-use mathlib.Core.List.{List, [], _∷_, _++_, map, List·Memᴰ·head, List·Memᴰ·tail}
+use mathlib.Core.List.{List, [], _∷_, _++_, map}
 use native.Mathlib.Omega.{arith}
 use lib.ListN.{length, getD, take, drop, length-append, length-map}
 use lib.Seq.{sets, length-take-le}
@@ -10,17 +10,17 @@ use lib.Dec.{eqb}
 use borrow.Author.Tests.{eq-eqb, ne-eqb, lt-ltb, le-ltb}
 use Rattle.answer.specs.declared.Done.the-variants.{Answered}
 use Rattle.answer.specs.declared.Whole.{Whole}
-use Rattle.lists.specs.Exact.{_∈_}
-use Rattle.lists.specs.Lists.{rows, upTo, each, keep, howMany, firstWhere}
+use Rattle.lists.specs.Lists.{rows, upTo, each, keep, howMany}
 use Rattle.lists.proofs.Cases.{by-test}
 use Rattle.lists.proofs.Exactness.{length-keep, length-upTo}
+use Rattle.lists.proofs.First.{first-past}
 use Rattle.lists.proofs.Nested.{each-last}
 use Rattle.lists.proofs.Walks.{drop-next}
 use Rattle.hex.proofs.Writing.{length2, length4, put-put}
 use Rattle.ranges.specs.Rows.{isAbsent, absentOf}
 use Rattle.clumps_label.specs.Label.{labelsOf, lengthsOff, labelAsked, labelAfter, labelOf, LabelSays, Outcome}
 use Rattle.clumps_answer.specs.Clumps.{clumpLine, membersOf, lowestAtoms, clumpRows, clumpLines}
-use Rattle.clumps_answer.specs.Steps.{lineAt, Within}
+use Rattle.clumps_answer.specs.Steps.{clumpLineAt, RowsAmong}
 
 -- ---- one label more
 pub member-turn : (labels : List ℕ) (low i n r : ℕ) → i < length labels → r ≡ cond (eqb (getD labels i 0) low) 1 0 → n + howMany (λ l. eqb l low) (drop i labels) ≡ membersOf labels low → (n + r) + howMany (λ l. eqb l low) (drop (i + 1) labels) ≡ membersOf labels low
@@ -35,31 +35,31 @@ pub length-clump : (a b : ℕ) → length (clumpLine a b) ≡ 11
 unfolding clumpLine
 length-clump a b = simp (length-append, length2, length4)
 
-pub own-line : (labels : List ℕ) (i : ℕ) → getD labels i 0 ≡ i → lineAt labels i ≡ clumpLine i (membersOf labels i)
-unfolding lineAt
+pub own-line : (labels : List ℕ) (i : ℕ) → getD labels i 0 ≡ i → clumpLineAt labels i ≡ clumpLine i (membersOf labels i)
+unfolding clumpLineAt
 own-line labels i e = rw (eq-eqb (getD labels i 0) i e)
 
-pub no-line : (labels : List ℕ) (i : ℕ) → (getD labels i 0 ≡ i → ⊥) → lineAt labels i ≡ []
-unfolding lineAt
+pub no-line : (labels : List ℕ) (i : ℕ) → (getD labels i 0 ≡ i → ⊥) → clumpLineAt labels i ≡ []
+unfolding clumpLineAt
 no-line labels i n = rw (ne-eqb (getD labels i 0) i n)
 
-pub length-line : (labels : List ℕ) (i : ℕ) → length (lineAt labels i) ≤ 11
-unfolding lineAt
+pub length-line : (labels : List ℕ) (i : ℕ) → length (clumpLineAt labels i) ≤ 11
+unfolding clumpLineAt
 length-line labels i =
     by-test (λ b. length (cond b (clumpLine i (membersOf labels i)) []) ≤ 11) (eqb (getD labels i 0) i)
     (λ _. omega (arith, length-clump i (membersOf labels i))) (λ _. omega arith)
 
 -- the first i atoms' lines
 abbrev pub linesTo : List ℕ → ℕ → List ℕ
-linesTo labels i = each (lineAt labels) (upTo i)
+linesTo labels i = each (clumpLineAt labels) (upTo i)
 
-pub line-turn : (labels l m r : List ℕ) (i at next : ℕ) → at ≡ length (linesTo labels i) → m ≡ sets l 0 (linesTo labels i) → next ≡ at + length (lineAt labels i) → r ≡ sets m at (lineAt labels i)
+pub line-turn : (labels l m r : List ℕ) (i at next : ℕ) → at ≡ length (linesTo labels i) → m ≡ sets l 0 (linesTo labels i) → next ≡ at + length (clumpLineAt labels i) → r ≡ sets m at (clumpLineAt labels i)
     → (next ≡ length (linesTo labels (i + 1))) × (r ≡ sets l 0 (linesTo labels (i + 1)))
 line-turn labels l m r i at next a p e q =
-    let more = each-last (lineAt labels) i in
-    let r′ : r ≡ sets m (0 + at) (lineAt labels i) = q ∙ ap (λ (k : ℕ). sets m k (lineAt labels i)) (omega arith) in (
-      e ∙ omega (arith, a, length-append (linesTo labels i) (lineAt labels i)) ∙ ap length (sym more),
-      put-put at (linesTo labels i) (lineAt labels i) l m r 0 (sym a) p r′ ∙ ap (λ (x : List ℕ). sets l 0 x) (sym more),
+    let more = each-last (clumpLineAt labels) i in
+    let r′ : r ≡ sets m (0 + at) (clumpLineAt labels i) = q ∙ ap (λ (k : ℕ). sets m k (clumpLineAt labels i)) (omega arith) in (
+      e ∙ omega (arith, a, length-append (linesTo labels i) (clumpLineAt labels i)) ∙ ap length (sym more),
+      put-put at (linesTo labels i) (clumpLineAt labels i) l m r 0 (sym a) p r′ ∙ ap (λ (x : List ℕ). sets l 0 x) (sym more),
     )
 
 module _ (q : ℕ → Bool) (h : ℕ → ℕ × ℕ) (g : ℕ × ℕ → List ℕ) where
@@ -71,7 +71,7 @@ module _ (q : ℕ → Bool) (h : ℕ → ℕ × ℕ) (g : ℕ × ℕ → List �
       (λ _. ap (λ (x : List ℕ). g (h a) ++ x) (kept-lines l)) (λ _. kept-lines l)
 
 pub lines-are : (labels : List ℕ) → linesTo labels (length labels) ≡ clumpLines (clumpRows labels)
-unfolding lineAt clumpLines clumpRows lowestAtoms
+unfolding clumpLineAt clumpLines clumpRows lowestAtoms
 lines-are labels =
     kept-lines (λ i. eqb (getD labels i 0) i) (λ i. (i, membersOf labels i)) (λ p. clumpLine (p .0) (p .1)) (upTo (length labels))
 
@@ -87,12 +87,7 @@ few-rows labels =
     omega (arith, length-map {B = ℕ × ℕ} (keep (λ i. eqb (getD labels i 0) i) (upTo (length labels))) (λ i. (i, membersOf labels i)), length-keep (λ i. eqb (getD labels i 0) i) (upTo (length labels)), length-upTo (length labels))
 
 -- ---- `label` of a sheet's list
-none-first : {A : Type 0} (q : A → Bool) (l : List A) → ((a : A) → a ∈ l → q a ≡ false) → firstWhere q l ≡ length l
-unfolding firstWhere
-none-first q [] h = refl
-none-first q (a ∷ l) h = rw (h a (List·Memᴰ·head refl)) (ap suc (none-first q l (λ b m. h b (List·Memᴰ·tail m))))
-
-module _ (atoms count : ℕ) (pairs labels : List ℕ) (w : Within atoms count pairs) (as-many : length labels ≡ atoms) where
+module _ (atoms count : ℕ) (pairs labels : List ℕ) (w : RowsAmong atoms count pairs) (as-many : length labels ≡ atoms) where
   abbrev part : List ℕ
   part = take (2 * count) pairs
 
@@ -108,7 +103,7 @@ module _ (atoms count : ℕ) (pairs labels : List ℕ) (w : Within atoms count p
   there =
       omega (
         arith,
-        none-first (isAbsent atoms) (rows part)
+        first-past (isAbsent atoms) (rows part)
             (λ p m. let t = w .two p m in simp (lt-ltb (p .0) atoms (omega (arith, t .0, t .1)), lt-ltb (p .1) atoms (t .1))),
       )
 

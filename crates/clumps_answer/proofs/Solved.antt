@@ -19,7 +19,7 @@ use Rattle.clumps_label.specs.Label.{labelsOf}
 use Rattle.clumps_label.proofs.Labels.{clumped}
 use Rattle.clumps_answer.specs.Clumps.{clumpRows, clumpsText, clumpsPrinted, solveClumpsOf, SolveClumpsSays, SolveClumpsFits}
 use Rattle.clumps_answer.specs.Theorems.{ClumpsOf, SolveClumpsPrints}
-use Rattle.clumps_answer.specs.Steps.{Within}
+use Rattle.clumps_answer.specs.Steps.{RowsAmong}
 use Rattle.clumps_answer.proofs.Lines.{length-lines, few-rows}
 use Rattle.clumps_answer.proofs.Sizes.{clumps-are, few-digits}
 
@@ -35,7 +35,7 @@ front xs room n e h =
 
 -- what `list` promises of a sheet
 module _ (s : List ℕ) (x : SheetList) (ps : List ℕ) (says : ListSays s (replicate 16384 0) x ps) (fit : ListFits x ps) where
-  pub within : (n p c : ℕ) (f : Bool) → x ≡ Answered n p c f → Within n p ps
+  pub within : (n p c : ℕ) (f : Bool) → x ≡ Answered n p c f → RowsAmong n p ps
   within n p c f e =
       let w = fit (record { atoms = n; built = record { pairs = p; checks = c; fallback = f } }) (ap seenList e) in
       record { few = w .few; room = w .room; two = w .two }

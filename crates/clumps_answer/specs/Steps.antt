@@ -9,12 +9,12 @@ use Rattle.lists.specs.Lists.{rows, Two}
 use Rattle.clumps_answer.specs.Clumps.{clumpLine, membersOf}
 
 -- the line of atom i, where it is the lowest of its clump
-unfoldable pub lineAt : List ℕ → ℕ → List ℕ
+unfoldable pub clumpLineAt : List ℕ → ℕ → List ℕ
 unfolding clumpLine membersOf
-lineAt labels i = cond (eqb (getD labels i 0) i) (clumpLine i (membersOf labels i)) []
+clumpLineAt labels i = cond (eqb (getD labels i 0) i) (clumpLine i (membersOf labels i)) []
 
 -- the first `count` pairs are there, each two of the atoms, of which there are few
-pub record Within (atoms count : ℕ) (pairs : List ℕ) : Type 0 where
+pub record RowsAmong (atoms count : ℕ) (pairs : List ℕ) : Type 0 where
   pub few : atoms ≤ 1024
   pub room : 2 * count ≤ length pairs
   pub two : (p : ℕ × ℕ) → p ∈ rows (take (2 * count) pairs) → Two atoms p

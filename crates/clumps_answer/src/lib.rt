@@ -19,7 +19,7 @@ ghost use Rattle.sheet_printed.specs.Printed.{refusalLine};
 ghost use Rattle.clumps_label.specs.Label.{labelsOf};
 ghost use Rattle.clumps_answer.specs.Clumps.{clumpLine, membersOf, clumpRows, clumpLines, SolveClumpsSays, SolveClumpsFits};
 ghost use Rattle.clumps_answer.specs.Theorems.{SolveClumpsPrints};
-ghost use Rattle.clumps_answer.specs.Steps.{lineAt, Within};
+ghost use Rattle.clumps_answer.specs.Steps.{clumpLineAt, RowsAmong};
 
 fn wide(x: u32) -> usize
     ensures { λ r. ⌜ r ≡ x ⌝ }
@@ -67,8 +67,8 @@ fn put_clump(out: &mut [u8], at: usize, low: usize, size: usize)
 // The line of atom i where it is the lowest of its clump; where the next line goes.
 fn put_at(labels: &[u32], i: usize, out: &mut [u8], at: usize) -> usize
     requires { ⌜ (i < length (now labels)) × (at ≤ 18446744073709551604) ⌝ }
-    ensures { λ r. ⌜ r ≡ at + length (lineAt (now (labels .entry)) i) ⌝ }
-    ensures { λ _. ⌜ now (out .exit) ≡ sets (now (out .entry)) at (lineAt (now (labels .entry)) i) ⌝ }
+    ensures { λ r. ⌜ r ≡ at + length (clumpLineAt (now (labels .entry)) i) ⌝ }
+    ensures { λ _. ⌜ now (out .exit) ≡ sets (now (out .entry)) at (clumpLineAt (now (labels .entry)) i) ⌝ }
 {
     if wide(labels[i]) == i {
         put_clump(out, at, i, members(labels, i));
@@ -94,7 +94,7 @@ fn put_clumps(labels: &[u32], out: &mut [u8]) -> usize
 
 // The labels of the listed atoms, into labels of their number.
 fn label_all(atoms: u32, pairs: &[u32], count: u32, labels: &mut [u32])
-    requires { ⌜ (length (now labels) ≡ atoms) × Within atoms count (now pairs) ⌝ }
+    requires { ⌜ (length (now labels) ≡ atoms) × RowsAmong atoms count (now pairs) ⌝ }
     ensures { λ _. ⌜ now (labels .exit) ≡ labelsOf atoms (rows (take (2 * count) (now (pairs .entry)))) ⌝ }
 {
     let m = 2 * wide(count);
@@ -103,7 +103,7 @@ fn label_all(atoms: u32, pairs: &[u32], count: u32, labels: &mut [u32])
 
 // The clumps of a list, with room for labels.
 fn put_labelled(atoms: u32, pairs: &[u32], count: u32, labels: &mut [u32], out: &mut [u8]) -> usize
-    requires { ⌜ (atoms ≤ length (now labels)) × Within atoms count (now pairs) ⌝ }
+    requires { ⌜ (atoms ≤ length (now labels)) × RowsAmong atoms count (now pairs) ⌝ }
     ensures { λ r. ⌜ r ≡ length (clumpLines (clumpRows (labelsOf atoms (rows (take (2 * count) (now (pairs .entry))))))) ⌝ }
     ensures { λ _. ⌜ now (out .exit) ≡ sets (now (out .entry)) 0 (clumpLines (clumpRows (labelsOf atoms (rows (take (2 * count) (now (pairs .entry))))))) ⌝ }
 {
@@ -113,7 +113,7 @@ fn put_labelled(atoms: u32, pairs: &[u32], count: u32, labels: &mut [u32], out: 
 }
 
 fn put_list(atoms: u32, pairs: &[u32], count: u32, out: &mut [u8]) -> usize
-    requires { ⌜ Within atoms count (now pairs) ⌝ }
+    requires { ⌜ RowsAmong atoms count (now pairs) ⌝ }
     ensures { λ r. ⌜ r ≡ length (clumpLines (clumpRows (labelsOf atoms (rows (take (2 * count) (now (pairs .entry))))))) ⌝ }
     ensures { λ _. ⌜ now (out .exit) ≡ sets (now (out .entry)) 0 (clumpLines (clumpRows (labelsOf atoms (rows (take (2 * count) (now (pairs .entry))))))) ⌝ }
 {

@@ -37,7 +37,7 @@ use Rattle.neighbor.proofs.Source.{passed, both-passed, first-told, lengths-tol
 use Rattle.evaluate.proofs.Folding.{merged-room}
 use Rattle.evaluate.specs.declared.Evaluated.{Evaluated}
 use Rattle.evaluate.specs.Terms.{Terms, ljGives, contributions, mergedAll}
-use Rattle.evaluate.specs.Asked.{termsFit, bondsAsked, anglesNamed, namesAsked, inTurn, jobAsked}
+use Rattle.evaluate.specs.Asked.{termsFit, bondRowsAsked, anglesNamed, namesAsked, inTurn, jobAsked}
 use Rattle.evaluate.specs.Calls.{Job, Outcome, totalOf, afterList, settledBy, settledOf, afterAsked, evaluatedOf, shown}
 use Rattle.evaluate.specs.Steps.{scratchLength, settledIn, evaluatedFrom, totalAfter}
 
@@ -111,7 +111,7 @@ module _ (fits : Bool) (first : Done) (ok : Bool) (kept names : Done) (e : inTur
 names-rising : (n : ℕ) (bonds angles table ownIds ids : List ℕ) → namesAsked n bonds angles table ownIds ids ≡ Answered → (rising ownIds ≡ true) × (rising ids ≡ true)
 unfolding namesAsked
 names-rising n bonds angles table ownIds ids e =
-    order-told ownIds ids (both-passed (tableAsked table) _ (both-passed (anglesNamed n angles) _ (both-passed (bondsAsked n bonds) _ e .1) .1) .1)
+    order-told ownIds ids (both-passed (tableAsked table) _ (both-passed (anglesNamed n angles) _ (both-passed (bondRowsAsked n bonds) _ e .1) .1) .1)
 
 fit-forces : (tables : Bool) (species charges bonds angles per xs forces : ℕ) → termsFit tables species charges bonds angles per xs forces ≡ true → forces ≡ xs
 unfolding termsFit

@@ -25,7 +25,7 @@ use Rattle.potentials_angle.specs.declared.AngleTerm.the-variants as AngleTerm�
 use Rattle.potentials_angle.specs.Ranged.{angleInRange, perAngleInRange}
 use Rattle.potentials_angle.specs.Rows.{missingOf}
 use Rattle.potentials.specs.Ranged.{coordinate, cutoffOk, charge, rowsInRange, ljInRange, bondInRange}
-use Rattle.neighbor.specs.Update.{Given, firstOf, keptAsked, tableAsked, andThen}
+use Rattle.neighbor.specs.Update.{Given, firstOf, keptAsked, tableAsked, firstRefusal}
 use Rattle.evaluate.specs.Terms.{Terms}
 
 -- 1 of the terms' tables: "rows not two an id" in either species table (`tables`); "species, charges not n; bonds .. half a row; forces not as long as positions"; half a row of angles or of their numbers. The other arguments are lengths
@@ -58,8 +58,8 @@ numbersOk lj coulomb bond angle units ownParams params charges lengths ks perAng
     && rowsInRange ownParams params && every charge charges && every coordinate lengths && every coordinate ks && perAngleInRange perAngle
 
 -- 4: "a pair, then a bond, names an atom not there"
-unfoldable pub bondsAsked : ℕ → List ℕ → Done
-bondsAsked n bonds = cond (ltb (absentOf n (rows bonds)) (length bonds / 2)) (Refused (NotThere (absentOf n (rows bonds)))) Answered
+unfoldable pub bondRowsAsked : ℕ → List ℕ → Done
+bondRowsAsked n bonds = cond (ltb (absentOf n (rows bonds)) (length bonds / 2)) (Refused (NotThere (absentOf n (rows bonds)))) Answered
 
 -- 4 of an angle, "after bonds"
 unfoldable pub anglesNamed : ℕ → List ℕ → Done
@@ -67,12 +67,12 @@ anglesNamed n angles = cond (ltb (missingOf n angles) (length angles / 3)) (Refu
 
 -- a bond's 4, then an angle's, then 5 of the exclusions, then 5 of the desk's own species, then of the house's
 unfoldable pub namesAsked : ℕ → (bonds angles table ownIds ids : List ℕ) → Done
-namesAsked n bonds angles table ownIds ids = andThen (bondsAsked n bonds) (andThen (anglesNamed n angles) (andThen (tableAsked table) (orderAsked ownIds ids)))
+namesAsked n bonds angles table ownIds ids = firstRefusal (bondRowsAsked n bonds) (firstRefusal (anglesNamed n angles) (firstRefusal (tableAsked table) (orderAsked ownIds ids)))
 
 -- one test after the other: 1, then the list's 1, 2, 6, 3, then 3, then 3 and 4 of the old list, then what is asked of names
 unfoldable pub inTurn : (fits : Bool) (first : Done) (inRange : Bool) (kept names : Done) → Done
 inTurn fits first inRange kept names =
-    andThen (cond fits Answered (Refused Lengths)) (andThen first (andThen (cond inRange Answered (Refused Range)) (andThen kept names)))
+    firstRefusal (cond fits Answered (Refused Lengths)) (firstRefusal first (firstRefusal (cond inRange Answered (Refused Range)) (firstRefusal kept names)))
 
 -- The tests. `fits` and `inRange` are what a step asks besides, at 1 and at 3; an evaluation asks nothing besides
 unfoldable pub jobAsked : (fits inRange : Bool) → Terms → Given → (forces : ℕ) → Done

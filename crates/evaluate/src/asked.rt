@@ -10,9 +10,9 @@ use potentials::LjTerm;
 use potentials::ranged;
 use potentials_angle::AngleTerm;
 ghost use mathlib.Core.Path.{_≡_};
-ghost use Rattle.neighbor.specs.Update.{andThen};
+ghost use Rattle.neighbor.specs.Update.{firstRefusal};
 ghost use Rattle.potentials_pair.specs.Species.{tables};
-ghost use Rattle.evaluate.specs.Asked.{termsFit, ljOk, coulombOk, bondOk, angleOk, numbersOk, bondsAsked, anglesNamed, namesAsked, inTurn};
+ghost use Rattle.evaluate.specs.Asked.{termsFit, ljOk, coulombOk, bondOk, angleOk, numbersOk, bondRowsAsked, anglesNamed, namesAsked, inTurn};
 ghost use Rattle.evaluate.specs.Calls.{jobOf, askedOf};
 
 fn terms_fit(
@@ -102,7 +102,7 @@ fn numbers_ok(
 
 // Refusal 4 of a bond.
 fn asked_bonds(n: usize, bonds: &[u32]) -> Done
-    ensures { λ r. ⌜ r ≡ bondsAsked n (now (bonds .entry)) ⌝ }
+    ensures { λ r. ⌜ r ≡ bondRowsAsked n (now (bonds .entry)) ⌝ }
 {
     let row = ranges::rows::first_absent(bonds, n);
     if row < bonds.len() / 2 {
@@ -124,7 +124,7 @@ fn asked_angles(n: usize, angles: &[u32]) -> Done
 
 // The first refusal of two tests.
 fn and_then(a: Done, b: Done) -> Done
-    ensures { λ r. ⌜ r ≡ andThen a b ⌝ }
+    ensures { λ r. ⌜ r ≡ firstRefusal a b ⌝ }
 {
     match a {
         Done::Answered => b,

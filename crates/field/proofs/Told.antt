@@ -11,7 +11,7 @@ use Rattle.answer.specs.declared.Done.{Done}
 use Rattle.answer.specs.declared.Done.the-variants.{Answered, Refused}
 use Rattle.answer.specs.declared.Refusal.{Refusal}
 use Rattle.answer.specs.declared.Refusal.the-variants.{Lengths}
-use Rattle.bins.specs.Sort.{heldOf, partOf, atomsIn, atomsAsked}
+use Rattle.bins.specs.Sort.{cellHeld, partOf, atomsIn, atomsAsked}
 use Rattle.exclusions.specs.Calls.{excludedRows}
 use Rattle.exclusions.specs.Table.{room}
 use Rattle.neighbor.specs.declared.State.{State}
@@ -19,7 +19,7 @@ use Rattle.neighbor.specs.Rebuild.{claimsMore}
 use Rattle.neighbor.specs.Update.{listedOf}
 use Rattle.field_structs.specs.Flat.{flatDone}
 use Rattle.field_structs.specs.declared.FlatDone.{FlatDone}
-use Rattle.field.specs.Parts.{PartSays, startOf}
+use Rattle.field.specs.Parts.{PartSays, cellStart}
 
 own-part : (n : ℕ) (xs : List ℕ) → take (length (take n xs)) xs ≡ take n xs
 own-part zero xs = refl
@@ -42,9 +42,9 @@ pub excluded-told : (count : ℕ) (table : List ℕ) → take (length (excludedR
 unfolding excludedRows
 excluded-told count table = first-part (ltb (room table) count) (2 * count) table
 
-pub atoms-told : (cell : ℕ) (starts items : List ℕ) → take (length (atomsIn cell starts items)) (drop (startOf cell starts items) items) ≡ atomsIn cell starts items
-unfolding atomsIn startOf partOf
-atoms-told cell starts items = later-part (heldOf cell starts items) (getD starts (cell + 1) 0 - getD starts cell 0) (getD starts cell 0) items
+pub atoms-told : (cell : ℕ) (starts items : List ℕ) → take (length (atomsIn cell starts items)) (drop (cellStart cell starts items) items) ≡ atomsIn cell starts items
+unfolding atomsIn cellStart partOf
+atoms-told cell starts items = later-part (cellHeld cell starts items) (getD starts (cell + 1) 0 - getD starts cell 0) (getD starts cell 0) items
 
 -- what is handed out, as a start and a length
 pub says-part : {asked : Done → Type 0} {first k : ℕ} {part table xs : List ℕ} (a : Done) {d : FlatDone}
@@ -67,18 +67,18 @@ by-refusal true r p = let z : _≡_ {A = ℕ} 0 1 = cc in absurd (omega arith)
 
 module _ (cell : ℕ) (starts items : List ℕ) where
   -- whether the cell is held, from what the call beside the part answers
-  pub held-answered : (a : Done) → seenDone a ≡ atomsAsked cell starts items → a ≡ Answered → heldOf cell starts items ≡ true
+  pub held-answered : (a : Done) → seenDone a ≡ atomsAsked cell starts items → a ≡ Answered → cellHeld cell starts items ≡ true
   unfolding atomsAsked
-  held-answered a e k = by-answer (heldOf cell starts items) (sym (ap seenDone k) ∙ e)
+  held-answered a e k = by-answer (cellHeld cell starts items) (sym (ap seenDone k) ∙ e)
 
-  pub held-refused : (a : Done) (r : Refusal) → seenDone a ≡ atomsAsked cell starts items → a ≡ Refused r → heldOf cell starts items ≡ false
+  pub held-refused : (a : Done) (r : Refusal) → seenDone a ≡ atomsAsked cell starts items → a ≡ Refused r → cellHeld cell starts items ≡ false
   unfolding atomsAsked
-  held-refused a r e k = by-refusal (heldOf cell starts items) r (sym (ap seenDone k) ∙ e)
+  held-refused a r e k = by-refusal (cellHeld cell starts items) r (sym (ap seenDone k) ∙ e)
 
-  pub start-held : heldOf cell starts items ≡ true → startOf cell starts items ≡ getD starts cell 0
-  unfolding startOf
+  pub start-held : cellHeld cell starts items ≡ true → cellStart cell starts items ≡ getD starts cell 0
+  unfolding cellStart
   start-held h = rw h
 
-  pub start-not : heldOf cell starts items ≡ false → startOf cell starts items ≡ 0
-  unfolding startOf
+  pub start-not : cellHeld cell starts items ≡ false → cellStart cell starts items ≡ 0
+  unfolding cellStart
   start-not h = rw h

@@ -5,7 +5,7 @@ use mathlib.Core.Bool.{cond}
 use mathlib.Core.List.{List}
 use lib.ListN.{length, getD, take, drop}
 use Rattle.answer.specs.declared.Done.{Done}
-use Rattle.bins.specs.Sort.{heldOf}
+use Rattle.bins.specs.Sort.{cellHeld}
 use Rattle.field_structs.specs.Flat.{flatDone}
 use Rattle.field_structs.specs.Shown.{Shown}
 use Rattle.field_structs.specs.declared.FlatPart.{FlatPart}
@@ -18,5 +18,5 @@ pub record PartSays (asked : Done → Type 0) (first : ℕ) (part table : List �
   pub told : take (r .length) (drop (r .start) table) ≡ part
 
 -- where the atoms of a grid cell begin
-unfoldable pub startOf : ℕ → List ℕ → List ℕ → ℕ
-startOf cell starts items = cond (heldOf cell starts items) (getD starts cell 0) 0
+unfoldable pub cellStart : ℕ → List ℕ → List ℕ → ℕ
+cellStart cell starts items = cond (cellHeld cell starts items) (getD starts cell 0) 0

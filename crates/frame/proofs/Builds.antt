@@ -19,7 +19,7 @@ use Rattle.bins.specs.Axis.{Good}
 use Rattle.bins.specs.Edge.{axisOn}
 use Rattle.bins.specs.Stencil.{GoodGrid, cells}
 use Rattle.bins.specs.Traversal.{pairsOf}
-use Rattle.bins.specs.Listing.{Scene, listOf, fresh, checkedOf, foundOf, laidOf, Ready}
+use Rattle.bins.specs.Listing.{Scene, listOf, emptyListing, checkedOf, foundOf, laidOf, Ready}
 use Rattle.bins.proofs.EdgeLaws.{axis-good}
 use Rattle.bins.proofs.Found.{plain-checks, binned-checks, binned-ready}
 use Rattle.exclusions.specs.Table.{isTable}
@@ -127,7 +127,7 @@ module _ {f : Frame} {g : Grid} {xs : List ℕ} (w : Gridded f g) (framed : Fram
   pub sweep-ready : (e : Scene) → Ready (record { count = 0; checks = 0 }) (length (pairsOf g (atomsBy f xs)))
   sweep-ready e = rw (w .is) (grid-ready f xs (w .wide) framed few e)
 
-  pub sweep-ended : (table old : List ℕ) (t : Tally) (m : List ℕ) → record { tally = t; mem = m } ≡ listOf (sceneBy f xs table) (fresh old) (pairsOf g (atomsBy f xs))
+  pub sweep-ended : (table old : List ℕ) (t : Tally) (m : List ℕ) → record { tally = t; mem = m } ≡ listOf (sceneBy f xs table) (emptyListing old) (pairsOf g (atomsBy f xs))
       → Ended (lookedBy f xs table) old (pairsOf (gridOf f) (atomsBy f xs)) t m
   sweep-ended table old t m q =
       ended (lookedBy f xs table) old (pairsOf (gridOf f) (atomsBy f xs)) t m (rw (w .is) at q) (grid-ready f xs (w .wide) framed few (sceneBy f xs table))

@@ -19,7 +19,7 @@ use Rattle.bins.proofs.Found.{plain-found, nothing-excused}
 use Rattle.frame.specs.declared.Frame.{Frame}
 use Rattle.frame.specs.declared.Spot.{Spot}
 use Rattle.frame.specs.Distance.{spotOf, along, squareOf, squaredOf, nearOf}
-use Rattle.frame.specs.Laying.{gridOf, cellOf, cellAt, plainOf}
+use Rattle.frame.specs.Laying.{gridOf, cellOfSpot, cellAt, plainOf}
 use Rattle.frame.specs.Build.{Given, sceneOf, candidates, nearPairs}
 use Rattle.frame.specs.Listed.{Close}
 use Rattle.frame.specs.Steps.{Inside, Framed}
@@ -35,8 +35,8 @@ root-le a r h =
     (λ (l : a ≤ r). l) (below-or r a)
 
 -- on three axes
-pub near-touches : (f : Frame) (a b : Spot) → Inside f a → Inside f b → nearOf f a b ≡ true → touching (gridOf f) (cellOf f a) (cellOf f b) ≡ true
-unfolding nearOf squaredOf touching gridOf cellOf
+pub near-touches : (f : Frame) (a b : Spot) → Inside f a → Inside f b → nearOf f a b ≡ true → touching (gridOf f) (cellOfSpot f a) (cellOfSpot f b) ≡ true
+unfolding nearOf squaredOf touching gridOf cellOfSpot
 near-touches f a b ka kb h =
     let dx = along (f .x) (a .x) (b .x) in
     let dy = along (f .y) (a .y) (b .y) in

@@ -20,7 +20,7 @@ use Rattle.bins.proofs.FlatLaws.{flatten-less}
 use Rattle.frame.specs.declared.Frame.{Frame}
 use Rattle.frame.specs.declared.Spot.{Spot}
 use Rattle.bins.specs.declared.Plan.the-variants.{AllPairs, Laid, TooMany}
-use Rattle.frame.specs.Laying.{gridOf, cellOf, narrow, plainOf, crowded, homeAt}
+use Rattle.frame.specs.Laying.{gridOf, cellOfSpot, narrow, plainOf, crowded, homeAt}
 use Rattle.frame.specs.Steps.{Inside, Gridded, planOf}
 
 -- a factor of a product that is at most m
@@ -78,20 +78,20 @@ module _ (f : Frame) (starts : ℕ) where
 -- ---- the cell of an atom
 module _ (f : Frame) (a : Spot) where
   pub cell-made : {g : Grid} {x y z : ℕ} → g ≡ gridOf f → x ≡ binOn (f .x .edge) (g .x .size) (a .x) → y ≡ binOn (f .y .edge) (g .y .size) (a .y) → z ≡ binOn (f .z .edge) (g .z .size) (a .z)
-      → record { x = x; y = y; z = z } ≡ cellOf f a
-  unfolding cellOf gridOf axisOn
+      → record { x = x; y = y; z = z } ≡ cellOfSpot f a
+  unfolding cellOfSpot gridOf axisOn
   cell-made e p q r = rw (p, q, r, e)
 
-  pub in-grid : Inside f a → InGrid (gridOf f) (cellOf f a)
-  unfolding gridOf axisOn cellOf
+  pub in-grid : Inside f a → InGrid (gridOf f) (cellOfSpot f a)
+  unfolding gridOf axisOn cellOfSpot
   in-grid h = (bin-in (f .x .edge) (f .radius) (a .x) (h .x), bin-in (f .y .edge) (f .radius) (a .y) (h .y), bin-in (f .z .edge) (f .radius) (a .z) (h .z))
 
-  pub place-small : (g : Grid) → Gridded f g → Inside f a → flatten (gridOf f) (cellOf f a) < 32768
+  pub place-small : (g : Grid) → Gridded f g → Inside f a → flatten (gridOf f) (cellOfSpot f a) < 32768
   place-small g w h =
       let e : cells g ≡ cells (gridOf f) = ap cells (w .is) in
-      omega (arith, flatten-less (gridOf f) (cellOf f a) (in-grid h), w .few)
+      omega (arith, flatten-less (gridOf f) (cellOfSpot f a) (in-grid h), w .few)
 
-  pub place-is : {g : Grid} {c : Cell} {r : ℕ} → g ≡ gridOf f → c ≡ cellOf f a → r ≡ flatten g c → r ≡ flatten (gridOf f) (cellOf f a)
+  pub place-is : {g : Grid} {c : Cell} {r : ℕ} → g ≡ gridOf f → c ≡ cellOfSpot f a → r ≡ flatten g c → r ≡ flatten (gridOf f) (cellOfSpot f a)
   place-is e q p = rw (← e, ← q) p
 
 -- ---- the places of the first atoms, so far

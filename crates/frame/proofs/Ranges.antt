@@ -21,7 +21,7 @@ use Rattle.frame.specs.Build.{lengthsBad, rangesOk, frameAsked}
 use Rattle.exclusions.specs.Table.{isTable}
 use Rattle.answer.specs.declared.Done.the-variants.{Answered, Refused}
 use Rattle.answer.specs.declared.Refusal.the-variants.{Lengths, TooMany, Range, Order}
-use Rattle.frame.specs.Steps.{Sized, Inside, Framed}
+use Rattle.frame.specs.Steps.{FrameSized, Inside, Framed}
 
 edge-some : (e : ℕ) → edgeOk e ≡ true → (0 < e) × (e ≤ 1048576)
 unfolding edgeOk
@@ -49,7 +49,7 @@ module _ (f : Frame) (h : frameOk f ≡ true) where
   pub frame-sides : (sideOk (f .x) (f .radius) ≡ true) × (sideOk (f .y) (f .radius) ≡ true) × (sideOk (f .z) (f .radius) ≡ true)
   frame-sides = (one .0, one .1, two .1)
 
-  pub frame-sized : Sized f
+  pub frame-sized : FrameSized f
   frame-sized =
       record {
         x = side-some _ _ (one .0) .1;

@@ -25,12 +25,12 @@ gridOf f =
 abbrev pub binIn : Side → ℕ → ℕ → ℕ
 binIn e radius c = binOn (e .edge) (binsOn (e .edge) radius) c
 
-unfoldable pub cellOf : Frame → Spot → Cell
-cellOf f a = record { x = binIn (f .x) (f .radius) (a .x); y = binIn (f .y) (f .radius) (a .y); z = binIn (f .z) (f .radius) (a .z) }
+unfoldable pub cellOfSpot : Frame → Spot → Cell
+cellOfSpot f a = record { x = binIn (f .x) (f .radius) (a .x); y = binIn (f .y) (f .radius) (a .y); z = binIn (f .z) (f .radius) (a .z) }
 
 -- the cell of an atom, and its place in the tables
 abbrev pub cellAt : Frame → List ℕ → ℕ → Cell
-cellAt f xs i = cellOf f (spotOf xs i)
+cellAt f xs i = cellOfSpot f (spotOf xs i)
 
 abbrev pub homeAt : Frame → List ℕ → ℕ → ℕ
 homeAt f xs i = flatten (gridOf f) (cellAt f xs i)

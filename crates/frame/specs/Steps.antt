@@ -21,7 +21,7 @@ use Rattle.frame.specs.Distance.{spotOf, nearOf}
 use Rattle.frame.specs.Laying.{gridOf, cellAt, plainOf, crowded}
 
 -- the frame's numbers are in range
-pub record Sized (f : Frame) : Type 0 where
+pub record FrameSized (f : Frame) : Type 0 where
   pub x : f .x .edge ≤ 1048576
   pub y : f .y .edge ≤ 1048576
   pub z : f .z .edge ≤ 1048576
@@ -35,7 +35,7 @@ pub record Inside (f : Frame) (a : Spot) : Type 0 where
 
 -- and so is each atom
 pub record Framed (f : Frame) (xs : List ℕ) : Type 0 where
-  pub sized : Sized f
+  pub sized : FrameSized f
   pub inside : (i : ℕ) → i < length xs / 3 → Inside f (spotOf xs i)
 
 -- all pairs, a grid, or too many cells

@@ -6,7 +6,7 @@ ghost use mathlib.Core.Path.{_≡_};
 ghost use Prim.Native.Nat.{_*_, _≤_, _<_};
 ghost use Rattle.bins.specs.Edge.{gap};
 ghost use Rattle.frame.specs.Distance.{along, squaredOf, nearOf};
-ghost use Rattle.frame.specs.Steps.{Sized, Inside};
+ghost use Rattle.frame.specs.Steps.{FrameSized, Inside};
 
 fn gap_of(a: u32, b: u32) -> u32
     ensures { λ r. ⌜ r ≡ gap a b ⌝ }
@@ -44,7 +44,7 @@ fn leg(e: Side, a: u32, b: u32) -> u64
 }
 
 pub(crate) fn squared(f: Frame, a: Spot, b: Spot) -> u64
-    requires { ⌜ Sized f ⌝ }
+    requires { ⌜ FrameSized f ⌝ }
     requires { ⌜ Inside f a × Inside f b ⌝ }
     ensures { λ r. ⌜ r ≡ squaredOf f a b ⌝ }
 {
@@ -56,7 +56,7 @@ pub(crate) fn squared(f: Frame, a: Spot, b: Spot) -> u64
 
 // Whether two atoms are within the radius.
 pub(crate) fn is_near(f: Frame, a: Spot, b: Spot) -> bool
-    requires { ⌜ Sized f ⌝ }
+    requires { ⌜ FrameSized f ⌝ }
     requires { ⌜ Inside f a × Inside f b ⌝ }
     ensures { λ r. ⌜ r ≡ nearOf f a b ⌝ }
 {

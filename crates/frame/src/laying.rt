@@ -11,14 +11,14 @@ ghost use Prim.Native.Nat.{_+_, _/_, _≤_, _<_};
 ghost use lib.ListN.{length};
 ghost use Rattle.bins.specs.Edge.{binsOn, binOn};
 ghost use Rattle.bins.specs.Stencil.{flatten, cells};
-ghost use Rattle.bins.specs.Sort.{startsAfter, itemsAfter};
-ghost use Rattle.candidates.specs.Checks.{cellIn, rowsTouching};
+ghost use Rattle.bins.specs.Sort.{startsSorted, itemsSorted};
+ghost use Rattle.candidates.specs.Checks.{cellFrom, rowsTouching};
 ghost use Rattle.lists.specs.Lists.{rows};
 ghost use Rattle.lists.specs.Loops.{mapAt};
 ghost use Rattle.frame.specs.Distance.{spotOf};
-ghost use Rattle.frame.specs.Laying.{gridOf, cellAt, cellOf, narrow, homeAt};
+ghost use Rattle.frame.specs.Laying.{gridOf, cellAt, cellOfSpot, narrow, homeAt};
 ghost use Rattle.frame.specs.Build.{startsLaid, itemsLaid};
-ghost use Rattle.frame.specs.Steps.{Sized, Inside, Framed, Gridded, planOf};
+ghost use Rattle.frame.specs.Steps.{FrameSized, Inside, Framed, Gridded, planOf};
 
 // floor(edge / radius), at least 1.
 fn bins_on(edge: u32, radius: u32) -> u32
@@ -50,7 +50,7 @@ fn axis(e: Side, size: u32) -> Axis
 
 // The grid's three numbers of bins, or why there is none.
 pub(crate) fn plan_of(f: Frame, starts: usize) -> Plan
-    requires { ⌜ Sized f ⌝ }
+    requires { ⌜ FrameSized f ⌝ }
     ensures { λ r. ⌜ r ≡ planOf f starts ⌝ }
 {
     let radius = f.radius;
@@ -88,7 +88,7 @@ fn bin_on(edge: u32, bins: u16, c: u32) -> u16
 fn cell_of(f: Frame, g: Grid, a: Spot) -> Cell
     requires { ⌜ g ≡ gridOf f ⌝ }
     requires { ⌜ Inside f a ⌝ }
-    ensures { λ r. ⌜ r ≡ cellOf f a ⌝ }
+    ensures { λ r. ⌜ r ≡ cellOfSpot f a ⌝ }
 {
     Cell {
         x: bin_on(f.x.edge, g.x.size, a.x),
@@ -101,7 +101,7 @@ fn cell_of(f: Frame, g: Grid, a: Spot) -> Cell
 fn place_of(f: Frame, g: Grid, a: Spot) -> u32
     requires { ⌜ Gridded f g ⌝ }
     requires { ⌜ Inside f a ⌝ }
-    ensures { λ r. ⌜ r ≡ flatten (gridOf f) (cellOf f a) ⌝ }
+    ensures { λ r. ⌜ r ≡ flatten (gridOf f) (cellOfSpot f a) ⌝ }
 {
     bins::kernel::index(g, cell_of(f, g, a)) as u32
 }
@@ -140,9 +140,9 @@ fn blank() -> [u32; 16384]
 
 // The atoms sorted by their places into the lent tables; and the exclusion rows whose atoms' cells touch.
 fn sort_in(g: Grid, places: &[u32], table: &[u32], starts: &mut [u32], items: &mut [u32]) -> u64
-    ensures { λ r. ⌜ r ≡ rowsTouching g (length (now (places .entry))) (cellIn g (now (places .entry))) (rows (now (table .entry))) ⌝ }
-    ensures { λ _. ⌜ now (starts .exit) ≡ startsAfter (now (places .entry)) (cells g) (now (starts .entry)) (now (items .entry)) ⌝ }
-    ensures { λ _. ⌜ now (items .exit) ≡ itemsAfter (now (places .entry)) (cells g) (now (starts .entry)) (now (items .entry)) ⌝ }
+    ensures { λ r. ⌜ r ≡ rowsTouching g (length (now (places .entry))) (cellFrom g (now (places .entry))) (rows (now (table .entry))) ⌝ }
+    ensures { λ _. ⌜ now (starts .exit) ≡ startsSorted (now (places .entry)) (cells g) (now (starts .entry)) (now (items .entry)) ⌝ }
+    ensures { λ _. ⌜ now (items .exit) ≡ itemsSorted (now (places .entry)) (cells g) (now (starts .entry)) (now (items .entry)) ⌝ }
 {
     let count = bins::kernel::cell_count(g) as usize;
     bins::kernel::sort(places, count, starts, items);

@@ -5,3 +5,4 @@ pub mod Loops
 pub mod Rows
 pub mod Nested
 pub mod Halving
+pub mod First

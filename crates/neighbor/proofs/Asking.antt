@@ -35,7 +35,7 @@ use Rattle.neighbor.specs.declared.State.{State}
 use Rattle.neighbor.specs.State.{settingsOk, skinOf}
 use Rattle.neighbor.specs.Steps.{strayed}
 use Rattle.neighbor.specs.Rebuild.{allowance, needsOf, sameBox, outdatedOf, claimsMore, referencesOk, rangesOk, questionOf, needsSeen, outdatedSeen, strayedOf}
-use Rattle.neighbor.specs.Update.{listedOf, firstOf, misnamed, keptAsked, tableAsked, andThen, listAsked}
+use Rattle.neighbor.specs.Update.{listedOf, firstOf, misnamed, keptAsked, tableAsked, firstRefusal, listAsked}
 
 -- ---- a search of the numbers below n, one after the other: what is left decides
 pub record Searching (p : ℕ → Bool) (n i : ℕ) : Type 0 where
@@ -81,12 +81,12 @@ module _ (s : State) (n : ℕ) (pairs : List ℕ) (refs : List Float) {a : Bool}
 
 -- ---- the tests in turn
 module _ {d : Done} (e : Done) where
-  pub then-refused : {r : Refusal} → d ≡ Refused r → Refused r ≡ andThen d e
-  unfolding andThen
+  pub then-refused : {r : Refusal} → d ≡ Refused r → Refused r ≡ firstRefusal d e
+  unfolding firstRefusal
   then-refused q = rw q
 
-  pub then-on : d ≡ Answered → e ≡ andThen d e
-  unfolding andThen
+  pub then-on : d ≡ Answered → e ≡ firstRefusal d e
+  unfolding firstRefusal
   then-on q = rw q
 
 module _ (table : List ℕ) {t : Bool} (is : t ≡ isTable (rows table)) where
@@ -100,11 +100,11 @@ module _ (table : List ℕ) {t : Bool} (is : t ≡ isTable (rows table)) where
 
 module _ (may : Bool) (s : State) (cell : Cell) (xs : List Float) (table pairs : List ℕ) (refs : List Float) (items : ℕ) {d : Done} (is : d ≡ firstOf s cell xs (length table) (length pairs) (length refs) items) where
   pub asked-refused : {r : Refusal} → d ≡ Refused r → Refused r ≡ listAsked may s cell xs table pairs refs items
-  unfolding listAsked andThen
+  unfolding listAsked firstRefusal
   asked-refused q = rw (← is, q)
 
-  pub asked-on : d ≡ Answered → {e : Done} → e ≡ andThen (cond may (keptAsked s (length xs / 3) pairs refs) Answered) (tableAsked table) → e ≡ listAsked may s cell xs table pairs refs items
-  unfolding listAsked andThen
+  pub asked-on : d ≡ Answered → {e : Done} → e ≡ firstRefusal (cond may (keptAsked s (length xs / 3) pairs refs) Answered) (tableAsked table) → e ≡ listAsked may s cell xs table pairs refs items
+  unfolding listAsked firstRefusal
   asked-on q p = rw (← is, q) p
 
 -- ---- single tests

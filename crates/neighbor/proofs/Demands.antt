@@ -33,7 +33,7 @@ use Rattle.neighbor_listing.specs.Listed.{Outcome as Found·outcome, outcome, s
 use Rattle.neighbor.specs.declared.Question.{Question}
 use Rattle.neighbor.specs.declared.Updated.{Updated}
 use Rattle.neighbor.specs.State.{radiusOf, builtOf}
-use Rattle.neighbor.specs.Update.{Given, Outcome, stays, keptAll, builtAll, fullAll, listedAll, listedBy, rebuiltAll, unfit, keepsOf, updateOf, askedBy, afterOf, mayKeep, updatedOf, UpdateSays}
+use Rattle.neighbor.specs.Update.{Given, Outcome, stays, keptAll, builtAll, fullAll, listedAll, listedBy, rebuiltAll, unfit, keepsOf, updateOf, updateAsked, afterOf, mayKeep, updatedOf, UpdateSays}
 use Rattle.neighbor.specs.Listed.{Listed, UpdateLists}
 
 -- ---- the listed pairs, of any frame
@@ -150,6 +150,6 @@ module _ (i : Given) where
 pub says-lists : (question : Question) (i : Given) (r : Updated) (pairs : List ℕ) (references : List Float) (starts items : List ℕ) → UpdateSays question i r pairs references starts items → UpdateLists i r pairs
 unfolding updatedOf
 says-lists question i r pairs references starts items h q =
-    let o = afterOf question i (askedBy (mayKeep question) i) in
+    let o = afterOf question i (updateAsked (mayKeep question) i) in
     let rebuilt : o .rebuilt ≡ true = sym (ap (λ (z : Outcome). z .rebuilt) h) ∙ q in
-    rw (ap (λ (z : Outcome). z .pairs) h, ap (λ (z : Outcome). z .state) h) (asked-lists i question (askedBy (mayKeep question) i) rebuilt)
+    rw (ap (λ (z : Outcome). z .pairs) h, ap (λ (z : Outcome). z .state) h) (asked-lists i question (updateAsked (mayKeep question) i) rebuilt)

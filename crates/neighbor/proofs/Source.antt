@@ -29,7 +29,7 @@ use Rattle.neighbor.specs.declared.Question.{Question}
 use Rattle.neighbor.specs.declared.State.{State}
 use Rattle.neighbor.specs.State.{radiusOf}
 use Rattle.neighbor.specs.Rebuild.{claimsMore, rangesOk}
-use Rattle.neighbor.specs.Update.{Given, Outcome, keptAll, builtAll, fullAll, listedAll, listedBy, rebuiltAll, unfit, keepsOf, updateOf, lengthsBad, firstOf, tableAsked, andThen, listAsked, askedBy, afterOf, mayKeep, updatedOf}
+use Rattle.neighbor.specs.Update.{Given, Outcome, keptAll, builtAll, fullAll, listedAll, listedBy, rebuiltAll, unfit, keepsOf, updateOf, lengthsBad, firstOf, tableAsked, firstRefusal, listAsked, updateAsked, afterOf, mayKeep, updatedOf}
 use Rattle.neighbor.specs.Source.{UpdatesBySource}
 
 -- ---- tests in turn
@@ -37,8 +37,8 @@ pub passed : (b : Bool) (r : Refusal) → cond b Answered (Refused r) ≡ Answer
 passed true r e = refl
 passed false r e = impossible (cc)
 
-pub both-passed : (a b : Done) → andThen a b ≡ Answered → (a ≡ Answered) × (b ≡ Answered)
-unfolding andThen
+pub both-passed : (a b : Done) → firstRefusal a b ≡ Answered → (a ≡ Answered) × (b ≡ Answered)
+unfolding firstRefusal
 both-passed Answered b e = (refl, e)
 both-passed (Refused r) b e = impossible (cc)
 
@@ -122,7 +122,7 @@ module _ (i : Given) where
         (λ _. list-ends)
 
 -- ---- the calls
-module _ (question : Question) (i : Given) (e : askedBy (mayKeep question) i ≡ Answered) where
+module _ (question : Question) (i : Given) (e : updateAsked (mayKeep question) i ≡ Answered) where
   first : firstOf (i .state) (i .cell) (i .positions) (length (i .exclusions)) (length (i .pairs)) (length (i .references)) (length (i .items)) ≡ Answered
   unfolding listAsked
   first = both-passed _ _ e .0

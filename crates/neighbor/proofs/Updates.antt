@@ -22,7 +22,7 @@ use Rattle.neighbor.specs.declared.Question.{Question}
 use Rattle.neighbor.specs.declared.State.{State}
 use Rattle.neighbor.specs.declared.Updated.{Updated}
 use Rattle.neighbor.specs.State.{radiusOf, keptOf, builtOf, emptiedOf}
-use Rattle.neighbor.specs.Update.{Given, Outcome, shown, keptAll, builtAll, fullAll, listedAll, rebuiltAll, unfit, keepsOf, updateOf, askedBy, afterOf, mayKeep, updatedOf}
+use Rattle.neighbor.specs.Update.{Given, Outcome, shown, keptAll, builtAll, fullAll, listedAll, rebuiltAll, unfit, keepsOf, updateOf, updateAsked, afterOf, mayKeep, updatedOf}
 
 -- the references after a build
 abbrev pub referred : Given → List Float
@@ -88,7 +88,7 @@ module _ (question : Question) (i : Given) {u : Bool} (iu : u ≡ unfit (length 
     update-built iq k e = rw (← iu, h, ← iq, k) e
 
 -- ---- the calls
-module _ (question : Question) (i : Given) {d : Done} (is : d ≡ askedBy (mayKeep question) i) where
+module _ (question : Question) (i : Given) {d : Done} (is : d ≡ updateAsked (mayKeep question) i) where
   pub updated-refused : {why : Refusal} → d ≡ Refused why → {r : Updated} → r ≡ refusedBy (i .state) why → shown r (i .pairs) (i .references) (i .starts) (i .items) ≡ updatedOf question i
   unfolding updatedOf afterOf
   updated-refused h e = rw (← is, h, e)

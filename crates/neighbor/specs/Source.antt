@@ -14,7 +14,7 @@ use Rattle.neighbor_listing.specs.Found.{nearPairs}
 use Rattle.neighbor_listing.specs.Listed as List·specs
 use Rattle.neighbor.specs.declared.Question.{Question}
 use Rattle.neighbor.specs.State.{radiusOf}
-use Rattle.neighbor.specs.Update.{Given, keptAll, rebuiltAll, keepsOf, askedBy, mayKeep, updatedOf}
+use Rattle.neighbor.specs.Update.{Given, keptAll, rebuiltAll, keepsOf, updateAsked, mayKeep, updatedOf}
 
 pub record SourceUpdate (question : Question) (i : Given) : Type 0 where
   -- lines 149 to 154 (`maybe_build`); without a question `build`
@@ -34,4 +34,4 @@ pub record SourceUpdate (question : Question) (i : Given) : Type 0 where
       → ((n ≡ 7) × (p ≡ 0)) ⊎ ((n ≡ 8) × (p ≡ length (nearPairs (i .cell) (radiusOf (i .state)) (i .positions) (i .exclusions))))
 
 abbrev pub UpdatesBySource : Question → Given → Type 0
-UpdatesBySource question i = askedBy (mayKeep question) i ≡ Answered → SourceUpdate question i
+UpdatesBySource question i = updateAsked (mayKeep question) i ≡ Answered → SourceUpdate question i

@@ -183,18 +183,18 @@ unfoldable pub tableAsked : List ℕ → Done
 tableAsked table = cond (isTable (rows table)) Done·cases.Answered (Done·cases.Refused Order)
 
 -- the first refusal of two tests
-unfoldable pub andThen : Done → Done → Done
-andThen (Done·cases.Refused r) d = Done·cases.Refused r
-andThen Done·cases.Answered d = d
+unfoldable pub firstRefusal : Done → Done → Done
+firstRefusal (Done·cases.Refused r) d = Done·cases.Refused r
+firstRefusal Done·cases.Answered d = d
 
 -- 1, 2, 6, 3, 4, 5
 unfoldable pub listAsked : Bool → State → Cell → List Float → List ℕ → List ℕ → List Float → ℕ → Done
 listAsked may s cell xs table pairs refs items =
-    andThen (firstOf s cell xs (length table) (length pairs) (length refs) items)
-    (andThen (cond may (keptAsked s (atomsOf xs) pairs refs) Done·cases.Answered) (tableAsked table))
+    firstRefusal (firstOf s cell xs (length table) (length pairs) (length refs) items)
+    (firstRefusal (cond may (keptAsked s (atomsOf xs) pairs refs) Done·cases.Answered) (tableAsked table))
 
-abbrev pub askedBy : Bool → Given → Done
-askedBy may i = listAsked may (i .state) (i .cell) (i .positions) (i .exclusions) (i .pairs) (i .references) (length (i .items))
+abbrev pub updateAsked : Bool → Given → Done
+updateAsked may i = listAsked may (i .state) (i .cell) (i .positions) (i .exclusions) (i .pairs) (i .references) (length (i .items))
 
 -- ---- the calls
 unfoldable pub afterOf : Question → Given → Done → Outcome
@@ -208,7 +208,7 @@ mayKeep Question·cases.NeedsRebuild = true
 mayKeep Question·cases.Outdated = true
 
 unfoldable pub updatedOf : Question → Given → Outcome
-updatedOf question i = afterOf question i (askedBy (mayKeep question) i)
+updatedOf question i = afterOf question i (updateAsked (mayKeep question) i)
 
 abbrev pub shown : Updated → List ℕ → List Float → List ℕ → List ℕ → Outcome
 shown r pairs references starts items =

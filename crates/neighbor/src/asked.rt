@@ -15,7 +15,7 @@ ghost use Rattle.cell.specs.Ranged.{entryLimit};
 ghost use Rattle.neighbor.specs.State.{settingsOk};
 ghost use Rattle.neighbor.specs.Rebuild.{claimsMore, referencesOk, rangesOk, inOrder, questionOf};
 ghost use Rattle.answer.specs.declared.Done.the-variants.{Answered};
-ghost use Rattle.neighbor.specs.Update.{lengthsBad, firstOf, keptAsked, tableAsked, andThen, listAsked};
+ghost use Rattle.neighbor.specs.Update.{lengthsBad, firstOf, keptAsked, tableAsked, firstRefusal, listAsked};
 
 pub(crate) fn settings_ok(cutoff: f64, skin: f64) -> bool
     ensures { λ r. ⌜ r ≡ settingsOk cutoff skin ⌝ }
@@ -163,7 +163,7 @@ pub fn asked_table(table: &[u32]) -> Done
 
 // Refusals 3 and 4 of a list that may be kept; then 5.
 fn asked_both(s: State, n: usize, table: &[u32], pairs: &[u32], refs: &[f64]) -> Done
-    ensures { λ r. ⌜ r ≡ andThen (keptAsked s n (now (pairs .entry)) (now (refs .entry))) (tableAsked (now (table .entry))) ⌝ }
+    ensures { λ r. ⌜ r ≡ firstRefusal (keptAsked s n (now (pairs .entry)) (now (refs .entry))) (tableAsked (now (table .entry))) ⌝ }
 {
     let a = asked_kept(s, n, pairs, refs);
     if let Done::Refused(why) = a {
@@ -174,7 +174,7 @@ fn asked_both(s: State, n: usize, table: &[u32], pairs: &[u32], refs: &[f64]) ->
 
 // What is asked last, by whether the list may be kept.
 fn asked_last(may: bool, s: State, n: usize, table: &[u32], pairs: &[u32], refs: &[f64]) -> Done
-    ensures { λ r. ⌜ r ≡ andThen (cond may (keptAsked s n (now (pairs .entry)) (now (refs .entry))) Answered) (tableAsked (now (table .entry))) ⌝ }
+    ensures { λ r. ⌜ r ≡ firstRefusal (cond may (keptAsked s n (now (pairs .entry)) (now (refs .entry))) Answered) (tableAsked (now (table .entry))) ⌝ }
 {
     if may {
         return asked_both(s, n, table, pairs, refs);

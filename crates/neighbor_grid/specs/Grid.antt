@@ -54,11 +54,11 @@ unfoldable pub sizeOf : ℤ → ℕ
 sizeOf (pos n) = max n 1
 sizeOf (negsuc n) = 1
 
-abbrev pub axisOf : Bool → Float → Float → Axis
-axisOf round width r = record { size = sizeOf (binsIn width r); round = round }
+abbrev pub gridAxisOf : Bool → Float → Float → Axis
+gridAxisOf round width r = record { size = sizeOf (binsIn width r); round = round }
 
 unfoldable pub gridBy : Vec3 → Bool → Bool → Bool → Float → Grid
-gridBy w px py pz r = record { x = axisOf px (w .x) r; y = axisOf py (w .y) r; z = axisOf pz (w .z) r }
+gridBy w px py pz r = record { x = gridAxisOf px (w .x) r; y = gridAxisOf py (w .y) r; z = gridAxisOf pz (w .z) r }
 
 -- The sizes are any whole numbers here (an infinite width's is the end of i64), and so is their product.
 unfoldable pub gridOf : Cell → Float → List Float → Grid

@@ -18,7 +18,7 @@ use Rattle.bins.specs.declared.Tally.{Tally}
 use Rattle.bins.specs.Stencil.{GoodGrid}
 use Rattle.bins.specs.Traversal.{bin, pairsOf, Placed}
 use Rattle.bins.specs.declared.Grid.{Grid}
-use Rattle.bins.specs.Listing.{listOf, fresh, free, foundOf, laidOf, Ready}
+use Rattle.bins.specs.Listing.{listOf, emptyListing, free, foundOf, laidOf, Ready}
 use Rattle.bins.proofs.Found.{plain-ready, binned-ready}
 use Rattle.bins.proofs.Sweeps.{pairs-agree}
 use Rattle.bins.proofs.TraversalLaws.{bin-less}
@@ -100,7 +100,7 @@ module _ (cell : Cell) (r : Float) (xs : List Float) (table : List ℕ) (h : isT
       }
 
   module _ (p : plainOf cell r xs ≡ true) where
-    pub plain-ran : record { tally = t; mem = m } ≡ listOf (sceneBy s xs firsts table) (fresh old) (allPairs (atomsOf xs)) → {e : ℕ} → e ≡ rowsBelow (atomsOf xs) (rows table) → Ran cell r xs table old t m e
+    pub plain-ran : record { tally = t; mem = m } ≡ listOf (sceneBy s xs firsts table) (emptyListing old) (allPairs (atomsOf xs)) → {e : ℕ} → e ≡ rowsBelow (atomsOf xs) (rows table) → Ran cell r xs table old t m e
     unfolding sceneBy
     plain-ran q is =
         ran (plain-cands cell r xs p) (ended (lookedBy s xs firsts table) old (allPairs (atomsOf xs)) t m q (plain-ready (lookedBy s xs firsts table) (atomsOf xs) few))
@@ -126,7 +126,7 @@ module _ {cell : Cell} {r : Float} {xs : List Float} {table : List ℕ} {g : Gri
         (binned-ready (sceneOf cell r xs table) (gridOf cell r xs) (good-grid cell r xs (w .wide)) (atomsOf xs) (cellAt cell r xs) (placed cell r xs) few)
 
     pub grid-ran : isTable (rows table) ≡ true → {s : Sight} → s ≡ sightOf cell r → {firsts : List ℕ} → Firsts table firsts → (old : List ℕ) {t : Tally} {m : List ℕ}
-        → record { tally = t; mem = m } ≡ listOf (sceneBy s xs firsts table) (fresh old) (pairsOf g (atomsBy g starts items)) → Ran cell r xs table old t m e
+        → record { tally = t; mem = m } ≡ listOf (sceneBy s xs firsts table) (emptyListing old) (pairsOf g (atomsBy g starts items)) → Ran cell r xs table old t m e
     unfolding sceneBy touchingRows
     grid-ran h {s} es {firsts} v old {t} {m} q =
         ran cell r xs table h few es v old grid-cands

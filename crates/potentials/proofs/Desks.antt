@@ -11,6 +11,7 @@ use Rattle.lists.specs.Atoms.{atomsOf}
 use Rattle.lists.specs.Exact.{_∈_}
 use Rattle.lists.specs.Lists.{numbers, every, firstWhere, rows, allPairs}
 use Rattle.lists.proofs.Cases.{by-test, or-neither}
+use Rattle.lists.proofs.First.{fold-same}
 use Rattle.answer.specs.declared.Done.{Done}
 use Rattle.answer.specs.declared.Done.the-variants.{Answered, Refused}
 use Rattle.cell.specs.declared.Cell.{Cell}
@@ -30,7 +31,7 @@ use Rattle.potentials.specs.Terms.{displaced, step, overPairs, zeroTotal
 use Rattle.potentials.specs.Calls.{tablesFit, orderAsked, ljRanges, ljAsked, outcomeOf}
 use Rattle.potentials.specs.Source.{accumulated, inTable, inTables}
 use Rattle.potentials.specs.Desks.{hasAtom, changedPull, oneAsked, OtherPairsStay, LjPairsChange, LjAllChange, LjPairsStay, LjPairsBack, LjAllBack, SpeciesRowBack, EmptyOwn, EmptyOwnPairs, EmptyOwnAll}
-use Rattle.potentials.proofs.Source.{fold-same, lj-pairs-by-source, lj-all-by-source}
+use Rattle.potentials.proofs.Source.{lj-pairs-by-source, lj-all-by-source}
 
 -- ---- the pairs of other species
 pub other-pairs-stay : (k s : ℕ) (epsilon sigma : Float) (t : Tables) → OtherPairsStay k s epsilon sigma t

@@ -1,19 +1,20 @@
 -- After passed tests every pair's atoms are there and every species of the table has its row, and so each term is the Rust's own loop. Assumes nothing.
-use Prim.Native.Nat.{ℕ, zero, suc, _+_, _*_, _/_, _%_, _<_}
+use Prim.Native.Nat.{ℕ, _+_, _*_, _/_, _%_, _<_}
 use native.Mathlib.Omega.{arith}
-use mathlib.Core.Path.{_≡_, refl, ap, _∙_}
+use mathlib.Core.Path.{_≡_, ap, _∙_}
 use mathlib.Core.Logic.{⊎-elim}
-use mathlib.Core.Bool.{Bool, true, false, cond, _&&_}
-use mathlib.Core.List.{List, [], _∷_, foldl, List·Memᴰ·head, List·Memᴰ·tail}
+use mathlib.Core.Bool.{Bool, true, false, _&&_}
+use mathlib.Core.List.{List, [], _∷_}
 use lib.Dec.{eqb, ltb}
 use lib.Ieee.{Float, nan}
 use lib.ListN.{length, getD, take, drop}
-use borrow.Author.Tests.{lt-ltb, le-ltb, ltb-true, ltb-false, eqb-true}
+use borrow.Author.Tests.{lt-ltb, ltb-true, eqb-true}
 use Rattle.lists.specs.Atoms.{atomsOf}
 use Rattle.lists.specs.Exact.{_∈_}
 use Rattle.lists.specs.Lists.{firstWhere, upTo, rows, allPairs, Two}
-use Rattle.lists.proofs.Cases.{by-test, true-or-false, and-both}
+use Rattle.lists.proofs.Cases.{true-or-false, and-both}
 use Rattle.lists.proofs.Exactness.{mem-upTo, mem-getD, all-exactly}
+use Rattle.lists.proofs.First.{fold-same, none-there}
 use Rattle.lists.proofs.Rows.{length-rows}
 use Rattle.lists.proofs.Walks.{drop-next}
 use Rattle.answer.specs.declared.Done.the-variants.{Answered}
@@ -33,36 +34,19 @@ use Rattle.potentials.specs.Calls.{tablesFit, ljFits, ljAsked, coulombAs
 use Rattle.potentials.specs.Source.{accumulated, inTable, inTables, LjPairsBySource, LjAllBySource, CoulombPairsBySource, CoulombAllBySource, BondsAllBySource}
 use Rattle.potentials.proofs.Outcomes.{asked-told}
 
--- ---- loops that do the same with each element
-pub fold-same : {A B : Type 0} (f g : B → A → B) (l : List A) → ((a : A) → a ∈ l → (t : B) → f t a ≡ g t a) → (t : B) → foldl f t l ≡ foldl g t l
-fold-same f g [] h t = refl
-fold-same {A} {B} f g (a ∷ l) h t = ap (λ (u : B). foldl f u l) (h a (List·Memᴰ·head refl) t) ∙ fold-same f g l (λ b m. h b (List·Memᴰ·tail m)) (g t a)
-
 -- a pair whose atoms are there is not passed over
 step-there : (n : ℕ) (pull : ℕ × ℕ → Pull) (t : Total) (p : ℕ × ℕ) → isAbsent n p ≡ false → step n pull t p ≡ after t p (pull p)
 unfolding step
 step-there n pull t p e = rw e
 
 -- ---- every pair's atoms are there
-none-first : {A : Type 0} (q : A → Bool) (a : A) (l : List A) → ltb (firstWhere q (a ∷ l)) (suc (length l)) ≡ false → (q a ≡ false) × (ltb (firstWhere q l) (length l) ≡ false)
-unfolding firstWhere
-none-first q a l =
-    by-test (λ t. ltb (cond t 0 (suc (firstWhere q l))) (suc (length l)) ≡ false → (t ≡ false) × (ltb (firstWhere q l) (length l) ≡ false)) (q a)
-    (λ _ f. absurd (omega (arith, ltb-false 0 (suc (length l)) f)))
-    (λ _ f. (refl, le-ltb (firstWhere q l) (length l) (omega (arith, ltb-false (suc (firstWhere q l)) (suc (length l)) f))))
-
-none-at : {A : Type 0} (d : A) (q : A → Bool) (l : List A) → ltb (firstWhere q l) (length l) ≡ false → (k : ℕ) → k < length l → q (getD l k d) ≡ false
-none-at d q [] h k s = absurd (omega arith)
-none-at d q (a ∷ l) h zero s = none-first q a l h .0
-none-at d q (a ∷ l) h (suc k) s = none-at d q l (none-first q a l h .1) k (omega arith)
-
 pub two-there : (n : ℕ) (p : ℕ × ℕ) → Two n p → isAbsent n p ≡ false
 two-there n p u = let l = u .0 in let h = u .1 in rw (lt-ltb (p .0) n (omega arith), lt-ltb (p .1) n h)
 
 module _ (n : ℕ) (table : List ℕ) (h : ltb (absentOf n (rows table)) (length table / 2) ≡ false) where
   row-there : (k : ℕ) → k < length (rows table) → isAbsent n (getD (rows table) k (0, 0)) ≡ false
   unfolding absentOf
-  row-there = none-at (0, 0) (isAbsent n) (rows table) (rw (length-rows table) h)
+  row-there = none-there (0, 0) (isAbsent n) (rows table) (rw (length-rows table) h)
 
   pair-there : (p : ℕ × ℕ) → p ∈ rows table → isAbsent n p ≡ false
   pair-there p m = let r = mem-getD (0, 0) (rows table) m in rw (r .2) at (row-there (r .0) (r .1))

@@ -1,19 +1,16 @@
 -- After passed tests every row's atoms are there, and so the term is the Rust's own loop. Assumes nothing.
-use Prim.Native.Nat.{ℕ, suc, _/_}
-use native.Mathlib.Omega.{arith}
-use mathlib.Core.Path.{_≡_, refl, ap, _∙_}
-use mathlib.Core.Bool.{Bool, false, cond}
-use mathlib.Core.List.{List, [], _∷_, foldl, List·Memᴰ·head, List·Memᴰ·tail, List·Memᴰ·not-nil, List·Memᴰ·cases-cons}
-use mathlib.Core.Logic.{⊎-elim}
+use Prim.Native.Nat.{ℕ, _/_}
+use mathlib.Core.Path.{_≡_}
+use mathlib.Core.Bool.{false}
+use mathlib.Core.List.{List}
 use lib.Dec.{ltb}
 use lib.Ieee.{Float}
 use lib.ListN.{length}
-use borrow.Author.Tests.{ltb-false, le-ltb}
 use Rattle.lists.specs.Atoms.{atomsOf}
 use Rattle.lists.specs.Exact.{_∈_}
-use Rattle.lists.specs.Lists.{upTo, firstWhere}
-use Rattle.lists.proofs.Cases.{by-test}
+use Rattle.lists.specs.Lists.{upTo}
 use Rattle.lists.proofs.Exactness.{length-upTo}
+use Rattle.lists.proofs.First.{fold-same, none-passes}
 use Rattle.cell.specs.declared.Cell.{Cell}
 use Rattle.cell.specs.Cell.{imageOf}
 use Rattle.potentials_pair.specs.Pull.{Total}
@@ -25,23 +22,6 @@ use Rattle.potentials_angle.specs.Rows.{cornerAt, isMissing, missingOf}
 use Rattle.potentials_angle.specs.Terms.{angleBend, angleStep, anglesOver}
 use Rattle.potentials_angle.specs.Calls.{anglesAsked}
 use Rattle.potentials_angle.specs.Source.{AnglesAllBySource}
-
--- loops that do the same with each element
-fold-same : {A B : Type 0} (f g : B → A → B) (l : List A) → ((a : A) → a ∈ l → (t : B) → f t a ≡ g t a) → (t : B) → foldl f t l ≡ foldl g t l
-fold-same f g [] h t = refl
-fold-same {A} {B} f g (a ∷ l) h t = ap (λ (u : B). foldl f u l) (h a (List·Memᴰ·head refl) t) ∙ fold-same f g l (λ b m. h b (List·Memᴰ·tail m)) (g t a)
-
--- where the first place that passes a test is past the end, no element does
-none-first : {A : Type 0} (q : A → Bool) (a : A) (l : List A) → ltb (firstWhere q (a ∷ l)) (suc (length l)) ≡ false → (q a ≡ false) × (ltb (firstWhere q l) (length l) ≡ false)
-unfolding firstWhere
-none-first q a l =
-    by-test (λ t. ltb (cond t 0 (suc (firstWhere q l))) (suc (length l)) ≡ false → (t ≡ false) × (ltb (firstWhere q l) (length l) ≡ false)) (q a)
-    (λ _ f. absurd (omega (arith, ltb-false 0 (suc (length l)) f)))
-    (λ _ f. (refl, le-ltb (firstWhere q l) (length l) (omega (arith, ltb-false (suc (firstWhere q l)) (suc (length l)) f))))
-
-none-passes : {A : Type 0} (q : A → Bool) (l : List A) → ltb (firstWhere q l) (length l) ≡ false → (a : A) → a ∈ l → q a ≡ false
-none-passes q [] h a m = absurd (List·Memᴰ·not-nil m)
-none-passes q (b ∷ l) h a m = ⊎-elim (λ e. ap q e ∙ none-first q b l h .0) (λ t. none-passes q l (none-first q b l h .1) a t) (List·Memᴰ·cases-cons m)
 
 module _ (angle : Angle) (cell : Cell) (angles : List ℕ) (per xs forces : List Float) where
   -- what row r adds, as in the source

@@ -24,7 +24,7 @@ use Rattle.sheet_lines.specs.declared.Line.{Line}
 use Rattle.sheet_lines.specs.declared.Line.the-variants.{Header, Atom, Exclusion, Malformed, End}
 use Rattle.sheet_lines.proofs.GrammarLaws.{text-line, Sound}
 use Rattle.sheet.specs.Meaning.{excluding}
-use Rattle.sheet.specs.Desk.{Fit, Below}
+use Rattle.sheet.specs.Desk.{Fit, NumberBelow}
 
 -- within the list the default is not looked at
 pub getD-any : (l : List ℕ) (i d e : ℕ) → i < length l → getD l i d ≡ getD l i e
@@ -87,12 +87,12 @@ module _ (count a b : ℕ) (t u : List ℕ) (fit : Fit count t) where
       s
 
 -- ---- an atom line's number is below 1,024
-sound-below : (s : List ℕ) (at : ℕ) (l : Line) → Sound s at l → Below l
+sound-below : (s : List ℕ) (at : ℕ) (l : Line) → Sound s at l → NumberBelow l
 sound-below s at (Header h) k = tt
 sound-below s at (Atom n x y z) k = k .0 .0
 sound-below s at (Exclusion a b) k = tt
 sound-below s at Malformed k = tt
 sound-below s at End k = tt
 
-pub below-line : (s : List ℕ) (at : ℕ) → Below (lineAt s at)
+pub below-line : (s : List ℕ) (at : ℕ) → NumberBelow (lineAt s at)
 below-line s at = sound-below s at (lineAt s at) (text-line s at)

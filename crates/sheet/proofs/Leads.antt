@@ -7,7 +7,7 @@ use lib.ListN.{length, getD, drop, drop-of-length-le}
 use lib.Seq.{drop-cons}
 use borrow.Author.Tests.{eq-eqb, ne-eqb}
 use native.Mathlib.Nat.{zero-add}
-use Rattle.sheet.specs.Reading.{leadOf, strayOf, absentOf}
+use Rattle.sheet.specs.Reading.{leadOf, strayOf, unmarkedOf}
 
 module _ (l : List ℕ) (i v : ℕ) where
   pub lead-more : i < length l → getD l i 0 ≡ v → leadOf v (drop i l) ≡ suc (leadOf v (drop (i + 1) l))
@@ -23,6 +23,6 @@ pub stray-is : (atoms : ℕ) (se : List ℕ) (r : ℕ) → r ≡ atoms + leadOf 
 unfolding strayOf
 stray-is atoms se r e = sym e
 
-pub absent-is : (se : List ℕ) (r : ℕ) → r ≡ 0 + leadOf 1 se → absentOf se ≡ r
-unfolding absentOf
+pub absent-is : (se : List ℕ) (r : ℕ) → r ≡ 0 + leadOf 1 se → unmarkedOf se ≡ r
+unfolding unmarkedOf
 absent-is se r e = sym (e ∙ zero-add (leadOf 1 se))

@@ -18,7 +18,7 @@ use Rattle.exclusions.proofs.Storing.{front-flat}
 use Rattle.sheet_lines.specs.Reading.{linesOf}
 use Rattle.sheet_lines.specs.declared.Head.{Head}
 use Rattle.sheet.specs.Meaning.{Meaning}
-use Rattle.sheet.specs.Reading.{counted, tested, strayOf, absentOf, soundWith, thenTested, run, blank, sheetOf}
+use Rattle.sheet.specs.Reading.{counted, tested, strayOf, unmarkedOf, soundWith, thenTested, run, blank, sheetOf}
 use Rattle.sheet.specs.Desk.{headerFor, meaningFor, Fit}
 use Rattle.sheet.specs.Read.{Outcome, jobFor, handed, readOf}
 use Rattle.sheet.specs.declared.Job.{Job}
@@ -29,15 +29,15 @@ counted-few : (h k : Head) (marks : List ℕ) → answered k ≡ counted h marks
 unfolding counted
 counted-few h k marks e =
     by-test
-    (λ x. ltb 1024 (h .atoms) ≡ x → answered k ≡ cond x (refused 2 (h .atoms)) (cond (ltb (strayOf (h .atoms) marks) 1024) (refused 4 (strayOf (h .atoms) marks)) (cond (ltb (absentOf marks) (h .atoms)) (refused 11 (absentOf marks)) (answered h))) → k .atoms ≤ 1024)
+    (λ x. ltb 1024 (h .atoms) ≡ x → answered k ≡ cond x (refused 2 (h .atoms)) (cond (ltb (strayOf (h .atoms) marks) 1024) (refused 4 (strayOf (h .atoms) marks)) (cond (ltb (unmarkedOf marks) (h .atoms)) (refused 11 (unmarkedOf marks)) (answered h))) → k .atoms ≤ 1024)
     (ltb 1024 (h .atoms))
     (λ _ q p. impossible (cc))
     (λ _ q p.
-    by-test (λ x. answered k ≡ cond x (refused 4 (strayOf (h .atoms) marks)) (cond (ltb (absentOf marks) (h .atoms)) (refused 11 (absentOf marks)) (answered h)) → k .atoms ≤ 1024)
+    by-test (λ x. answered k ≡ cond x (refused 4 (strayOf (h .atoms) marks)) (cond (ltb (unmarkedOf marks) (h .atoms)) (refused 11 (unmarkedOf marks)) (answered h)) → k .atoms ≤ 1024)
     (ltb (strayOf (h .atoms) marks) 1024)
     (λ _ u. impossible (cc))
     (λ _ u.
-    by-test (λ x. answered k ≡ cond x (refused 11 (absentOf marks)) (answered h) → k .atoms ≤ 1024) (ltb (absentOf marks) (h .atoms))
+    by-test (λ x. answered k ≡ cond x (refused 11 (unmarkedOf marks)) (answered h) → k .atoms ≤ 1024) (ltb (unmarkedOf marks) (h .atoms))
     (λ _ w. impossible (cc))
     (λ _ w. let same : k ≡ h = cc in omega (arith, ap (λ (g : Head). g .atoms) same, ltb-false 1024 (h .atoms) q))
     u)

@@ -9,7 +9,7 @@ use borrow.Author.Tests.{lt-ltb, le-ltb}
 use Rattle.answer.specs.Seen.{answered, refusedBy}
 use Rattle.answer.specs.declared.Refusal.{Refusal}
 use Rattle.sheet_lines.specs.Grammar.{WellFormed}
-use Rattle.sheet_lines.specs.Reading.{lineAt, widthOf, linesFrom, linesOf}
+use Rattle.sheet_lines.specs.Reading.{lineAt, lineWidth, linesFrom, linesOf}
 use Rattle.sheet_lines.specs.declared.Line.{Line}
 use Rattle.sheet_lines.specs.declared.Line.the-variants.{Header, Atom, Exclusion, Malformed, End}
 use Rattle.sheet.specs.Meaning.{acted, actOf}
@@ -20,14 +20,14 @@ use Rattle.sheet.specs.declared.desk.Kept as kept
 use Rattle.sheet.specs.declared.desk.Kept.the-variants as keeps
 use Rattle.sheet.proofs.Turning.{Half, start, half-start, half-end, OneMore, half-wide, half-next, half-stop}
 
-wide-least : (l : Line) → WellFormed l → 11 ≤ widthOf l
+wide-least : (l : Line) → WellFormed l → 11 ≤ lineWidth l
 wide-least (Header h) g = omega arith
 wide-least (Atom n x y z) g = omega arith
 wide-least (Exclusion a b) g = omega arith
 wide-least Malformed g = absurd g
 wide-least End g = absurd g
 
-wide-most : (l : Line) → widthOf l ≤ 41
+wide-most : (l : Line) → lineWidth l ≤ 41
 wide-most (Header h) = omega arith
 wide-most (Atom n x y z) = omega arith
 wide-most (Exclusion a b) = omega arith
@@ -41,7 +41,7 @@ lines-end (suc f) s at h = simp (le-ltb at (length s) h)
 abbrev pub Halfway : (s co₀ se₀ co se ta : List ℕ) (d : Desk) (at n : ℕ) → Type 0
 Halfway s co₀ se₀ co se ta d at n = Half linesFrom s co₀ se₀ co se ta d at n
 
-one-more : (s : List ℕ) (at n : ℕ) (l : Line) (w : ℕ) → at < length s → l ≡ lineAt s at → w ≡ widthOf l → OneMore linesFrom s at n l w
+one-more : (s : List ℕ) (at n : ℕ) (l : Line) (w : ℕ) → at < length s → l ≡ lineAt s at → w ≡ lineWidth l → OneMore linesFrom s at n l w
 one-more s at n l w h e f =
     record {
       here = h;
@@ -53,7 +53,7 @@ one-more s at n l w h e f =
 pub halfway-start : (s co se ta : List ℕ) (d : Desk) → length co ≡ 3072 → length se ≡ 1024 → length ta ≡ 2048 → (d .has ≡ false) × (d .count ≡ 0) → Halfway s co se co se ta d 0 0
 halfway-start s co se ta d a b c h = half-start linesFrom s co se ta d a b c h
 
-module _ {s co₀ se₀ co se ta : List ℕ} {d : Desk} {at n : ℕ} (v : Halfway s co₀ se₀ co se ta d at n) (l : Line) (w : ℕ) (h : at < length s) (e : l ≡ lineAt s at) (f : w ≡ widthOf l)
+module _ {s co₀ se₀ co se ta : List ℕ} {d : Desk} {at n : ℕ} (v : Halfway s co₀ se₀ co se ta d at n) (l : Line) (w : ℕ) (h : at < length s) (e : l ≡ lineAt s at) (f : w ≡ lineWidth l)
     (k : kept.Kept) (co′ se′ ta′ : List ℕ) (says : shownKept k co′ se′ ta′ ≡ onward (acted (actOf l) (meaningFor d co se ta)) (refusalFor l (n + 1)) answered) where
   pub kept-wide : (d′ : Desk) → k ≡ keeps.Next d′ → (11 ≤ w) × (w ≤ 41)
   kept-wide d′ p = half-wide linesFrom v l w (one-more s at n l w h e f) k co′ se′ ta′ says d′ p

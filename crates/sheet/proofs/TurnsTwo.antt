@@ -20,7 +20,7 @@ use Rattle.sheet_lines.specs.declared.Line.{Line}
 use Rattle.sheet_lines.specs.declared.Line.the-variants.{Header, Atom, Exclusion, Malformed, End}
 use Rattle.sheet_lines_two.specs.declared.TwoLine.{TwoLine}
 use Rattle.sheet_lines_two.specs.Twos.{plainTwo, typedTwo, twoAt, wideTwo, widthTwo, twosFrom, twosOf, kindOf, toldOf}
-use Rattle.sheet.specs.Desk.{Below}
+use Rattle.sheet.specs.Desk.{NumberBelow}
 use Rattle.sheet.specs.ReadTwo.{speciesIn}
 use Rattle.sheet.proofs.Turning.{OneMore}
 
@@ -64,34 +64,34 @@ told-all b s = refl
 
 -- ---- an atom line's number is below 1,024
 
-below-if : (b : Bool) (x y : Line) → (b ≡ true → Below x) → Below y → Below (cond b x y)
+below-if : (b : Bool) (x y : Line) → (b ≡ true → NumberBelow x) → NumberBelow y → NumberBelow (cond b x y)
 below-if true x y f g = f refl
 below-if false x y f g = g
 
-below-header : (a : ℕ) (t : Three) (m r z : ℕ) → Below (headerOf a t m r z)
+below-header : (a : ℕ) (t : Three) (m r z : ℕ) → NumberBelow (headerOf a t m r z)
 unfolding headerOf
 below-header a Nothing m r z = tt
 below-header a (Of x y w) m r z =
     below-if (ltb a (2 ^ 16)) _ _ (λ _. below-if (ltb m 8) _ _ (λ _. below-if (ltb r (2 ^ 32)) _ _ (λ _. below-if (eqb z 10) _ _ (λ _. tt) tt) tt) tt) tt
 
-below-atom : (n : ℕ) (t : Three) (z : ℕ) → Below (atomOf n t z)
+below-atom : (n : ℕ) (t : Three) (z : ℕ) → NumberBelow (atomOf n t z)
 unfolding atomOf
 below-atom n Nothing z = tt
 below-atom n (Of x y w) z = below-if (ltb n 1024) _ _ (λ p. below-if (eqb z 10) _ _ (λ _. ltb-true n 1024 p) tt) tt
 
-below-exclusion : (a b z : ℕ) → Below (exclusionOf a b z)
+below-exclusion : (a b z : ℕ) → NumberBelow (exclusionOf a b z)
 unfolding exclusionOf
 below-exclusion a b z = below-if (ltb a (2 ^ 16)) _ _ (λ _. below-if (ltb b (2 ^ 16)) _ _ (λ _. below-if (eqb z 10) _ _ (λ _. tt) tt) tt) tt
 
-core-if : (b : Bool) (x y : TwoLine) → Below (x .core) → Below (y .core) → Below ((cond b x y) .core)
+core-if : (b : Bool) (x y : TwoLine) → NumberBelow (x .core) → NumberBelow (y .core) → NumberBelow ((cond b x y) .core)
 core-if true x y f g = f
 core-if false x y f g = g
 
-below-typed : (l : Line) (t : ℕ) → Below l → Below ((typedTwo l t) .core)
+below-typed : (l : Line) (t : ℕ) → NumberBelow l → NumberBelow ((typedTwo l t) .core)
 unfolding typedTwo
 below-typed l t h = core-if (ltb t (2 ^ 32)) (record { core = l; species = t }) (plainTwo Malformed) h tt
 
-below-core : (s : List ℕ) (at : ℕ) → Below ((twoAt s at) .core)
+below-core : (s : List ℕ) (at : ℕ) → NumberBelow ((twoAt s at) .core)
 unfolding twoAt
 below-core s at =
     core-if (ltb at (length s)) _ _
@@ -100,14 +100,14 @@ below-core s at =
     (core-if (eqb (hex2 s at) 3) _ _ (below-exclusion (hex4 s (at + 2)) (hex4 s (at + 6)) (byteAt s (at + 10))) tt)))
     tt
 
-below-kind : (c : Line) (t : ℕ) → Below c → Below (kindOf c t)
+below-kind : (c : Line) (t : ℕ) → NumberBelow c → NumberBelow (kindOf c t)
 below-kind (Header h) t b = tt
 below-kind (Atom n x y z) t b = b
 below-kind (Exclusion d e) t b = tt
 below-kind Malformed t b = tt
 below-kind End t b = tt
 
-pub below-two : (b : Bool) (s : List ℕ) (at : ℕ) → Below (toldOf b (twoAt s at))
+pub below-two : (b : Bool) (s : List ℕ) (at : ℕ) → NumberBelow (toldOf b (twoAt s at))
 below-two true s at = below-kind ((twoAt s at) .core) ((twoAt s at) .species) (below-core s at)
 below-two false s at = below-core s at
 

@@ -54,9 +54,9 @@ FitKept (keeps.Next d) ta = Fit (d .count) ta
 FitKept (keeps.Refused r) ta = Unit {0}
 
 -- an atom line's number is below 1,024
-abbrev pub Below : Line → Type 0
-Below (Header h) = Unit {0}
-Below (Atom n x y z) = n < 1024
-Below (Exclusion a b) = Unit {0}
-Below Malformed = Unit {0}
-Below End = Unit {0}
+abbrev pub NumberBelow : Line → Type 0
+NumberBelow (Header h) = Unit {0}
+NumberBelow (Atom n x y z) = n < 1024
+NumberBelow (Exclusion a b) = Unit {0}
+NumberBelow Malformed = Unit {0}
+NumberBelow End = Unit {0}

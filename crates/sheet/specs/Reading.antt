@@ -44,15 +44,15 @@ leadOf v (x ∷ xs) = cond (eqb x v) (suc (leadOf v xs)) 0
 unfoldable pub strayOf : ℕ → List ℕ → ℕ
 strayOf atoms marks = atoms + leadOf 0 (drop atoms marks)
 
-unfoldable pub absentOf : List ℕ → ℕ
-absentOf marks = leadOf 1 marks
+unfoldable pub unmarkedOf : List ℕ → ℕ
+unmarkedOf marks = leadOf 1 marks
 
 -- "Then: header (11), over 1,024 atoms (2), lowest atom number not below the count (4, place that number), absent atom (11)"; the header where all is well
 unfoldable pub counted : Head → List ℕ → Seen Head
 counted h marks =
     cond (ltb 1024 (h .atoms)) (refusedBy (refusal.TooMany (h .atoms)))
     (cond (ltb (strayOf (h .atoms) marks) 1024) (refusedBy (refusal.NotThere (strayOf (h .atoms) marks)))
-    (cond (ltb (absentOf marks) (h .atoms)) (refusedBy (refusal.Absent (absentOf marks))) (answered h)))
+    (cond (ltb (unmarkedOf marks) (h .atoms)) (refusedBy (refusal.Absent (unmarkedOf marks))) (answered h)))
 
 abbrev pub tested : Option Head → List ℕ → Seen Head
 tested none marks = refusedBy (refusal.Absent noHeader)

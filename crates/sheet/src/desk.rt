@@ -18,7 +18,7 @@ ghost use Rattle.sheet_lines.specs.Reading.{linesOf};
 ghost use Rattle.lists.specs.Lists.{rows};
 ghost use Rattle.sheet.specs.Meaning.{fresh, placed, excluding, acted, actOf};
 ghost use Rattle.sheet.specs.Reading.{refusalFor, onward, run};
-ghost use Rattle.sheet.specs.Desk.{meaningFor, shownKept, shownRows, Fit, FitCount, FitKept, Below};
+ghost use Rattle.sheet.specs.Desk.{meaningFor, shownKept, shownRows, Fit, FitCount, FitKept, NumberBelow};
 
 pub(crate) struct Desk {
     pub has: bool,
@@ -76,7 +76,7 @@ pub(crate) fn keep(
     seen: &mut [u8],
     table: &mut [u32],
 ) -> Kept
-    requires { ⌜ Below line × Fit (desk .count) (now table) × (length (now coords) ≡ 3072) × (length (now seen) ≡ 1024) ⌝ }
+    requires { ⌜ NumberBelow line × Fit (desk .count) (now table) × (length (now coords) ≡ 3072) × (length (now seen) ≡ 1024) ⌝ }
     ensures { λ r. ⌜ shownKept r (now (coords .exit)) (now (seen .exit)) (now (table .exit)) ≡ onward (acted (actOf line) (meaningFor desk (now (coords .entry)) (now (seen .entry)) (now (table .entry)))) (refusalFor line n) (λ m. answered m) ⌝ }
     ensures { λ r. ⌜ FitKept r (now (table .exit)) ⌝ }
 {

@@ -32,7 +32,7 @@ use Rattle.sheet.specs.declared.Sheet.the-variants as sheets
 use Rattle.sheet.proofs.Sizes.{Full, full}
 use Rattle.sheet_answer.specs.declared.SheetList.{SheetList}
 use Rattle.sheet_answer.specs.Solve.{frameFor, givenFor, shownText, jobText, printed, solveOf, answerText}
-use Rattle.sheet_answer.specs.List.{SheetCounts, seenList, ListOutcome, givenIn, withAtoms, jobList, listFor, sheetListOf, ListSays, Sheeted}
+use Rattle.sheet_answer.specs.List.{SheetCounts, seenList, ListOutcome, givenByJob, withAtoms, jobList, listFor, sheetListOf, ListSays, Sheeted}
 use Rattle.sheet_answer.specs.Steps.{listText}
 
 -- ---- what `build` told: the list of what was read
@@ -89,8 +89,8 @@ module _ (j : Job) (co ex pairs : List ℕ) (f : Frame) (is : f ≡ frameFor j) 
   outcome : Outcome
   outcome = record { answer = seenBuilt r; pairs = ps; starts = ss; items = it }
 
-  built-is : outcome ≡ buildOf (givenIn j co ex pairs)
-  unfolding givenIn outcome
+  built-is : outcome ≡ buildOf (givenByJob j co ex pairs)
+  unfolding givenByJob outcome
   built-is = rw is at says
 
   module _ (b : Built) (e : r ≡ b) where
@@ -101,12 +101,12 @@ module _ (j : Job) (co ex pairs : List ℕ) (f : Frame) (is : f ≡ frameFor j) 
         ∙ ap (λ (o : Outcome). record { shown = withAtoms (j .atoms) (o .answer); pairs = o .pairs }) built-is
 
     pub job-fits : BuildLists (record { frame = f; coordinates = co; exclusions = ex; pairs = pairs; starts = replicate 16384 0; items = replicate 1024 0 }) r ps → length co ≡ 3 * j .atoms → j .atoms ≤ 1024 → (c : SheetCounts) → withAtoms (j .atoms) (seenBuilt b) ≡ answered c → Sheeted c ps
-    unfolding outcome buildOf givenIn
+    unfolding outcome buildOf givenByJob
     job-fits lists long few c a =
         let w = with-answered (j .atoms) (seenBuilt b) c a in
         let seen : seenBuilt r ≡ answered (c .built) = ap seenBuilt e ∙ w .1 in
-        let fit = after-room (givenIn j co ex pairs) (frameAsked (frameFor j) co ex (length (replicate {A = ℕ} 1024 0))) (c .built) (sym (ap (λ (o : Outcome). o .answer) built-is) ∙ seen) in
-        let kept : length ps ≡ length pairs = ap (λ (o : Outcome). length (o .pairs)) built-is ∙ pairs-kept (givenIn j co ex pairs) in
+        let fit = after-room (givenByJob j co ex pairs) (frameAsked (frameFor j) co ex (length (replicate {A = ℕ} 1024 0))) (c .built) (sym (ap (λ (o : Outcome). o .answer) built-is) ∙ seen) in
+        let kept : length ps ≡ length pairs = ap (λ (o : Outcome). length (o .pairs)) built-is ∙ pairs-kept (givenByJob j co ex pairs) in
         record {
           few = omega (arith, w .0);
           room = omega (arith, fit, kept);
@@ -200,7 +200,7 @@ abbrev pub textOf : ListOutcome → List ℕ
 textOf o = listText (o .shown) (o .pairs)
 
 pub sheet-text : (x : Seen Sound) → textOf (listFor x (replicate 16384 0)) ≡ answerText x
-unfolding jobList jobText givenIn givenFor
+unfolding jobList jobText givenByJob givenFor
 sheet-text (answered a) =
     let j = reading.jobFor (a .head) (length (a .rows)) in
     let o = buildOf (givenFor j (a .coords) (flat (a .rows))) in with-text (j .atoms) (o .answer) (o .pairs)

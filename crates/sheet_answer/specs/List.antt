@@ -33,8 +33,8 @@ pub record ListOutcome : Type 0 where
   pub pairs : List ℕ
 
 -- `givenFor` with the pairs that are lent
-unfoldable pub givenIn : Job → List ℕ → List ℕ → List ℕ → Given
-givenIn j coordinates exclusions pairs =
+unfoldable pub givenByJob : Job → List ℕ → List ℕ → List ℕ → Given
+givenByJob j coordinates exclusions pairs =
     record {
       frame = frameFor j;
       coordinates = coordinates;
@@ -49,11 +49,11 @@ withAtoms n (answered c) = answered (record { atoms = n; built = c })
 withAtoms n (refused k p) = refused k p
 
 unfoldable pub jobList : Job → List ℕ → List ℕ → List ℕ → ListOutcome
-unfolding givenIn
+unfolding givenByJob
 jobList j coordinates exclusions pairs =
     record {
-      shown = withAtoms (j .atoms) (buildOf (givenIn j coordinates exclusions pairs) .answer);
-      pairs = buildOf (givenIn j coordinates exclusions pairs) .pairs;
+      shown = withAtoms (j .atoms) (buildOf (givenByJob j coordinates exclusions pairs) .answer);
+      pairs = buildOf (givenByJob j coordinates exclusions pairs) .pairs;
     }
 
 -- a sheet that is refused leaves the pairs as they came

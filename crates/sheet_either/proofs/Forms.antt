@@ -16,7 +16,7 @@ use Rattle.exclusions.specs.Table.{added}
 use Rattle.hex.specs.Digits.{byteAt, hex2, hex4, hex8}
 use Rattle.hex.proofs.Choice.{cases}
 use Rattle.sheet_lines.specs.Grammar.{WellFormed, AllWellFormed, AllWhole, joinAll}
-use Rattle.sheet_lines.specs.Reading.{threeAt, headerOf, atomOf, exclusionOf, lineAt, widthOf, linesFrom, linesOf}
+use Rattle.sheet_lines.specs.Reading.{threeAt, headerOf, atomOf, exclusionOf, lineAt, lineWidth, linesFrom, linesOf}
 use Rattle.sheet_lines.specs.declared.Head.{Head}
 use Rattle.sheet_lines.specs.declared.Line.{Line}
 use Rattle.sheet_lines.specs.declared.Line.the-variants.{Header, Atom, Exclusion, Malformed, End}
@@ -92,14 +92,14 @@ kind-here s at h g =
     (λ r. exclusion-here s at h (eqb-true (hex2 s at) 3 r))
     (λ r. absurd (rw (none-here s at h p q r) at g))))
 
-line-not : (l : Line) (f : ℕ) (s : List ℕ) (at : ℕ) → Out l → WellFormed l → AllWellFormed (linesFrom f s (at + widthOf l)) → ((k : ℕ) → AllWellFormed (linesFrom f s k) → isTwo (twosFrom f s k) ≡ false) → saysTwo l (isTwo (twosFrom f s (at + wideTwo l))) ≡ false
+line-not : (l : Line) (f : ℕ) (s : List ℕ) (at : ℕ) → Out l → WellFormed l → AllWellFormed (linesFrom f s (at + lineWidth l)) → ((k : ℕ) → AllWellFormed (linesFrom f s k) → isTwo (twosFrom f s k) ≡ false) → saysTwo l (isTwo (twosFrom f s (at + wideTwo l))) ≡ false
 line-not (Header h) f s at o g a r = absurd o
 line-not (Atom n x y z) f s at o g a r = absurd o
 line-not (Exclusion b c) f s at o g a r = r (at + 11) a
 line-not Malformed f s at o g a r = refl
 line-not End f s at o g a r = refl
 
-rest-not : (l : Line) (t : TwoLine) (f : ℕ) (s : List ℕ) (at : ℕ) → Other l t → WellFormed l → AllWellFormed (linesFrom f s (at + widthOf l)) → ((k : ℕ) → AllWellFormed (linesFrom f s k) → isTwo (twosFrom f s k) ≡ false) → saysTwo (t .core) (isTwo (twosFrom f s (at + widthTwo t))) ≡ false
+rest-not : (l : Line) (t : TwoLine) (f : ℕ) (s : List ℕ) (at : ℕ) → Other l t → WellFormed l → AllWellFormed (linesFrom f s (at + lineWidth l)) → ((k : ℕ) → AllWellFormed (linesFrom f s k) → isTwo (twosFrom f s k) ≡ false) → saysTwo (t .core) (isTwo (twosFrom f s (at + widthTwo t))) ≡ false
 rest-not l t f s at (other e) g a r = ap (λ (x : TwoLine). saysTwo (x .core) (isTwo (twosFrom f s (at + widthTwo x)))) e
 rest-not l t f s at (exclusion o e) g a r = ap (λ (x : TwoLine). saysTwo (x .core) (isTwo (twosFrom f s (at + widthTwo x)))) e ∙ line-not l f s at o g a r
 

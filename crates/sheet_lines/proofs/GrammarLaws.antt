@@ -12,7 +12,7 @@ use Rattle.hex.specs.Glyphs.{text2, text4, text8, Stands}
 use Rattle.hex.proofs.Choice.{cases}
 use Rattle.hex.proofs.Writing.{length2, length4, length8}
 use Rattle.hex.proofs.Reading.{stands-split, stands-join, hex2-text, text-hex2, hex4-text, text-hex4, hex8-text, text-hex8, in-range}
-use Rattle.sheet_lines.specs.Reading.{threeOf, threeAt, headerOf, atomOf, exclusionOf, lineAt, widthOf}
+use Rattle.sheet_lines.specs.Reading.{threeOf, threeAt, headerOf, atomOf, exclusionOf, lineAt, lineWidth}
 use Rattle.sheet_lines.specs.Grammar.{text888, lineText, Valid}
 use Rattle.sheet_lines.specs.declared.Three.{Three}
 use Rattle.sheet_lines.specs.declared.Three.the-variants.{Of, Nothing}
@@ -199,7 +199,7 @@ text-line s at =
     (sound-if s at (eqb (hex2 s at) 3) _ _ (λ e. sound-exclusion s at (eqb-true (hex2 s at) 3 e)) tt)))
     tt
 
-pub length-text : (l : Line) → length (lineText l) ≡ widthOf l
+pub length-text : (l : Line) → length (lineText l) ≡ lineWidth l
 unfolding lineText
 length-text (Header h) = simp (length-append, length2, length4, length8, length888)
 length-text (Atom n x y z) = simp (length-append, length2, length4, length888)

@@ -8,7 +8,7 @@ use lib.ListN.{length}
 use lib.Dec.{ltb}
 use Rattle.hex.specs.Glyphs.{glyphOf, text2, text4, text8, Stands}
 use Rattle.hex.proofs.Choice.{cases}
-use Rattle.sheet_lines.specs.Reading.{lineAt, widthOf, linesFrom, linesOf}
+use Rattle.sheet_lines.specs.Reading.{lineAt, lineWidth, linesFrom, linesOf}
 use Rattle.sheet_lines.specs.Grammar.{text888, lineText, Valid, sheetText, AllValid, WellFormed, AllWellFormed, Unbroken, WholeLine, AllWhole, joinAll}
 use Rattle.sheet_lines.specs.declared.Line.{Line}
 use Rattle.sheet_lines.specs.declared.Line.the-variants.{Header, Atom, Exclusion, Malformed, End}
@@ -85,7 +85,7 @@ sound-good s at End g k = absurd g
 
 -- ---- the first form is a form
 
-pub first-form : Form Line lineText lineAt widthOf Valid WellFormed
+pub first-form : Form Line lineText lineAt lineWidth Valid WellFormed
 first-form = record { reads = line-text; stood = λ s at g. sound-good s at (lineAt s at) g (text-line s at); wide = length-text; whole = whole-text }
 
 each-valid : (ls : List Line) → AllValid ls → Each Valid ls
@@ -100,11 +100,11 @@ pub each-well : (ls : List Line) → AllWellFormed ls → Each WellFormed ls
 each-well [] g = tt
 each-well (l ∷ ls) g = (g .0, each-well ls (g .1))
 
-lines-same : (f : ℕ) (s : List ℕ) (at : ℕ) → linesFrom f s at ≡ linesBy lineAt widthOf f s at
+lines-same : (f : ℕ) (s : List ℕ) (at : ℕ) → linesFrom f s at ≡ linesBy lineAt lineWidth f s at
 lines-same zero s at = refl
-lines-same (suc f) s at = ap (λ (r : List Line). cond (ltb at (length s)) (lineAt s at ∷ r) []) (lines-same f s (at + widthOf (lineAt s at)))
+lines-same (suc f) s at = ap (λ (r : List Line). cond (ltb at (length s)) (lineAt s at ∷ r) []) (lines-same f s (at + lineWidth (lineAt s at)))
 
-pub lines-by : (s : List ℕ) → linesOf s ≡ linesBy lineAt widthOf (length s) s 0
+pub lines-by : (s : List ℕ) → linesOf s ≡ linesBy lineAt lineWidth (length s) s 0
 unfolding linesOf
 lines-by s = lines-same (length s) s 0
 
@@ -115,13 +115,13 @@ join-texts (l ∷ ls) = ap (λ (r : List ℕ). lineText l ++ r) (join-texts ls)
 pub lines-of-text : (ls : List Line) → AllValid ls → linesOf (sheetText ls) ≡ ls
 lines-of-text ls v =
     ap linesOf (sym (join-texts ls))
-    ∙ (lines-by (joinAll (textsBy lineText ls)) ∙ lines-of-bytes Line lineText lineAt widthOf Valid WellFormed first-form ls (each-valid ls v))
+    ∙ (lines-by (joinAll (textsBy lineText ls)) ∙ lines-of-bytes Line lineText lineAt lineWidth Valid WellFormed first-form ls (each-valid ls v))
 
 -- a sheet with no malformed line is its lines' bytes, one after the other
 pub text-of-lines : (s : List ℕ) → AllWellFormed (linesOf s) → AllValid (linesOf s) × (s ≡ sheetText (linesOf s))
 text-of-lines s g =
     let e = lines-by s in
-    let t = bytes-of-lines Line lineText lineAt widthOf Valid WellFormed first-form s (subst (λ (ls : List Line). Each WellFormed ls) e (each-well (linesOf s) g)) in (
+    let t = bytes-of-lines Line lineText lineAt lineWidth Valid WellFormed first-form s (subst (λ (ls : List Line). Each WellFormed ls) e (each-well (linesOf s) g)) in (
       all-valid (linesOf s) (subst (λ (ls : List Line). Each Valid ls) (sym e) (t .0)),
       t .1 ∙ (ap (λ (ls : List Line). joinAll (textsBy lineText ls)) (sym e) ∙ join-texts (linesOf s)),
     )

@@ -13,7 +13,7 @@ use borrow.Author.Tests.{lt-ltb, le-ltb}
 use Rattle.hex.specs.Digits.{byteAt, hex2, hex4, hex8}
 use Rattle.hex.specs.Glyphs.{Stands}
 use Rattle.hex.proofs.Reading.{stands-split}
-use Rattle.sheet_lines.specs.Reading.{threeAt, headerOf, atomOf, exclusionOf, lineAt, widthOf, linesFrom}
+use Rattle.sheet_lines.specs.Reading.{threeAt, headerOf, atomOf, exclusionOf, lineAt, lineWidth, linesFrom}
 use Rattle.sheet_lines.specs.Grammar.{lineText, Valid, WellFormed, WholeLine, AllWhole, joinAll}
 use Rattle.sheet_lines.specs.declared.Three.{Three}
 use Rattle.sheet_lines.specs.declared.Three.the-variants.{Of, Nothing}
@@ -145,8 +145,8 @@ begins (c ∷ cs) pre t (suc f) (suc g) w h k =
           let v = good-text (pre ++ (c ++ joinAll cs)) (length pre) good in
           let l = lineAt (pre ++ (c ++ joinAll cs)) (length pre) in
           let is : lineText (lineAt (pre ++ (c ++ joinAll cs)) (length pre)) ≡ c = read-is pre c (joinAll cs) (w .0) (lineAt (pre ++ (c ++ joinAll cs)) (length pre)) (v .0) (v .1) in
-          let wide : widthOf (lineAt (pre ++ (c ++ joinAll cs)) (length pre)) ≡ length c = sym (length-text (lineAt (pre ++ (c ++ joinAll cs)) (length pre))) ∙ ap length is in
-          let at : length pre + widthOf (lineAt (pre ++ (c ++ joinAll cs)) (length pre)) ≡ length (pre ++ c) = omega (arith, length-append pre c) in
+          let wide : lineWidth (lineAt (pre ++ (c ++ joinAll cs)) (length pre)) ≡ length c = sym (length-text (lineAt (pre ++ (c ++ joinAll cs)) (length pre))) ∙ ap length is in
+          let at : length pre + lineWidth (lineAt (pre ++ (c ++ joinAll cs)) (length pre)) ≡ length (pre ++ c) = omega (arith, length-append pre c) in
           let r = begins cs (pre ++ c) t f g (w .1) (omega (arith, length-append c (joinAll cs), ap length (w .0 .is), length-append (w .0 .body) (10 ∷ []))) (omega arith) in
           rw (← e, at, ← append-assoc pre c (joinAll cs), append-assoc c (joinAll cs) t, ← append-assoc pre c (joinAll cs ++ t)) r,
     )

@@ -53,17 +53,17 @@ lineAt s at =
     End
 
 -- how many bytes a line takes, its newline with it
-abbrev pub widthOf : Line → ℕ
-widthOf (Header h) = 41
-widthOf (Atom n x y z) = 31
-widthOf (Exclusion a b) = 11
-widthOf Malformed = 0
-widthOf End = 0
+abbrev pub lineWidth : Line → ℕ
+lineWidth (Header h) = 41
+lineWidth (Atom n x y z) = 31
+lineWidth (Exclusion a b) = 11
+lineWidth Malformed = 0
+lineWidth End = 0
 
 -- the lines from a place on, at most as many as the first argument says. What follows a malformed line is never looked at
 abbrev pub linesFrom : ℕ → List ℕ → ℕ → List Line
 linesFrom zero s at = []
-linesFrom (suc f) s at = cond (ltb at (length s)) (lineAt s at ∷ linesFrom f s (at + widthOf (lineAt s at))) []
+linesFrom (suc f) s at = cond (ltb at (length s)) (lineAt s at ∷ linesFrom f s (at + lineWidth (lineAt s at))) []
 
 -- the lines of a sheet: a line takes a byte at least, so there are no more lines than bytes
 unfoldable pub linesOf : List ℕ → List Line

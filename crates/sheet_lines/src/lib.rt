@@ -5,7 +5,7 @@ use hex::hex4;
 use hex::hex8;
 ghost use mathlib.Core.Path.{_≡_};
 ghost use Prim.Native.Nat.{_+_, _<_, _^_};
-ghost use Rattle.sheet_lines.specs.Reading.{threeOf, threeAt, headerOf, atomOf, exclusionOf, lineAt, widthOf};
+ghost use Rattle.sheet_lines.specs.Reading.{threeOf, threeAt, headerOf, atomOf, exclusionOf, lineAt, lineWidth};
 
 // The header's numbers, as they stand: the mask has x at bit 0.
 pub struct Head {
@@ -153,7 +153,7 @@ pub fn line_at(s: &[u8], at: usize) -> Line
 
 // How many bytes a line takes, its newline with it.
 pub fn width(line: Line) -> usize
-    ensures { λ r. ⌜ r ≡ widthOf line ⌝ }
+    ensures { λ r. ⌜ r ≡ lineWidth line ⌝ }
 {
     match line {
         Line::Header(_) => 41,

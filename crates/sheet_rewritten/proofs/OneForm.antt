@@ -26,7 +26,7 @@ use Rattle.sheet_answer.specs.Solve.{answerText, printed, solveOf}
 use Rattle.sheet_written.specs.Written.{writtenText}
 use Rattle.sheet_written.specs.Write as writing
 use Rattle.sheet_rewritten.specs.Rewrite.{boxOf, formOf, formText, rewritten, rewriteOf}
-use Rattle.sheet_rewritten.specs.Theorems.{Written, Alike, OneForm, Settled, WritesRead, AnyOrder}
+use Rattle.sheet_rewritten.specs.Theorems.{Written, Alike, OneForm, RewriteSettles, WritesRead, AnyOrder}
 use Rattle.sheet_rewritten.proofs.Sane.{sound-sane}
 use Rattle.sheet_rewritten.proofs.RowsOnly.{table-only}
 use Rattle.sheet_rewritten.proofs.Forms.{asked-is, form-reads, form-few, sound-form, Handed, read-told}
@@ -57,7 +57,7 @@ module _ (s : List ℕ) (v : Written s) where
   unfolding solveOf
   solves out = rw prints
 
-  pub settled : Settled s v
+  pub settled : RewriteSettles s v
   settled = record { means = means; twice = twice; prints = prints; solves = solves }
 
 -- ---- two sheets

@@ -21,7 +21,7 @@ use Rattle.sheet_lines.specs.declared.Line.{Line}
 use Rattle.sheet_lines.specs.declared.Line.the-variants.{Header, Atom, Exclusion, Malformed, End}
 use Rattle.sheet_lines.proofs.Texts.{text-of-lines}
 use Rattle.sheet.specs.Meaning.{Meaning, andThen, acted, actOf, headed, seated, excluding, fresh, placed}
-use Rattle.sheet.specs.Reading.{refusalFor, onward, run, blank, strayOf, absentOf, counted, tested, Sound, soundWith, thenTested, sheetOf}
+use Rattle.sheet.specs.Reading.{refusalFor, onward, run, blank, strayOf, unmarkedOf, counted, tested, Sound, soundWith, thenTested, sheetOf}
 use Rattle.sheet.proofs.Order.{ReadWhole, read-well}
 
 -- two numbers of four digits each
@@ -123,7 +123,7 @@ tested-masked : (h : Option Head) (marks : List ℕ) (k : Head) → answered k �
 unfolding counted
 tested-masked none marks k e v = impossible (cc)
 tested-masked (some h) marks k e v =
-    let same : k ≡ h = counted-by h k (ltb 1024 (h .atoms)) (ltb (strayOf (h .atoms) marks) 1024) (ltb (absentOf marks) (h .atoms)) (h .atoms) (strayOf (h .atoms) marks) (absentOf marks) e in
+    let same : k ≡ h = counted-by h k (ltb 1024 (h .atoms)) (ltb (strayOf (h .atoms) marks) 1024) (ltb (unmarkedOf marks) (h .atoms)) (h .atoms) (strayOf (h .atoms) marks) (unmarkedOf marks) e in
     rw same v
 
 with-sane : (m : Meaning) (t : Seen Head) (a : Sound) → t ≡ tested (m .header) (m .atoms .marks) → Sane m → soundWith t m ≡ answered a → SoundSane a

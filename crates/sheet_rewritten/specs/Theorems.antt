@@ -37,7 +37,7 @@ pub record OneForm (s t : List ℕ) (v : Written s) (w : Written t) : Type 0 whe
   pub only : rewritten s ≡ rewritten t → Alike (v .sound) (w .sound)
 
 -- The written form is a sheet of the same meaning: rewritten again it is itself, and the program `pairs` prints the same for both.
-pub record Settled (s : List ℕ) (v : Written s) : Type 0 where
+pub record RewriteSettles (s : List ℕ) (v : Written s) : Type 0 where
   pub means : sheetOf (rewritten s) ≡ answered (v .sound)
   pub twice : rewritten (rewritten s) ≡ rewritten s
   pub prints : printed (rewritten s) ≡ printed s

@@ -36,7 +36,7 @@ use Rattle.sheet_lines_two.specs.Twos.{plainTwo, toldOf, twosOf}
 use Rattle.sheet_lines_two.specs.Grammar.{ValidWith, ValidTwo}
 use Rattle.sheet_lines_two.proofs.WholeTwos.{twos-of-text}
 use Rattle.sheet.specs.Meaning.{Meaning, Atoms, andThen, acted, actOf, headed, seated, excluding, placed, fresh}
-use Rattle.sheet.specs.Reading.{refusalFor, onward, run, blank, leadOf, strayOf, absentOf, counted, tested, Sound, soundWith, thenTested, sheetOf}
+use Rattle.sheet.specs.Reading.{refusalFor, onward, run, blank, leadOf, strayOf, unmarkedOf, counted, tested, Sound, soundWith, thenTested, sheetOf}
 use Rattle.sheet.specs.Read.{jobFor, readOf}
 use Rattle.sheet.specs.ReadTwo.{SoundTwo, speciesIn, withSpecies, paired, ranTwo, sheetTwo}
 use Rattle.sheet_written.specs.Written.{headOf, atomLine, atomLines, rowLine, writtenLines, writtenText}
@@ -169,7 +169,7 @@ lead-noughts zero = refl
 lead-noughts (suc j) = ap suc (lead-noughts j)
 
 all-there : (h : Head) (j : ℕ) (marks : List ℕ) → h .atoms + j ≡ 1024 → marks ≡ ones (h .atoms) ++ noughts j → counted h marks ≡ answered h
-unfolding counted strayOf absentOf
+unfolding counted strayOf unmarkedOf
 all-there h j marks e m =
     let a : leadOf 1 marks ≡ h .atoms = ap (leadOf 1) m ∙ lead-ones (h .atoms) j in
     let d : drop (h .atoms) marks ≡ noughts j = ap (λ (l : List ℕ). drop (h .atoms) l) m ∙ drop-at (ones (h .atoms)) (noughts j) (h .atoms) (length-replicate {A = ℕ} (h .atoms) 1) in

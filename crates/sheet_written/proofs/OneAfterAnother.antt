@@ -12,7 +12,7 @@ use Rattle.lists.proofs.Walks.{numbers-next, numbers-end, drop-next, drop-past}
 use Rattle.lists.proofs.Rows.{length-rows, rows-at}
 use Rattle.hex.specs.Glyphs.{text2, text4, text8}
 use Rattle.hex.proofs.Writing.{length2, length4, length8, sets-append, put-put}
-use Rattle.sheet_lines.specs.Reading.{widthOf}
+use Rattle.sheet_lines.specs.Reading.{lineWidth}
 use Rattle.sheet_lines.specs.Grammar.{text888, lineText, sheetText}
 use Rattle.sheet_lines.specs.declared.Head.{Head}
 use Rattle.sheet_lines.specs.declared.Line.{Line}
@@ -58,7 +58,7 @@ turn-of text total l ls c out out′ t at to p q r =
     ∙ (ap (λ (k : ℕ). sets (sets out at (text l)) k (total ls)) q
     ∙ (sets-append (text l) (total ls) out at ∙ (ap (λ (x : List ℕ). sets out at x) (sym c) ∙ r)))
 
-pub line-turn : (l : Line) (ls : List Line) (out out′ t : List ℕ) (at to : ℕ) → out′ ≡ sets out at (lineText l) → to ≡ at + widthOf l → sets out at (sheetText (l ∷ ls)) ≡ t → sets out′ to (sheetText ls) ≡ t
+pub line-turn : (l : Line) (ls : List Line) (out out′ t : List ℕ) (at to : ℕ) → out′ ≡ sets out at (lineText l) → to ≡ at + lineWidth l → sets out at (sheetText (l ∷ ls)) ≡ t → sets out′ to (sheetText ls) ≡ t
 line-turn l ls out out′ t at to p q r = turn-of lineText sheetText l ls refl out out′ t at to p (q ∙ ap (λ (w : ℕ). at + w) (sym (length-text l))) r
 
 -- ---- the atoms by number: what is left, written from here, gives what all gives from the start
@@ -145,7 +145,7 @@ module _ (text : Line → List ℕ) (total : List Line → List ℕ) (nil : tota
 pub sheet-append : (ls ks : List Line) → sheetText (ls ++ ks) ≡ sheetText ls ++ sheetText ks
 sheet-append ls ks = append-of lineText sheetText refl (λ l ms. refl) ls ks
 
-long-map : {A : Type 0} (f : A → Line) (w : ℕ) (l : List A) → ((a : A) → widthOf (f a) ≡ w) → length (sheetText (map f l)) ≡ w * length l
+long-map : {A : Type 0} (f : A → Line) (w : ℕ) (l : List A) → ((a : A) → lineWidth (f a) ≡ w) → length (sheetText (map f l)) ≡ w * length l
 long-map f w l h = long-of lineText sheetText refl (λ l ms. refl) f w l (λ a. length-text (f a) ∙ h a)
 
 pub long-atoms : (xs : List ℕ) → length (sheetText (atomLines xs)) ≡ 31 * (length xs / 3)

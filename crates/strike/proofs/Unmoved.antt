@@ -3,17 +3,18 @@ use Prim.Native.Nat.{ℕ, zero, suc, _+_, _*_, _/_, _%_, _≤_, _<_, min}
 use mathlib.Core.Path.{_≡_, refl, sym, ap, _∙_}
 use mathlib.Core.Logic.{⊎-elim}
 use mathlib.Core.Bool.{Bool, true, false, cond, _&&_}
-use mathlib.Core.List.{List, [], _∷_}
+use mathlib.Core.List.{List}
 use native.Mathlib.Nat.{zero-add}
 use native.Mathlib.Omega.{arith}
 use lib.Dec.{eqb, ltb}
-use lib.Ieee.{Float, nan}
+use lib.Ieee.{nan}
 use lib.ListN.{length, getD}
-use borrow.Author.Tests.{lt-ltb, le-ltb, ltb-true, ltb-false, eq-eqb, eqb-true, not-false}
+use borrow.Author.Tests.{lt-ltb, ltb-true, eq-eqb, eqb-true, not-false}
 use Rattle.lists.specs.Atoms.{atomsOf, mostAtoms}
-use Rattle.lists.specs.Lists.{upTo, howMany, every, rows, firstWhere}
-use Rattle.lists.proofs.Cases.{both-and, and-both, below-or, by-test}
+use Rattle.lists.specs.Lists.{upTo, howMany, every, rows}
+use Rattle.lists.proofs.Cases.{both-and, and-both, below-or}
 use Rattle.lists.proofs.Exactness.{length-upTo, numbers-at}
+use Rattle.lists.proofs.First.{none-there}
 use Rattle.lists.proofs.Rows.{length-rows, rows-at}
 use Rattle.lists.proofs.Walks.{every-at, at-every}
 use Rattle.answer.proofs.Passed.{pass}
@@ -25,7 +26,7 @@ use Rattle.exclusions.specs.Table.{isTable}
 use Rattle.potentials_angle.specs.Rows.{cornerAt, isMissing, missingOf}
 use Rattle.strike.specs.Closed.{survives, newNumber, rowSurvives, linkSurvives}
 use Rattle.strike.specs.Calls.{LentAtoms, Links, isMark, strikeFits, linksAsked, strikeAsked, atomsLeft, linksLeft}
-use Rattle.strike.specs.Theorems.{Keeps, NamesKept, BesideKept, Unmoved, NothingMoves}
+use Rattle.strike.specs.Theorems.{Keeps, Unmoved, NothingMoves}
 use Rattle.strike.proofs.Rows.{many-more, many-same, many-few}
 use Rattle.strike.proofs.Passed.{passed, fit-of}
 use Rattle.strike.proofs.Turns.{link-there, link-past}
@@ -72,24 +73,12 @@ module _ (q : ℕ → Bool) (p m : ℕ) (few : p ≤ m) (all : (o : ℕ) → o <
       ⊎-elim (λ (x : e < 3 * p). in-row d f 3 before after k fixed e (e / 3) (e % 3) (omega arith) (omega arith) (omega arith) x) (λ (x : 3 * p ≤ e). behind d f 3 before after k fixed e x) (below-or e (3 * p))
 
 -- ---- the first of a list that passes, where none does
-none-first : {A : Type 0} (q : A → Bool) (a : A) (l : List A) → ltb (firstWhere q (a ∷ l)) (suc (length l)) ≡ false → (q a ≡ false) × (ltb (firstWhere q l) (length l) ≡ false)
-unfolding firstWhere
-none-first q a l =
-    by-test (λ t. ltb (cond t 0 (suc (firstWhere q l))) (suc (length l)) ≡ false → (t ≡ false) × (ltb (firstWhere q l) (length l) ≡ false)) (q a)
-    (λ _ f. absurd (omega (arith, ltb-false 0 (suc (length l)) f)))
-    (λ _ f. (refl, le-ltb (firstWhere q l) (length l) (omega (arith, ltb-false (suc (firstWhere q l)) (suc (length l)) f))))
-
-none-at : {A : Type 0} (d : A) (q : A → Bool) (l : List A) → ltb (firstWhere q l) (length l) ≡ false → (k : ℕ) → k < length l → q (getD l k d) ≡ false
-none-at d q [] h k s = absurd (omega arith)
-none-at d q (a ∷ l) h zero s = none-first q a l h .0
-none-at d q (a ∷ l) h (suc k) s = none-at d q l (none-first q a l h .1) k (omega arith)
-
 -- of two, and of three, each atom is there
 pair-there : (n : ℕ) (t : List ℕ) → ltb (absentOf n (rows t)) (length t / 2) ≡ false → (e : ℕ) → e < 2 * (length t / 2) → getD t e 0 < n
 unfolding absentOf
 pair-there n t h e l =
     let k : e / 2 < length t / 2 = omega arith in
-    let b : isAbsent n (getD t (2 * (e / 2)) 0, getD t (2 * (e / 2) + 1) 0) ≡ false = rw (rows-at t (e / 2) k) at (none-at (0, 0) (isAbsent n) (rows t) (rw (length-rows t) h) (e / 2) (omega (arith, length-rows t))) in
+    let b : isAbsent n (getD t (2 * (e / 2)) 0, getD t (2 * (e / 2) + 1) 0) ≡ false = rw (rows-at t (e / 2) k) at (none-there (0, 0) (isAbsent n) (rows t) (rw (length-rows t) h) (e / 2) (omega (arith, length-rows t))) in
     let c = and-both (ltb (getD t (2 * (e / 2)) 0) n) (ltb (getD t (2 * (e / 2) + 1) 0) n) (not-false (ltb (getD t (2 * (e / 2)) 0) n && ltb (getD t (2 * (e / 2) + 1) 0) n) b) in
     ⊎-elim
     (λ (x : e % 2 < 1). let s : 2 * (e / 2) ≡ e = omega arith in rw s at (ltb-true (getD t (2 * (e / 2)) 0) n (c .0)))
@@ -102,7 +91,7 @@ corner-there n t h e l =
     let r = e / 3 in
     let k : e / 3 < length t / 3 = omega arith in
     let j : getD (upTo (length t / 3)) (e / 3) 0 ≡ e / 3 = numbers-at 0 (length t / 3) (e / 3) k ∙ zero-add (e / 3) in
-    let b : isMissing n (cornerAt t (e / 3)) ≡ false = rw j at (none-at 0 (λ r. isMissing n (cornerAt t r)) (upTo (length t / 3)) (rw (length-upTo (length t / 3)) h) (e / 3) (omega (arith, length-upTo (length t / 3)))) in
+    let b : isMissing n (cornerAt t (e / 3)) ≡ false = rw j at (none-there 0 (λ r. isMissing n (cornerAt t r)) (upTo (length t / 3)) (rw (length-upTo (length t / 3)) h) (e / 3) (omega (arith, length-upTo (length t / 3)))) in
     let A = ltb (getD t (3 * (e / 3)) 0) n in
     let B = ltb (getD t (3 * (e / 3) + 1) 0) n in
     let C = ltb (getD t (3 * (e / 3) + 2) 0) n in

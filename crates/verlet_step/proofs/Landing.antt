@@ -25,7 +25,7 @@ use Rattle.evaluate.specs.Steps.{settledIn}
 use Rattle.evaluate.proofs.Settling.{asked-rising, asked-forces, asked-few, settled-list, settled-is}
 use Rattle.verlet_step.specs.declared.Stepped.{Stepped}
 use Rattle.verlet_step.specs.Asked.{stepLimit, finishLimit}
-use Rattle.verlet_step.specs.Calls.{Motion, Outcome, unitsOf, landedAfter, landedBy, placed, moved, advancedBy, cooledOf, cooled, motionAsked, unless, steppedOf, finishedOf, shown}
+use Rattle.verlet_step.specs.Calls.{Motion, Outcome, unitsOf, landedAfter, landedBy, motionAt, moved, advancedBy, cooledOf, cooled, motionAsked, unless, steppedOf, finishedOf, shown}
 use Rattle.verlet_step.specs.Steps.{landedIn, advancedIn, unmovedOf, kicked, kickedAfter, Kicked}
 
 -- ---- an evaluation that is refused leaves the forces
@@ -82,7 +82,7 @@ module _ (m : Motion) {b : Bool} (is : b ≡ drifts (unitsOf m) (m .dt) (m .job 
   advanced-refused h q = rw (← is, h, q)
 
   pub advanced-on : b ≡ true → {p : List Float × List Float} → p ≡ movedBy (unitsOf m) (m .dt) (m .job .forces) (m .masses) (m .job .given .positions) (m .velocities)
-      → {o : Outcome} → o ≡ landedIn (placed m p) → o ≡ advancedIn m
+      → {o : Outcome} → o ≡ landedIn (motionAt m p) → o ≡ advancedIn m
   unfolding advancedBy
   advanced-on h e q = rw (← is, h, ← e) q
 

@@ -24,10 +24,10 @@ use Rattle.cell.specs.Ranged.{cellInRange}
 use Rattle.neighbor.specs.declared.Question.the-variants.{Outdated}
 use Rattle.neighbor.specs.declared.State.{State}
 use Rattle.neighbor.specs.Rebuild.{needsOf, outdatedOf, claimsMore, referencesOk, rangesOk, strayedOf}
-use Rattle.neighbor.specs.Update.{unfit, keepsOf, lengthsBad, listedOf, firstOf, misnamed, keptAsked, tableAsked, andThen}
+use Rattle.neighbor.specs.Update.{unfit, keepsOf, lengthsBad, listedOf, firstOf, misnamed, keptAsked, tableAsked, firstRefusal}
 use Rattle.neighbor.proofs.Asking.{claims-told, claims-made, listed-some}
 use Rattle.potentials.specs.Calls.{tablesFit, orderAsked}
-use Rattle.evaluate.specs.Asked.{termsFit, numbersOk, bondsAsked, anglesNamed, namesAsked, inTurn, jobAsked}
+use Rattle.evaluate.specs.Asked.{termsFit, numbersOk, bondRowsAsked, anglesNamed, namesAsked, inTurn, jobAsked}
 use Rattle.neighbor.proofs.Source.{passed, both-passed, first-told, lengths-told, build-fits, build-able}
 use Rattle.verlet_step.specs.Asked.{motionFits, motionOk}
 use Rattle.verlet_step.specs.Calls.{Motion, motionAsked}
@@ -78,7 +78,7 @@ module _ (limit : Float) (t : Thermostat) (m : Motion) where
       }
 
   pub asked-made : Passed limit t m → motionAsked limit t m ≡ Answered
-  unfolding motionAsked jobAsked inTurn andThen
+  unfolding motionAsked jobAsked inTurn firstRefusal
   asked-made p =
       let f = first-made (m .job .given .state) (m .job .given .cell) (m .job .given .positions) (length (m .job .given .exclusions)) (length (m .job .given .pairs)) (length (m .job .given .references)) (length (m .job .given .items)) (p .lengths) (p .few) (p .claims) (p .ranges) in
       rw (p .fits, f, p .numbers, p .kept, p .names)
@@ -94,7 +94,7 @@ lengths-again xs table refs items more others h r i =
 table-told : (n : ℕ) (bonds angles table ownIds ids : List ℕ) → namesAsked n bonds angles table ownIds ids ≡ Answered → isTable (rows table) ≡ true
 unfolding namesAsked tableAsked
 table-told n bonds angles table ownIds ids e =
-    passed (isTable (rows table)) Order (both-passed _ (orderAsked ownIds ids) (both-passed (anglesNamed n angles) _ (both-passed (bondsAsked n bonds) _ e .1) .1) .0)
+    passed (isTable (rows table)) Order (both-passed _ (orderAsked ownIds ids) (both-passed (anglesNamed n angles) _ (both-passed (bondRowsAsked n bonds) _ e .1) .1) .0)
 
 module _ (limit : Float) (t : Thermostat) (m : Motion) (p : Passed limit t m) where
   pub list-fits : unfit (length (m .job .given .positions)) (length (m .job .given .references)) ≡ false

@@ -15,7 +15,7 @@ use Rattle.verlet.specs.Verlet.{movedOf}
 use Rattle.verlet.proofs.Steps.{kicked-by, moved-by, drifts-by, rescaled-by}
 use Rattle.evaluate.proofs.Settling.{asked-fits, asked-forces, asked-few, asked-thirds, settled-length}
 use Rattle.verlet_step.specs.Asked.{motionFits}
-use Rattle.verlet_step.specs.Calls.{Motion, unitsOf, placed, motionAsked}
+use Rattle.verlet_step.specs.Calls.{Motion, unitsOf, motionAt, motionAsked}
 use Rattle.verlet_step.specs.Source.{BySource, StepsBySource}
 
 module _ (limit : Float) (t : Thermostat) (m : Motion) (e : motionAsked limit t m ≡ Answered) where
@@ -48,7 +48,7 @@ module _ (limit : Float) (t : Thermostat) (m : Motion) (e : motionAsked limit t 
         moves = moved-by (unitsOf m) (m .dt) (m .job .forces) (m .masses) (m .velocities) speeds pulls (m .job .given .positions) places;
         asks = drifts-by (unitsOf m) (m .dt) (m .job .forces) (m .masses) (m .velocities) speeds pulls (m .job .given .positions) places;
         kicks =
-            λ xs vs l. kicked-by (unitsOf m) (m .dt) _ (m .masses) vs (l ∙ speeds) (settled-length _ _ (placed m (xs, vs) .job) ∙ pulls);
+            λ xs vs l. kicked-by (unitsOf m) (m .dt) _ (m .masses) vs (l ∙ speeds) (settled-length _ _ (motionAt m (xs, vs) .job) ∙ pulls);
         cools = λ target tau vs l. rescaled-by (unitsOf m) (m .dt) target tau (m .masses) vs (few vs l);
       }
 

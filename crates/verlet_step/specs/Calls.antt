@@ -94,12 +94,12 @@ abbrev pub givenAt : Given → (positions : List Float) → Given
 givenAt g xs = given (g .state) (g .cell) xs (g .exclusions) (g .pairs) (g .references) (g .starts) (g .items)
 
 -- the atoms at other positions and velocities
-abbrev pub placed : Motion → List Float × List Float → Motion
-placed m p = motion (m .dt) (job (m .job .terms) (givenAt (m .job .given) (p .0)) (m .job .forces)) (m .masses) (m .potential) (p .1)
+abbrev pub motionAt : Motion → List Float × List Float → Motion
+motionAt m p = motion (m .dt) (job (m .job .terms) (givenAt (m .job .given) (p .0)) (m .job .forces)) (m .masses) (m .potential) (p .1)
 
 -- lines 178 to 184: half a kick by the old forces, and the drift
 abbrev pub moved : Motion → Motion
-moved m = placed m (movedBy (unitsOf m) (m .dt) (m .job .forces) (m .masses) (m .job .given .positions) (m .velocities))
+moved m = motionAt m (movedBy (unitsOf m) (m .dt) (m .job .forces) (m .masses) (m .job .given .positions) (m .velocities))
 
 -- lines 178 to 194. "The drift is tested (3) after 5 and before anything is stored"
 unfoldable pub advancedBy : (evaluation : Job → Evaluation.Outcome) → Motion → Outcome

@@ -9,7 +9,7 @@ use Rattle.verlet.specs.declared.Thermostat.{Thermostat}
 use Rattle.verlet.specs.Parts.{kickedBy, movedBy, rescaledBy, coordinate, drifts}
 use Rattle.verlet.specs.Verlet.{kickedOf, movedOf, berendsenOf}
 use Rattle.evaluate.specs.Calls.{settledOf}
-use Rattle.verlet_step.specs.Calls.{Motion, unitsOf, placed, motionAsked}
+use Rattle.verlet_step.specs.Calls.{Motion, unitsOf, motionAt, motionAsked}
 
 pub record BySource (m : Motion) : Type 0 where
   -- lines 178 to 184
@@ -20,8 +20,8 @@ pub record BySource (m : Motion) : Type 0 where
       ≡ every coordinate (movedOf (unitsOf m) (m .dt) (m .job .forces) (m .masses) (m .job .given .positions) (m .velocities) .0)
   -- lines 190 to 194, wherever the atoms were evaluated
   pub kicks : (xs vs : List Float) → length vs ≡ length (m .velocities)
-      → kickedBy (unitsOf m) (m .dt) (settledOf (placed m (xs, vs) .job) .total .forces) (m .masses) vs
-      ≡ kickedOf (unitsOf m) (m .dt) (settledOf (placed m (xs, vs) .job) .total .forces) (m .masses) vs
+      → kickedBy (unitsOf m) (m .dt) (settledOf (motionAt m (xs, vs) .job) .total .forces) (m .masses) vs
+      ≡ kickedOf (unitsOf m) (m .dt) (settledOf (motionAt m (xs, vs) .job) .total .forces) (m .masses) vs
   -- lines 203 to 219
   pub cools : (target tau : Float) (vs : List Float) → length vs ≡ length (m .velocities)
       → rescaledBy (unitsOf m) (m .dt) target tau (m .masses) vs ≡ berendsenOf (unitsOf m) (m .dt) target tau (m .masses) vs

@@ -1,6 +1,6 @@
 use Prim.Native.Nat.{_-_, _/_}
 use Rattle.candidates.proofs.Turns.{Counting, count-begin, count-step, count-end}
-use Rattle.candidates.specs.Checks.{beside, cellIn, rowsTouching}
+use Rattle.candidates.specs.Checks.{besideIn, cellFrom, rowsTouching}
 use borrow.Author.Needs.{needs}
 use lib.ListN.{length}
 use native.Mathlib.Omega.{arith}
@@ -8,7 +8,7 @@ use Rattle.candidates.proofs.kernel.rows_touching.Statement.{statement}
 use Rattle.candidates.proofs.kernel.rows_touching.Tie as tie
 
 abbrev Inv-loop : tie.InvT-loop
-Inv-loop g places table count₀ k₀ count k = Counting (beside g (length places) (cellIn g places)) table count k
+Inv-loop g places table count₀ k₀ count k = Counting (besideIn g (length places) (cellFrom g places)) table count k
 
 abbrev μ-loop : tie.MeasureT-loop
 μ-loop g places table count₀ k₀ count k = length table / 2 - k

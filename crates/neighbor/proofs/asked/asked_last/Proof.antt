@@ -1,4 +1,4 @@
-use Rattle.neighbor.specs.Update.{andThen}
+use Rattle.neighbor.specs.Update.{firstRefusal}
 use borrow.Author.Needs.{needs}
 use Rattle.neighbor.proofs.asked.asked_last.Statement.{statement}
 use Rattle.neighbor.proofs.asked.asked_last.Tie as tie
@@ -7,7 +7,7 @@ returns : tie.Need-returns
 returns c = simp (c .before .if1 .taken, c .asked-both .ensures)
 
 returns-2 : tie.Need-returns-2
-unfolding andThen
+unfolding firstRefusal
 returns-2 c = simp (c .before .if1 .left, c .asked-table .ensures)
 
 pub asked-last-spec : {M : Type 1} → statement M
