@@ -1,13 +1,20 @@
 //! Times the Rust original and the library on the same inputs in one run and prints one table; exit status 1 where two answers differ.
 //!
 //! ```text
-//! FIELD_SRC=.. cargo run --release -- [--n 1000,4000,16000] [--only WORD,WORD] [--rounds 9] [--shuffle] [--side original|library]
+//! FIELD_SRC=.. cargo run --release -- [--n 1000,4000,16000] [--only WORD,WORD] [--rounds 9] [--shuffle] [--side original|library|limit]
+//! [--limit] [--ways] [--lammps]
 //! ```
 //!
 //! A time is the best of the rounds, in which the two sides take turns, by this thread's processor time. `--only` takes the lines that have one of the
 //! words in their name. `--side` times one side alone, for a profile, or for instruction counts as the difference of two runs with other `--rounds`.
+//! `--limit` has a third side beside them, plain Rust at the same bits as fast as it could be written (src/limit), `--ways` each of its ways; `--lammps` adds
+//! a table of LAMMPS on the same atoms, where `lmp` is installed.
 mod clock;
 mod data;
+mod lammps;
+#[allow(dead_code)] // its tests, and forms that no way takes
+mod limit;
+mod limits;
 mod sides;
 include!(concat!(env!("OUT_DIR"), "/original.rs"));
 
@@ -29,22 +36,22 @@ enum Unit {
 }
 
 const LINES: [Line; 20] = [
-    ("build", Unit::Check, "0.6"),
-    ("build, an exclusion an atom", Unit::Check, "0.2"),
-    ("build, tilted", Unit::Check, "0.8"),
+    ("build", Unit::Check, "0.07"),
+    ("build, an exclusion an atom", Unit::Check, "0.04"),
+    ("build, tilted", Unit::Check, "0.15"),
     ("build, then pairs()", Unit::Check, ""),
-    ("rebuild question", Unit::Atom, ""),
-    ("Lennard-Jones", Unit::Pair, "0.5"),
+    ("rebuild question", Unit::Atom, "0.15"),
+    ("Lennard-Jones", Unit::Pair, "0.2"),
     ("Lennard-Jones, handed pairs()", Unit::Pair, ""),
-    ("Coulomb", Unit::Pair, "1.3"),
-    ("bonds", Unit::Bond, "1.8"),
+    ("Coulomb", Unit::Pair, "0.4"),
+    ("bonds", Unit::Bond, "0.65"),
     ("angles", Unit::Angle, ""),
     ("angles, the same root on both sides", Unit::Angle, "1.3"),
-    ("evaluator, every term", Unit::Pair, ""),
-    ("step, list kept, Lennard-Jones", Unit::Atom, "0.8"),
-    ("step, list kept, every term", Unit::Atom, "1.5"),
-    ("step, list built, Lennard-Jones", Unit::Atom, "0.6"),
-    ("step, list built, every term", Unit::Atom, ""),
+    ("evaluator, every term", Unit::Pair, "0.25"),
+    ("step, list kept, Lennard-Jones", Unit::Atom, "0.2"),
+    ("step, list kept, every term", Unit::Atom, "0.28"),
+    ("step, list built, Lennard-Jones", Unit::Atom, "0.1"),
+    ("step, list built, every term", Unit::Atom, "0.1"),
     ("iteration, list kept, Lennard-Jones", Unit::Iteration, ""),
     ("iteration, list kept, every term", Unit::Iteration, ""),
     ("clumps, beside the same in Rust", Unit::Pair, "1.3"),
@@ -107,6 +114,10 @@ struct Options {
     rounds: usize,
     shuffle: bool,
     side: Option<String>,
+    /// The limit beside them, and each of its ways.
+    limit: bool,
+    ways: bool,
+    lammps: bool,
 }
 
 fn options() -> Options {
@@ -119,23 +130,38 @@ fn options() -> Options {
         rounds: get("--rounds").map_or(9, |r| r.parse().expect("--rounds wants a number")),
         shuffle: args.iter().any(|a| a == "--shuffle"),
         side: get("--side"),
+        limit: args.iter().any(|a| a == "--limit" || a == "--ways" || a == "limit"),
+        ways: args.iter().any(|a| a == "--ways"),
+        lammps: args.iter().any(|a| a == "--lammps"),
     }
 }
 
 /// The line's row at this size, and whether the two answers are equal.
 fn row(line: &Line, d: &Data, o: &Options) -> bool {
     let (mut original, mut library) = sides(line.0, d);
+    let mut limits = if o.limit { limits::limits(line.0, d) } else { vec![] };
+    if !o.ways {
+        limits.truncate(1);
+    }
+    if limits.is_empty() && o.side.as_deref() == Some("limit") {
+        return true;
+    }
     let of = |name: &str| o.side.as_deref().is_none_or(|s| s == name);
     // so many repetitions that a round takes some milliseconds; both sides make equally many, so that their answers can be compared
-    let first = time(if of("original") { original.as_mut() } else { library.as_mut() }, 1);
+    let first = if o.side.is_some() { 1.0 } else { time(original.as_mut(), 1) };
     let count = if o.side.is_some() { 1 } else { (4e6 / first).clamp(1.0, 20.0) as usize };
-    let (mut a, mut b) = (f64::INFINITY, f64::INFINITY);
+    let (mut a, mut b, mut c) = (f64::INFINITY, f64::INFINITY, vec![f64::INFINITY; limits.len()]);
     for _ in 0..o.rounds {
         if of("original") {
             a = a.min(time(original.as_mut(), count));
         }
         if of("library") {
             b = b.min(time(library.as_mut(), count));
+        }
+        if of("limit") {
+            for (c, l) in c.iter_mut().zip(&mut limits) {
+                *c = c.min(time(l.1.as_mut(), count));
+            }
         }
     }
     let each = units(line, d) as f64;
@@ -147,20 +173,55 @@ fn row(line: &Line, d: &Data, o: &Options) -> bool {
         Unit::Angle => "angle",
     };
     if o.side.is_some() {
-        println!("| {} | {} | {unit} | {:.1} |", line.0, d.n, a.min(b) / each);
+        println!("| {} | {} | {unit} | {:.1} |", line.0, d.n, c.iter().fold(a.min(b), |m, c| m.min(*c)) / each);
         return true;
     }
     let (da, db) = (original.digest(), library.digest());
     let asked = if d.n == 16000 { line.2 } else { "" };
-    println!("| {} | {} | {unit} | {:.1} | {:.1} | {:.2} | {asked} | {da:016x} | {db:016x} |", line.0, d.n, a / each, b / each, b / a);
-    da == db
+    let best = match c.first() {
+        Some(c) => format!(" {:.1} | {:.2} |", c / each, b / c),
+        None if o.limit => "  |  |".into(),
+        None => String::new(),
+    };
+    println!("| {} | {} | {unit} | {:.1} | {:.1} | {:.2} | {asked} |{best} {da:016x} | {db:016x} |", line.0, d.n, a / each, b / each, b / a);
+    for ((name, l), c) in limits.iter().zip(&c) {
+        if o.ways {
+            println!(
+                "| {}: {name} | {} | {unit} | {:.1} | {:.1} | {:.2} | | {:.2} | {:.2} | | {:016x} |",
+                line.0,
+                d.n,
+                a / each,
+                b / each,
+                b / a,
+                c / each,
+                b / c,
+                l.digest()
+            );
+        }
+    }
+    da == db && limits.iter().all(|l| l.1.digest() == da)
+}
+
+/// The library's list and Lennard-Jones beside those of LAMMPS, a listed pair.
+fn beside_lammps(d: &Data, rounds: usize) {
+    let Some((list, pull)) = lammps::times(d) else { return println!("\nLAMMPS: no `lmp` that answers") };
+    let pairs = sides::sizes(d, &d.cube, false).0 as f64;
+    println!("\n| LAMMPS beside the library | atoms | listed pairs | LAMMPS, ns a pair | library, ns a pair | ratio | asked |\n|---|---|---|---|---|---|---|");
+    for (name, line, theirs) in [("list, built at every step", "build", list), ("pairs, with energy and virial", "Lennard-Jones", pull)] {
+        let mut library = sides(line, d).1;
+        let ours = (0..rounds).map(|_| time(library.as_mut(), 5)).fold(f64::INFINITY, f64::min);
+        println!("| {name} | {} | {pairs} | {:.1} | {:.1} | {:.2} | 0.8 |", d.n, theirs / pairs, ours / pairs, ours / theirs);
+    }
 }
 
 fn main() {
     let o = options();
     let columns = match &o.side {
         Some(side) => format!("| | atoms | unit | {side}, ns a unit |"),
-        None => "| | atoms | unit | original, ns a unit | library, ns a unit | ratio | asked | digest, original | digest, library |".into(),
+        None => format!(
+            "| | atoms | unit | original, ns a unit | library, ns a unit | ratio | asked |{} digest, original | digest, library |",
+            if o.limit { " limit, ns a unit | library / limit |" } else { "" }
+        ),
     };
     println!("{columns}\n{}|", "|---".repeat(columns.matches('|').count() - 1));
     let (mut rows, mut unequal) = (0, 0);
@@ -175,6 +236,11 @@ fn main() {
     }
     if o.side.is_some() {
         return;
+    }
+    if o.lammps {
+        for &n in &o.sizes {
+            beside_lammps(&data(n, o.shuffle), o.rounds);
+        }
     }
     println!("\n{rows} lines, best of {} rounds: {}", o.rounds, if unequal == 0 { "all answers equal".into() } else { format!("{unequal} ANSWERS DIFFER") });
     std::process::exit((unequal != 0) as i32);

@@ -24,7 +24,7 @@ impl<S, R: FnMut(&mut S), D: Fn(&S) -> u64> Side for Plain<S, R, D> {
     }
 }
 
-fn plain<'a, S: 'a>(state: S, rep: impl FnMut(&mut S) + 'a, digest: impl Fn(&S) -> u64 + 'a) -> Box<dyn Side + 'a> {
+pub fn plain<'a, S: 'a>(state: S, rep: impl FnMut(&mut S) + 'a, digest: impl Fn(&S) -> u64 + 'a) -> Box<dyn Side + 'a> {
     Box::new(Plain(state, rep, digest))
 }
 
@@ -49,7 +49,7 @@ fn built(d: &Data, excluding: bool) -> (oneighbor::NeighborList, NeighborList) {
     both
 }
 
-fn of_list(pairs: &[(usize, usize)], checks: usize) -> u64 {
+pub fn of_list(pairs: &[(usize, usize)], checks: usize) -> u64 {
     Digest(checks as u64).word(pairs.len() as u64).pairs(pairs).0
 }
 
@@ -91,12 +91,16 @@ pub fn build<'a>(d: &'a Data, cell: &'a Lattice, excluding: bool, pairs: bool) -
     (first, second)
 }
 
+/// The positions, moved by so many of the velocities.
+pub fn moved(d: &Data, by: f64) -> Vec<[f64; 3]> {
+    d.positions.iter().zip(&d.velocities).map(|(p, v)| [0, 1, 2].map(|k| p[k] + by * v[k])).collect()
+}
+
 /// Positions a little off those of the list: no. The digest has the answer for positions far off, too.
 pub fn rebuild_question(d: &Data) -> Sides<'_> {
     let (a, b) = built(d, false);
     let of = theirs(&d.cube);
-    let moved = |by: f64| -> Vec<[f64; 3]> { d.positions.iter().zip(&d.velocities).map(|(p, v)| [0, 1, 2].map(|k| p[k] + by * v[k])).collect() };
-    let (near, far) = ((moved(100.0), moved(100.0)), (moved(1000.0), moved(1000.0)));
+    let (near, far) = ((moved(d, 100.0), moved(d, 100.0)), (moved(d, 1000.0), moved(d, 1000.0)));
     let first = plain(
         (a, true),
         move |(l, yes)| *yes = black_box(l).needs_rebuild(black_box(&near.0), Some(&of)),
@@ -182,7 +186,7 @@ pub fn angles<'a>(d: &'a Data, root: impl Fn(f64) -> f64 + Copy + 'a) -> Sides<'
     (first, plain(Default::default(), run, of_term))
 }
 
-fn their_lj(d: &Data) -> opotentials::LennardJones {
+pub fn their_lj(d: &Data) -> opotentials::LennardJones {
     opotentials::LennardJones { params: d.lj.params.clone(), default: d.lj.default, cutoff: d.lj.cutoff, shift: d.lj.shift }
 }
 
@@ -227,22 +231,22 @@ pub fn evaluator(d: &Data) -> Sides<'_> {
     (first, plain((eval, Default::default()), run, |s| of_term(&s.1)))
 }
 
-struct Motion<'a> {
-    d: &'a Data,
-    positions: Vec<[f64; 3]>,
-    velocities: Vec<[f64; 3]>,
+pub struct Motion<'a> {
+    pub d: &'a Data,
+    pub positions: Vec<[f64; 3]>,
+    pub velocities: Vec<[f64; 3]>,
     forces: Vec<[f64; 3]>,
     potential: f64,
-    start: (f64, Vec<[f64; 3]>),
+    pub start: (f64, Vec<[f64; 3]>),
 }
 
 impl<'a> Motion<'a> {
-    fn new(d: &'a Data, start: (f64, Vec<[f64; 3]>)) -> Self {
+    pub fn new(d: &'a Data, start: (f64, Vec<[f64; 3]>)) -> Self {
         let (positions, velocities) = (d.positions.clone(), d.velocities.clone());
         Self { d, positions, velocities, forces: start.1.clone(), potential: start.0, start }
     }
 
-    fn reset(&mut self) {
+    pub fn reset(&mut self) {
         self.positions.copy_from_slice(&self.d.positions);
         self.velocities.copy_from_slice(&self.d.velocities);
         (self.potential, self.forces) = self.start.clone();
@@ -252,6 +256,12 @@ impl<'a> Motion<'a> {
         let all = [&self.positions, &self.velocities, &self.forces].into_iter().flat_map(|x| x.as_flattened());
         Digest(1).floats([&self.potential]).floats(all).0
     }
+}
+
+/// Energy and forces at the start, by the original.
+pub fn start(d: &Data, every: bool) -> (f64, Vec<[f64; 3]>) {
+    let sum = TheirTerms::new(d, every).run(&mut lists(d, every).0, &d.positions);
+    (sum.energy, sum.forces)
 }
 
 struct TheirStep<'a>(Motion<'a>, TheirTerms<'a>, oneighbor::NeighborList);
