@@ -71,7 +71,22 @@ static void sums(void)
     const tyn_cell open = {0, {{0, 0, 0}, {0, 0, 0}, {0, 0, 0}, 0, 0, 0}};
     tyn_summed pull = tyn_bonds_all(bond.bond, open, rows, 2, &none, 0, &none, 0, positions, 6, forces, 6);
     EXPECT(pull.done.number == 0 && pull.sum.energy == 1.0 && forces[0] == 2.0 && forces[3] == -2.0);
-    EXPECT(tyn_argon().shift == 1 && tyn_argon().sigma == 3.4 && tyn_monatomic(1.0, 2.0, 3.0).lj.cutoff == 3.0);
+    EXPECT(tyn_argon().shift == 1 && tyn_argon().rule == 1 && tyn_argon().sigma == 3.4 && tyn_monatomic(1.0, 2.0, 3.0).lj.cutoff == 3.0);
+    /* sigmas 1 and 4 mix to 2.5 by rule 1 and to 2 by rule 2, epsilons 1 and 4 to 2 by both; another rule is out of range */
+    const uint32_t ids[2] = {1, 2}, species[2] = {1, 2};
+    const double params[4] = {1, 1, 4, 4};
+    tyn_lj lj = {0, 0, 10, 0, 2};
+    const tyn_lj mixed[2] = {{2, 2.5, 10, 0, 1}, {2, 2, 10, 0, 1}};
+    for (uint32_t rule = 0; rule < 4; rule++) {
+        lj.rule = rule;
+        tyn_summed two = tyn_lj_all(lj, open, ids, 0, &none, 0, ids, 2, params, 4, species, 2, positions, 6, forces, 6);
+        if (rule == 1 || rule == 2) {
+            tyn_summed one = tyn_lj_all(mixed[rule - 1], open, ids, 0, &none, 0, ids, 0, &none, 0, species, 2, positions, 6, forces, 6);
+            EXPECT(two.done.number == 0 && two.sum.energy == one.sum.energy && two.sum.xx == one.sum.xx);
+        } else {
+            EXPECT(two.done.number == TYN_RANGE && two.done.place == 0);
+        }
+    }
 }
 
 static void lists(void)
@@ -123,7 +138,7 @@ static void desks(void)
     tyn_row own_order = tyn_species_row(turned, 2, own, 4, turned, 2, own, 4, 3), house_order = tyn_species_row(own_ids, 2, own, 4, turned, 2, own, 4, 3);
     EXPECT(own_order.done.number == TYN_ORDER && own_order.done.place == 0 && house_order.done.number == TYN_ORDER && house_order.done.place == 1);
     EXPECT(tyn_species_row(own_ids, 2, own, 3, ids, 3, house, 6, 3).done.number == TYN_LENGTHS);
-    const tyn_lj lj = {0.0, 1.0, 8.0, 0};
+    const tyn_lj lj = {0.0, 1.0, 8.0, 0, 1};
     const tyn_cell open = {0};
     tyn_summed with = tyn_lj_all(lj, open, own_ids, 2, own, 4, ids, 3, house, 6, species, 2, positions, 6, forces, 6);
     tyn_summed without = tyn_lj_all(lj, open, &none, 0, &zero, 0, ids, 3, house, 6, species, 2, positions, 6, before, 6);
@@ -175,17 +190,20 @@ static void whole_numbers(void)
     EXPECT(tyn_squared_distance(frame, (tyn_spot){0, 0, 0}, (tyn_spot){5, 0, 0}).done.number == 0);
     tyn_whole length = tyn_solve((const uint8_t *)sheet, strlen(sheet), out, sizeof out);
     EXPECT(length.done.number == 0 && length.value == strlen(answer) && memcmp(out, answer, strlen(answer)) == 0);
-    /* to the second form and back; a species stays */
-    static uint8_t two[51241], one[43049];
+    /* to the second form and back; a species stays, and so does rule 2, which is told first */
+    static uint8_t two[51243], one[43049];
     static uint32_t places[3072], species[1024], rows[2048];
     length = tyn_to_two((const uint8_t *)sheet, strlen(sheet), two, sizeof two);
-    EXPECT(length.done.number == 0 && length.value == 41 + 4 * 39 + 11);
+    EXPECT(length.done.number == 0 && length.value == 43 + 4 * 39 + 11);
     tyn_formed read = tyn_read_either(two, length.value, places, 3072, species, 1024, rows, 2048);
-    EXPECT(read.done.number == 0 && read.form == 2 && read.job.atoms == 4 && read.job.pz == 1 && read.job.count == 1 && places[11] == 8 && species[3] == 0 && rows[1] == 2);
+    EXPECT(read.done.number == 0 && read.form == 2 && read.rule == 1 && read.job.atoms == 4 && read.job.pz == 1 && read.job.count == 1 && places[11] == 8 && species[3] == 0 && rows[1] == 2);
     EXPECT(tyn_to_one(two, length.value, one, sizeof one).value == 41 + 4 * 31 + 11 && memcmp(one, "01", 2) == 0);
-    two[41 + 39 + 37] = '7';
+    two[43 + 39 + 37] = '7';
     EXPECT(tyn_to_one(two, length.value, one, sizeof one).done.number == TYN_TYPED && tyn_to_one(two, length.value, one, sizeof one).done.place == 1);
     EXPECT(tyn_read_either(two, length.value, places, 3072, species, 1024, rows, 2048).done.number == 0 && species[1] == 7);
+    two[41] = '2';
+    EXPECT(tyn_to_one(two, length.value, one, sizeof one).done.number == TYN_TYPED && tyn_to_one(two, length.value, one, sizeof one).done.place == 0xffffffff);
+    EXPECT(tyn_read_either(two, length.value, places, 3072, species, 1024, rows, 2048).rule == 2);
     length = tyn_solve_either(two, length.value, out, sizeof out);
     EXPECT(length.done.number == 0 && length.value == strlen(answer) && memcmp(out, answer, strlen(answer)) == 0);
 }

@@ -85,7 +85,7 @@ int main(void)
     printf("pairs %" PRIu32 ", checks %" PRIu32 ", fallback %" PRIu32 ", builds %" PRIu32 ", first %" PRIu32 " %" PRIu32 "\n", built.state.pairs,
         built.state.checks, built.state.fallback, built.state.builds, pairs[0], pairs[1]);
 
-    const tyn_setting setting = {.lj = {1, {0.0103, 3.4, 5.0, 1}}, .units = units, .cell = cell};
+    const tyn_setting setting = {.lj = {1, {0.0103, 3.4, 5.0, 1, 1}}, .units = units, .cell = cell};
     const tyn_pace pace = {2.0, {1, 120.0, 100.0}};
     tyn_evaluated start = tyn_evaluate(setting, built.state, &none, 0, &zero, 0, &none, 0, &zero, 0, species, ATOMS, charges, ATOMS, &none, 0, &zero, 0, &zero, 0, &none, 0, &zero, 0, positions,
         3 * ATOMS, exclusions, 2 * rows, pairs, room, references, 3 * ATOMS, starts, 1024, items, ATOMS, forces, 3 * ATOMS);

@@ -49,7 +49,7 @@ enum tyn_refusal {
     TYN_AGAIN = 10,
     /* an atom is absent, or at the place NO_HEADER the header; one case, so that number and place tell the case */
     TYN_ABSENT = 11,
-    /* a species can't go back to the first form; place: the lowest such atom */
+    /* a sheet can't go back to the first form: its rule is 2 (place 0xffffffff), or a species is not 0 (place: the lowest such atom) */
     TYN_TYPED = 12,
     /* a total would pass 2^64 - 1: the list is there, the totals are as they came */
     TYN_FULL = 13
@@ -251,11 +251,12 @@ typedef struct {
     tyn_job job;
 } tyn_sheet;
 
-/* What a job sheet of either form says; form is that of its header, 1 or 2. */
+/* What a job sheet of either form says; form is that of its header, 1 or 2, rule its mixing rule, 1 or 2. */
 typedef struct {
     tyn_done done;
     tyn_job job;
     uint32_t form;
+    uint32_t rule;
 } tyn_formed;
 
 /* A species' row: the table that it is a part of (0 none, 1 a desk's own, 2 the house's), its epsilon and its sigma; zeros where there is none. */
@@ -266,12 +267,14 @@ typedef struct {
     double sigma;
 } tyn_row;
 
-/* Lennard-Jones numbers; epsilon and sigma are those of a species that the table lacks, shift is a flag. */
+/* Lennard-Jones numbers; epsilon and sigma are those of a species that the table lacks, shift is a flag, rule mixes sigmas: 1 by the half sum, 2 by
+ * the root of the product; another number is out of range (3). */
 typedef struct {
     double epsilon;
     double sigma;
     double cutoff;
     uint32_t shift;
+    uint32_t rule;
 } tyn_lj;
 
 typedef struct {
@@ -622,17 +625,17 @@ tyn_whole tyn_write(tyn_frame f, const uint32_t *coordinates, size_t coordinates
 /* The written form of a job sheet, or the line of its refusal, at the front of out (at least 43049 bytes); the value is its length. Refusal 1. */
 tyn_whole tyn_rewrite(const uint8_t *input, size_t input_len, uint8_t *out, size_t out_len);
 
-/* A job sheet of either form: as tyn_read, with a species for each atom (at least 1024 lent), 0 on a sheet of the first form. Refusals 1, 9, 10, 8,
- * 11, 2, 4. */
+/* A job sheet of either form: as tyn_read, with a species for each atom (at least 1024 lent), 0 on a sheet of the first form, and with its rule, 1
+ * there and where a header doesn't say one. Refusals 1, 9, 10, 8, 11, 2, 4. */
 tyn_formed tyn_read_either(const uint8_t *input, size_t input_len, uint32_t *coordinates, size_t coordinates_len, uint32_t *species,
     size_t species_len, uint32_t *exclusions, size_t exclusions_len);
 
-/* A job sheet of the first form in the second, each species 0, at the front of out (51241 bytes are always enough); the value is its length.
+/* A job sheet of the first form in the second, rule 1, each species 0, at the front of out (51243 bytes are always enough); the value is its length.
  * Refusals: those of tyn_read, then 3, 8. */
 tyn_whole tyn_to_two(const uint8_t *input, size_t input_len, uint8_t *out, size_t out_len);
 
 /* A job sheet of the second form in the first, at the front of out (43049 bytes are always enough); the value is its length. Refusals: those of
- * tyn_read, then 12 (the place is the lowest atom whose species is not 0), then 3, 8. */
+ * tyn_read, then 12 (the place is 0xffffffff where the rule is 2, else the lowest atom whose species is not 0), then 3, 8. */
 tyn_whole tyn_to_one(const uint8_t *input, size_t input_len, uint8_t *out, size_t out_len);
 
 /* As tyn_solve, of a job sheet of either form. Refusal 1. */

@@ -135,7 +135,7 @@ def refusals():
             words += "; place 1: the house's species"
         out += "    /* %s */\n    %s = %s,\n" % (words, name, numbers[case])
     # 12 is a case of `sheet_moved::Moved`, 13 of `shells::Counted`: no other call has them
-    out += "    /* a species can't go back to the first form; place: the lowest such atom */\n    TYN_TYPED = 12,\n"
+    out += "    /* a sheet can't go back to the first form: its rule is 2 (place 0xffffffff), or a species is not 0 (place: the lowest such atom) */\n    TYN_TYPED = 12,\n"
     out += "    /* a total would pass 2^64 - 1: the list is there, the totals are as they came */\n    TYN_FULL = 13,\n"
     return out.rstrip(",\n") + "\n};\n"
 

@@ -5,7 +5,7 @@
     tools/sheets.py FILE       prints the model's answer for one sheet
     tools/sheets.py FILE rewrite   prints the sheet's written form (02, No. 8)
     tools/sheets.py FILE clumps    prints the model's clumps of one sheet (02, No. 13)
-    tools/sheets.py FILE either    prints the answer for a sheet of either form; to_two, to_one: the sheet moved (02, No. 9)
+    tools/sheets.py FILE either    prints the answer for a sheet of either form; to_two, to_one: the sheet moved (02, No. 9 and 10)
     tools/sheets.py SEED COUNT     writes that many more sheets to table.in and what `clumps_table` is to print to table.out
     tools/sheets.py SEED COUNT either   the same of sheets of both forms, for `forms_table`
     tools/sheets.py -SIZE      prints a sheet of that many bytes: five atoms, then an atom's exclusion with itself again and again (65,536 is whole lines);
@@ -23,8 +23,8 @@ STENCIL = [(0, 0, 0), (0, 0, 1), (0, 1, -1), (0, 1, 0), (0, 1, 1), (1, -1, -1), 
 HEADER = re.compile(rb"01([0-9a-f]{4})([0-9a-f]{8})([0-9a-f]{8})([0-9a-f]{8})0([0-7])([0-9a-f]{8})")
 ATOM = re.compile(rb"02([0-9a-f]{4})([0-9a-f]{8})([0-9a-f]{8})([0-9a-f]{8})")
 EXCLUSION = re.compile(rb"03([0-9a-f]{4})([0-9a-f]{4})")
-# 02, No. 9
-HEADER_TWO = re.compile(rb"11([0-9a-f]{4})([0-9a-f]{8})([0-9a-f]{8})([0-9a-f]{8})0([0-7])([0-9a-f]{8})")
+# 02, No. 9, and the rule at a header's end, No. 10
+HEADER_TWO = re.compile(rb"11([0-9a-f]{4})([0-9a-f]{8})([0-9a-f]{8})([0-9a-f]{8})0([0-7])([0-9a-f]{8})(01|02)?")
 ATOM_TWO = re.compile(rb"12([0-9a-f]{4})([0-9a-f]{8})([0-9a-f]{8})([0-9a-f]{8})([0-9a-f]{8})")
 
 
@@ -34,19 +34,18 @@ class Refused(Exception):
 
 
 def numbers(match):
-    return [int(g, 16) for g in match.groups()]
+    return [int(g, 16) for g in match.groups() if g]
 
 
 def read(data, form=1):
     """The sheet in form 1, in form 2, or (0) in the form of its first header or atom line; each line of the other form is malformed."""
-    header, places, excluded, _ = read_in(data, form)
-    return header, places, excluded
+    return read_in(data, form)[:3]
 
 
 def read_in(data, form):
     if len(data) > 65536:
         raise Refused(1)
-    header, atoms, excluded, species = None, {}, set(), {}
+    header, atoms, excluded, species, rule = None, {}, set(), {}, 1
     lines = data.split(b"\n")
     rest = lines.pop()
     if form == 0:
@@ -56,7 +55,8 @@ def read_in(data, form):
         if m := head_form.fullmatch(line):
             if header is not None:
                 raise Refused(10, n)
-            header = numbers(m)
+            header = numbers(m)[:6]
+            rule = (numbers(m) + [1])[6]
         elif (m := atom_form.fullmatch(line)) and numbers(m)[0] < 1024:
             k, x, y, z, *kind = numbers(m)
             if k in atoms:
@@ -84,7 +84,7 @@ def read_in(data, form):
     for k in range(count):
         if k not in atoms:
             raise Refused(11, k)
-    return header, [atoms[k] for k in range(count)], excluded, [species[k] for k in range(count)]
+    return header, [atoms[k] for k in range(count)], excluded, [species[k] for k in range(count)], rule
 
 
 def axis(d, edge, periodic):
@@ -141,19 +141,21 @@ def rewrite(data):
 
 
 def to_two(data):
-    """02, No. 9: a sheet of the first form in the second, species 0, as written."""
+    """02, No. 9 and 10: a sheet of the first form in the second, rule 01, species 0, as written."""
     try:
         (count, ex, ey, ez, mask, radius), places, excluded = read(data)
         in_range((ex, ey, ez), [mask >> k & 1 == 1 for k in range(3)], radius, places)
-        return b"".join([header(count, (ex, ey, ez), mask, radius, 0x11)] + [atom_two(k, p, 0) for k, p in enumerate(places)] + [exclusion(*p) for p in sorted(excluded)])
+        return b"".join([header(count, (ex, ey, ez), mask, radius, 0x11, b"01")] + [atom_two(k, p, 0) for k, p in enumerate(places)] + [exclusion(*p) for p in sorted(excluded)])
     except Refused as r:
         return r.text
 
 
 def to_one(data):
-    """02, No. 9: a sheet of the second form in the first, as written; 12 for the lowest atom whose species can't go."""
+    """02, No. 9 and 10: a sheet of the second form in the first, as written; 12 for rule 2, then for the lowest atom whose species can't go."""
     try:
-        (count, ex, ey, ez, mask, radius), places, excluded, species = read_in(data, 2)
+        (count, ex, ey, ez, mask, radius), places, excluded, species, rule = read_in(data, 2)
+        if rule != 1:
+            raise Refused(12, 0xffffffff)
         for k, t in enumerate(species):
             if t:
                 raise Refused(12, k)
@@ -218,8 +220,8 @@ def clumps(data):
 
 # ---- sheets
 
-def header(count, edges=(10, 10, 10), mask=7, radius=3, mark=1):
-    return b"%02x%04x%08x%08x%08x%02x%08x\n" % (mark, count, *edges, mask, radius)
+def header(count, edges=(10, 10, 10), mask=7, radius=3, mark=1, rule=b""):
+    return b"%02x%04x%08x%08x%08x%02x%08x%s\n" % (mark, count, *edges, mask, radius, rule)
 
 
 def atom_two(k, place, species):
@@ -408,12 +410,17 @@ def forms():
     return out
 
 
-def typed(rng, lines, kinds):
-    """Lines of the first form in the second, with species of `kinds`."""
+# what may stand at the end of a header, and what may not
+RULES = [b"", b"01", b"02"]
+NO_RULES = [b"00", b"03", b"04", b"0a", b"0A", b"10", b"11", b"12", b"20", b"21", b"fe", b"ff", b"0g", b" 1", b"1", b"2", b"001", b"101", b"0101", b"0102", b"00000001", b"1\r", b"01\r", b"01 "]
+
+
+def typed(rng, lines, kinds, rules=RULES[:2]):
+    """Lines of the first form in the second, with species of `kinds` and a rule of `rules`."""
     out = []
     for line in lines:
         if line[:2] == b"01":
-            out.append(b"11" + line[2:])
+            out.append(b"11" + line[2:-1] + rng.choice(rules) + b"\n")
         elif line[:2] == b"02":
             out.append(b"12" + line[2:-1] + b"%08x\n" % rng.choice(kinds))
         else:
@@ -456,20 +463,30 @@ def either_sheets():
                  b"12040000000001000000010000000100000000\n", b"1200010000000100000001000000010000000g\n", b"12000100000001000000010000000100000001\n",
                  b"110002" + b"0000000a" * 3 + b"070000000301\n", b"010002" + b"0000000a" * 3 + b"070000000301\n"):
         out += [join([head, two[0]]) + line, join([header(2), one[0]]) + line]
+    # the rule at a header's end (No. 10): each that is one and each that is none, in both forms, with and without a species, a stray and an absent atom
+    for rule in RULES + NO_RULES:
+        out += [join([header(2, mark=0x11, rule=rule)] + two), join(seven + [header(2, mark=0x11, rule=rule)]), join([header(2, rule=rule)] + one)]
+    for rule in RULES:
+        out += [header(0, mark=0x11, rule=rule), join([header(3, mark=0x11, rule=rule)] + two), join([header(1, mark=0x11, rule=rule)] + seven), header(1025, mark=0x11, rule=rule),
+                join([header(2, mark=0x11, radius=6, rule=rule)] + two), join([header(2, mark=0x11, radius=6, rule=rule)] + seven), header(2, mark=0x11, rule=rule)[:-1],
+                join([header(0, (0, 1, 1), mark=0x11, rule=rule)]), join([header(2, mark=0x11, rule=rule)] + one), join([header(2, mark=0x11, rule=rule)] + two + [header(2)]),
+                join([exclusion(1, 0), header(2, mark=0x11, rule=rule)] + two + [b"12\n"]), join([header(2, mark=0x11, rule=rule).replace(b"07", b"08")] + two)]
+        for again in RULES + NO_RULES[:2]:
+            out.append(join([header(2, mark=0x11, rule=rule)] + two + [header(2, mark=0x11, rule=again)]))
     for kinds in ((0, 0, 0), (1, 0, 0), (0, 1, 0), (0, 0, 1), (0xffffffff, 5, 0), (0, 0x80000000, 9)):
         for edges in ((10, 10, 10), (1, 1, 1)):
             out.append(join(shuffled(rng, [header(3, edges, mark=0x11)] + [atom_two(k, (k, k, k), t) for k, t in enumerate(kinds)])))
     # sound sheets of both forms, the same in other orders, damaged ones, and the moves of each
     for count, edges, mask, radius, exclusions in ((0, (1, 1, 1), 0, 0, 0), (1, (10, 10, 10), 7, 5, 1), (12, (30, 31, 32), 2, 15, 20), (16, (9, 9, 9), 7, 3, 6), (25, (100, 20, 20), 1, 8, 9), (30, (64, 64, 64), 0, 16, 20)):
         lines = some(rng, count, edges, mask, radius, exclusions)
-        for kinds in (none, some_kinds):
-            said = typed(rng, lines, kinds)
+        for kinds, rules in ((none, RULES[:1]), (none, RULES[1:2]), (none, RULES[2:]), (some_kinds, RULES)):
+            said = typed(rng, lines, kinds, rules)
             out += [join(said)] + [join(shuffled(rng, said)) for _ in range(3)] + [damaged(rng, join(said)) for _ in range(3)]
         out += [join(shuffled(rng, lines)), to_two(join(lines)), to_one(to_two(join(lines))), damaged(rng, join(lines))]
     # mixed by chance
     for _ in range(24):
         lines = some(rng, 3, (10, 10, 10), 7, 3, 2)
-        out.append(join(shuffled(rng, [rng.choice((line, typed(rng, [line], some_kinds)[0])) if rng.random() < 0.2 else typed(rng, [line], none)[0] for line in lines])))
+        out.append(join(shuffled(rng, [rng.choice((line, typed(rng, [line], some_kinds, RULES)[0])) if rng.random() < 0.2 else typed(rng, [line], none)[0] for line in lines])))
     # the longest forms, and as long as a sheet may be
     long = some(rng, 1024, (200, 300, 400), 7, 20) + [exclusion(k % 7, 7 + k) for k in range(1024)]
     out += [join(shuffled(rng, long)), join(shuffled(rng, typed(rng, long, none))), join(typed(rng, long, none + none + [4]))]
@@ -479,16 +496,17 @@ def either_sheets():
 
 
 def more_either(rng, count):
-    """Sheets of both forms by chance: sound, shuffled, mixed, damaged."""
+    """Sheets of both forms and rules by chance: sound, shuffled, mixed, damaged."""
     out = []
     for _ in range(count):
         n = rng.choice((0, 1, 2, 3, 7, 20))
         edges = tuple(rng.choice((1, 5, 10, 30, 64)) for _ in range(3))
         lines = some(rng, n, edges, rng.randrange(8), rng.choice((0, 1, 2, 3, 5)), rng.randrange(6))
         kinds = rng.choice(([0], [0], [0, 0, 0, 1], [1, 2, 0xffffffff]))
+        rules = rng.choice(([b""], [b"01"], [b"01"], [b"02"], RULES, RULES + NO_RULES))
         two = rng.random() < 0.7
         mixed = rng.choice((0, 0, 0, 0.05, 0.3))
-        said = [typed(rng, [line], kinds)[0] if two != (rng.random() < mixed) else line for line in lines]
+        said = [typed(rng, [line], kinds, rules)[0] if two != (rng.random() < mixed) else line for line in lines]
         if rng.random() < 0.2:
             said.append(rng.choice(said))
         if rng.random() < 0.2:

@@ -75,6 +75,25 @@ class Answers(unittest.TestCase):
         self.assertEqual(one, other)
         self.assertEqual(house, {18: (0.01, 3.4), 36: (0.02, 3.6)})
 
+    def test_mixing_rules(self):
+        """Rule 1 takes the half sum of two sigmas, rule 2 the root of their product; epsilons mix alike."""
+        rows, numbers, p = {1: (0.01, 2.0), 2: (0.04, 4.5)}, np.array([1, 2], np.uint32), np.array([[0.0, 0, 0], [3.1, 1.2, -0.7]])
+        lj = t.LennardJones(rows, (0.0, 0.0), 9.0)
+        self.assertEqual((t.LennardJones.argon().rule, lj.mixed_by(2).over({}).rule), (1, 2))
+        for rule, sigma in ((1, 3.25), (2, 3.0)):
+            two, one = lj.mixed_by(rule).compute_all(numbers, p), t.LennardJones.monatomic(0.02, sigma, 9.0).compute_all(numbers, p)
+            self.assertAlmostEqual(two.energy, one.energy, places=15)
+            np.testing.assert_allclose(two.forces, one.forces, rtol=1e-12)
+            listed = t.Evaluator(t.NeighborList(9.0, 1.0), t.Terms(lennard_jones=(lj.mixed_by(rule), numbers))).evaluate(p)
+            self.assertEqual(listed.energy, two.energy)
+        for rule in (-1, (1 << 32) + 1):
+            with self.assertRaises(ValueError):
+                lj.mixed_by(rule).compute_all(numbers, p)
+        for rule in (0, 3):
+            with self.assertRaises(t.Error) as refused:
+                lj.mixed_by(rule).compute_all(numbers, p)
+            self.assertEqual(refused.exception.number, 3)
+
     def test_forces_that_are_lent(self):
         p = liquid(30, 12.0)
         forces = np.full((30, 3), 7.0)
@@ -319,6 +338,16 @@ class Sheets(unittest.TestCase):
         typed = two.replace(b"00000000\n120002", b"00000007\n120002")
         self.assertEqual(t.Sheet.read(typed).species.tolist(), [0, 7, 0, 0])
         self.assertEqual(refused(self, t.sheet.to_one, typed), (12, 1))
+
+    def test_rule(self):
+        two = t.sheet.to_two(self.SHEET)
+        head = two.split(b"\n")[0]
+        self.assertEqual((len(head), head[-2:], t.Sheet.read(self.SHEET).rule), (42, b"01", 1))
+        for end, rule in ((b"", 1), (b"01", 1), (b"02", 2)):
+            said = two.replace(head, head[:40] + end)
+            self.assertEqual((t.Sheet.read(said).rule, t.sheet.pairs(said)), (rule, t.sheet.pairs(two)))
+        self.assertEqual(refused(self, t.sheet.to_one, said), (12, 0xffffffff))
+        self.assertEqual(refused(self, t.Sheet.read, two.replace(head, head[:40] + b"03")), (9, 1))
 
 
 class Refusals(unittest.TestCase):

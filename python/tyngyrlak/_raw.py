@@ -24,6 +24,7 @@ WORDS = (
     (10, None, "a second header, or an atom number again"),
     (11, 0xffffffff, "the sheet has no header"),
     (11, None, "an atom of the sheet is absent"),
+    (12, 0xffffffff, "the sheet can't go back to the first form: its rule is 2"),
     (12, None, "the sheet can't go back to the first form: an atom has a species"),
     (13, None, "a total would pass 2^64 - 1"),
 )
@@ -190,9 +191,9 @@ class Sheet(Structure):
 
 
 class Formed(Structure):
-    """What a job sheet of either form says; form is that of its header, 1 or 2."""
+    """What a job sheet of either form says; form is that of its header, 1 or 2, rule its mixing rule, 1 or 2."""
 
-    _fields_ = [("done", Done), ("job", Job), ("form", c_uint32)]
+    _fields_ = [("done", Done), ("job", Job), ("form", c_uint32), ("rule", c_uint32)]
 
 
 class Row(Structure):
@@ -202,9 +203,9 @@ class Row(Structure):
 
 
 class Lj(Structure):
-    """Lennard-Jones numbers; epsilon and sigma are those of a species that the table lacks, shift is a flag."""
+    """Lennard-Jones numbers; epsilon and sigma are those of a species that the table lacks, shift is a flag, rule mixes sigmas: 1 by the half sum, 2 by the root of the product; another number is out of range (3)."""
 
-    _fields_ = [("epsilon", c_double), ("sigma", c_double), ("cutoff", c_double), ("shift", c_uint32)]
+    _fields_ = [("epsilon", c_double), ("sigma", c_double), ("cutoff", c_double), ("shift", c_uint32), ("rule", c_uint32)]
 
 
 class LjAnswer(Structure):
@@ -505,15 +506,15 @@ tyn_rewrite = Call("tyn_rewrite", Whole, (
 
 tyn_read_either = Call("tyn_read_either", Formed, (
     lent("input", "uint8", False), lent("coordinates", "uint32", True), lent("species", "uint32", True), lent("exclusions", "uint32", True),
-), "A job sheet of either form: as tyn_read, with a species for each atom (at least 1024 lent), 0 on a sheet of the first form. Refusals 1, 9, 10, 8, 11, 2, 4.")
+), "A job sheet of either form: as tyn_read, with a species for each atom (at least 1024 lent), 0 on a sheet of the first form, and with its rule, 1 there and where a header doesn't say one. Refusals 1, 9, 10, 8, 11, 2, 4.")
 
 tyn_to_two = Call("tyn_to_two", Whole, (
     lent("input", "uint8", False), lent("out", "uint8", True),
-), "A job sheet of the first form in the second, each species 0, at the front of out (51241 bytes are always enough); the value is its length. Refusals: those of tyn_read, then 3, 8.")
+), "A job sheet of the first form in the second, rule 1, each species 0, at the front of out (51243 bytes are always enough); the value is its length. Refusals: those of tyn_read, then 3, 8.")
 
 tyn_to_one = Call("tyn_to_one", Whole, (
     lent("input", "uint8", False), lent("out", "uint8", True),
-), "A job sheet of the second form in the first, at the front of out (43049 bytes are always enough); the value is its length. Refusals: those of tyn_read, then 12 (the place is the lowest atom whose species is not 0), then 3, 8.")
+), "A job sheet of the second form in the first, at the front of out (43049 bytes are always enough); the value is its length. Refusals: those of tyn_read, then 12 (the place is 0xffffffff where the rule is 2, else the lowest atom whose species is not 0), then 3, 8.")
 
 tyn_solve_either = Call("tyn_solve_either", Whole, (
     lent("input", "uint8", False), lent("out", "uint8", True),

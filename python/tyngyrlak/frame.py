@@ -109,12 +109,13 @@ class Snapshot:
 
 @dataclass
 class Sheet:
-    """What a job sheet of either form says: the frame with its atoms and exclusions, the species of each atom (0 on a sheet of the first form), and the form,
-    1 or 2."""
+    """What a job sheet of either form says: the frame with its atoms and exclusions, the species of each atom (0 on a sheet of the first form), the form, 1 or 2,
+    and the mixing rule, 1 or 2, as LennardJones takes it: 2 where the header says 02, else 1."""
 
     snapshot: Snapshot
     species: np.ndarray
     form: int
+    rule: int
 
     @classmethod
     def read(cls, sheet):
@@ -122,4 +123,4 @@ class Sheet:
         Snapshot.from_sheet, whose reading of a sheet of the first form this is."""
         places, species, table = np.zeros((1024, 3), np.uint32), np.zeros(1024, np.uint32), np.zeros((1024, 2), np.uint32)
         r = answered(_raw.tyn_read_either, _raw.tyn_read_either(given(sheet), places, species, table))
-        return cls(Snapshot.told(r.job, places, table), species[: r.job.atoms].copy(), r.form)
+        return cls(Snapshot.told(r.job, places, table), species[: r.job.atoms].copy(), r.form, r.rule)

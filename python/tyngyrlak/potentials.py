@@ -11,6 +11,7 @@ from . import _raw, units
 from ._tables import atoms, floats, rows
 from .cell import flat_cell
 from .error import answered
+from .frame import u32
 from .neighbor import pair_rows
 from .virial import Contribution
 
@@ -20,17 +21,19 @@ def _room(forces, n):
 
 
 class LennardJones:
-    """Lennard-Jones potential with per-species parameters and Lorentz-Berthelot mixing, a spherical cutoff, and optional energy shift for continuity.
+    """Lennard-Jones potential with per-species parameters and a mixing rule, a spherical cutoff, and optional energy shift for continuity.
 
     params   {species number: (epsilon eV, sigma Å)}, e.g. by atomic number
     default  (epsilon, sigma) of a species that has no row
     cutoff   Å
     shift    whether the potential is shifted so that it is 0 at the cutoff
-    house    a table that several potentials share: the rows of species that params lacks. Nothing of it is copied into params or changed"""
+    house    a table that several potentials share: the rows of species that params lacks. Nothing of it is copied into params or changed
+    rule     how the sigmas of two species mix: 1 by the half sum (Lorentz-Berthelot), 2 by the geometric mean, the root of the product. Epsilons mix by the
+             root of their product in both. A call refuses another number with 3"""
 
-    def __init__(self, params=None, default=(0.0, 0.0), cutoff=0.0, shift=True, house=None):
+    def __init__(self, params=None, default=(0.0, 0.0), cutoff=0.0, shift=True, house=None, rule=1):
         self.params, self.default, self.cutoff, self.shift = dict(params or {}), tuple(default), cutoff, bool(shift)
-        self.house = {} if house is None else house
+        self.house, self.rule = {} if house is None else house, rule
 
     @classmethod
     def monatomic(cls, epsilon, sigma, cutoff):
@@ -44,7 +47,11 @@ class LennardJones:
 
     def over(self, house):
         """The same potential over a shared house table: a species' row is the one of params where there is one, else the house's, else the default."""
-        return type(self)(self.params, self.default, self.cutoff, self.shift, house)
+        return type(self)(self.params, self.default, self.cutoff, self.shift, house, self.rule)
+
+    def mixed_by(self, rule):
+        """The same potential with another mixing rule."""
+        return type(self)(self.params, self.default, self.cutoff, self.shift, self.house, rule)
 
     def row(self, species):
         """The row of a species: that of params, else the house's, else the default."""
@@ -73,7 +80,7 @@ class LennardJones:
     def flat(self):
         """The numbers as the library takes them."""
         epsilon, sigma = self.default
-        return _raw.Lj(epsilon, sigma, self.cutoff, self.shift)
+        return _raw.Lj(epsilon, sigma, self.cutoff, self.shift, u32("rule", self.rule))
 
     def tables(self):
         """Both tables, the species ascending, and epsilon and sigma of each, by the header's names."""

@@ -1,5 +1,5 @@
 """Job sheets: what is printed for one, and the written form of a whole-number frame and of a sheet that was typed by hand; sheets of the second form, whose
-atoms have a species (docs/SHEET.md has the lines)."""
+atoms have a species and whose header can name the mixing rule (docs/SHEET.md has the lines)."""
 import numpy as np
 
 from . import _raw
@@ -9,7 +9,7 @@ from .error import answered
 #: The longest written form: a header, 1,024 atoms and 1,024 exclusions.
 _LONGEST = 43_049
 #: The same in the second form.
-_LONGEST_TWO = 51_241
+_LONGEST_TWO = 51_243
 #: The longest printed answer.
 _PRINTED = 90_133
 
@@ -34,18 +34,18 @@ def solve(sheet):
 
 
 def pairs(sheet):
-    """The pair list of a sheet of either form, or the line of its refusal, as the program `pairs_either` prints it; species don't enter it."""
+    """The pair list of a sheet of either form, or the line of its refusal, as the program `pairs_either` prints it; species and rule don't enter it."""
     return printed(_raw.tyn_solve_either, sheet, _PRINTED)
 
 
 def to_two(sheet):
-    """A sheet of the first form in the second, as it is written, each species 0. Refusals as Snapshot.from_sheet, then 3."""
+    """A sheet of the first form in the second, as it is written, rule 1, each species 0. Refusals as Snapshot.from_sheet, then 3."""
     return printed(_raw.tyn_to_two, sheet, _LONGEST_TWO)
 
 
 def to_one(sheet):
-    """A sheet of the second form in the first, as it is written. Refusals as Snapshot.from_sheet; then 12 where an atom has a species, the place being the
-    lowest such atom; then 3. to_one(to_two(s)) is rewrite(s)."""
+    """A sheet of the second form in the first, as it is written. Refusals as Snapshot.from_sheet; then 12, at the place 0xffffffff where the rule is 2,
+    else at the lowest atom that has a species; then 3. to_one(to_two(s)) is rewrite(s)."""
     return printed(_raw.tyn_to_one, sheet, _LONGEST)
 
 

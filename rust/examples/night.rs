@@ -10,7 +10,8 @@
 //! cell LX LY LZ                    or nine numbers, the vectors a, b, c; without this line there is no cell
 //! open x                           an axis that is not periodic
 //! list CUTOFF SKIN
-//! lj EPSILON SIGMA CUTOFF          for a species that has no line of its own; shifted to 0 at the cutoff
+//! lj EPSILON SIGMA CUTOFF [RULE]   for a species that has no line of its own; shifted to 0 at the cutoff. RULE 1 mixes two sigmas by the half sum, as the
+//!                                  original does and where none is given, 2 by the geometric mean
 //! species NUMBER EPSILON SIGMA
 //! coulomb CUTOFF
 //! bonds K R0
@@ -180,6 +181,10 @@ impl Run {
             }
             ("list", &[cutoff, skin]) => self.list = NeighborList::new(cutoff, skin),
             ("lj", &[epsilon, sigma, cutoff]) => self.lj = Some(LennardJones::monatomic(epsilon, sigma, cutoff)),
+            ("lj", &[epsilon, sigma, cutoff, rule]) => {
+                let mixing = [Mixing::HalfSum, Mixing::Geometric].into_iter().find(|m| f64::from(m.rule()) == rule).ok_or("the rule of lj is 1 or 2")?;
+                self.lj = Some(LennardJones::monatomic(epsilon, sigma, cutoff).mixed_by(mixing));
+            }
             ("species", &[number, epsilon, sigma]) => {
                 self.lj.as_mut().ok_or("species come after lj")?.params.insert(number as u32, (epsilon, sigma));
             }

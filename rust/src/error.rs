@@ -37,6 +37,7 @@ impl Error {
             (10, _) => "a second header, or an atom number again",
             (11, 0xffff_ffff) => "the sheet has no header",
             (11, _) => "an atom of the sheet is absent",
+            (12, 0xffff_ffff) => "the sheet can't go back to the first form: its rule is 2",
             (12, _) => "the sheet can't go back to the first form: an atom has a species",
             (13, _) => "a total would pass 2^64 - 1",
             _ => "the library refused",

@@ -16,6 +16,6 @@ pub use evaluate::{Evaluator, Terms};
 pub use fire::{fire, FireOptions, FireResult};
 pub use melt::{Left, Melt, NewAtom};
 pub use neighbor::{NeighborList, PairRows};
-pub use potentials::{CosineAngles, Coulomb, HarmonicBonds, LennardJones};
+pub use potentials::{CosineAngles, Coulomb, HarmonicBonds, LennardJones, Mixing};
 pub use verlet::{apply_berendsen, kinetic_energy, temperature, verlet_finish, verlet_step, Berendsen};
 pub use virial::{pressure, pressure_tensor, to_gpa, Contribution};

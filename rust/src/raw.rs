@@ -23,7 +23,7 @@ structs! {
     Sum { energy: f64, virial: [f64; 9] }
     Units { force_to_accel: f64, kb_ev_per_k: f64, ke_coulomb: f64, ev_per_a3_to_gpa: f64 }
     State { cutoff: f64, skin: f64, pairs: u32, references: u32, checks: u32, fallback: u32, builds: u32, built_in: Cell }
-    Lj { epsilon: f64, sigma: f64, cutoff: f64, shift: u32 }
+    Lj { epsilon: f64, sigma: f64, cutoff: f64, shift: u32, rule: u32 }
     Bond { k: f64, r0: f64 }
     Angle { k: f64, rest: f64 }
     LjTerm { present: u32, lj: Lj }
@@ -56,7 +56,7 @@ structs! {
     Sheet { done: Done, job: Job }
     /// Of table 0 none, 1 a desk's own, 2 the house's.
     Row { done: Done, table: u32, epsilon: f64, sigma: f64 }
-    Formed { done: Done, job: Job, form: u32 }
+    Formed { done: Done, job: Job, form: u32, rule: u32 }
     Evaluated { done: Done, rebuilt: u32, state: State, sum: Sum }
     Stepped { done: Done, stopped: u32, rebuilt: u32, state: State, potential: f64 }
     Fired { done: Done, iteration: u32, stopped: u32, converged: u32, energy: f64, max_force: f64, state: State }

@@ -1,13 +1,14 @@
 //! Job sheets: the written form of a whole-number frame, and of a sheet that was typed by hand; sheets of the second form, whose atoms have a species
-//! (docs/SHEET.md has the lines).
+//! and whose header can name the mixing rule (docs/SHEET.md has the lines).
 use crate::error::Error;
+use crate::field::potentials::Mixing;
 use crate::frame::{Frame, Snapshot};
 use crate::raw;
 
 /// The longest written form: a header, 1,024 atoms and 1,024 exclusions.
 const LONGEST: usize = 43_049;
 /// The same in the second form.
-const LONGEST_TWO: usize = 51_241;
+const LONGEST_TWO: usize = 51_243;
 
 /// The sheet of a frame in its one written form: header, atoms by number, exclusions by low, then high number. Refused are more than 1,024 atoms (2), a
 /// number out of range (3), and exclusions that are not low before high and strictly ascending, more than 1,024, or above ffff (5).
@@ -38,6 +39,9 @@ pub struct Sheet {
     pub species: Vec<u32>,
     /// 1 or 2.
     pub form: u32,
+    /// How the job mixes two species: rule 2 where the header says `02`, else rule 1. Lennard-Jones takes it (`LennardJones::mixing`); the pair list doesn't
+    /// depend on it.
+    pub mixing: Mixing,
 }
 
 /// Reads a sheet of either form; its first header or atom line says which, and from then on a line of the other form is malformed (9). Refusals as
@@ -49,16 +53,17 @@ pub fn read(sheet: &[u8]) -> Result<Sheet, Error> {
     let told = raw::tyn_read_either(sheet, &mut places, &mut species, &mut table);
     told.done.of("tyn_read_either")?;
     species.truncate(told.job.atoms as usize);
-    Ok(Sheet { snapshot: Snapshot::told(&told.job, &places, &table), species, form: told.form })
+    let mixing = if told.rule == Mixing::Geometric.rule() { Mixing::Geometric } else { Mixing::HalfSum };
+    Ok(Sheet { snapshot: Snapshot::told(&told.job, &places, &table), species, form: told.form, mixing })
 }
 
-/// A sheet of the first form in the second, as it is written, each species 0. Refusals as [`Snapshot::from_sheet`], then 3.
+/// A sheet of the first form in the second, as it is written, rule 1, each species 0. Refusals as [`Snapshot::from_sheet`], then 3.
 pub fn to_two(sheet: &[u8]) -> Result<Vec<u8>, Error> {
     moved("tyn_to_two", raw::tyn_to_two, sheet, LONGEST_TWO)
 }
 
-/// A sheet of the second form in the first, as it is written. Refusals as [`Snapshot::from_sheet`]; then 12 where an atom has a species, the place being the
-/// lowest such atom; then 3. `to_one(&to_two(s)?)?` is `rewrite(s)`.
+/// A sheet of the second form in the first, as it is written. Refusals as [`Snapshot::from_sheet`]; then 12, at the place 0xffffffff where the rule is 2, else
+/// at the lowest atom that has a species; then 3. `to_one(&to_two(s)?)?` is `rewrite(s)`.
 pub fn to_one(sheet: &[u8]) -> Result<Vec<u8>, Error> {
     moved("tyn_to_one", raw::tyn_to_one, sheet, LONGEST)
 }
@@ -71,7 +76,7 @@ fn moved(name: &'static str, call: fn(&[u8], &mut [u8]) -> raw::Whole, sheet: &[
     Ok(out)
 }
 
-/// The pair list of a sheet of either form, or the line of its refusal, as the program `pairs_either` prints it; species don't enter it.
+/// The pair list of a sheet of either form, or the line of its refusal, as the program `pairs_either` prints it; species and rule don't enter it.
 pub fn pairs(sheet: &[u8]) -> Vec<u8> {
     let mut out = vec![0; 90_133];
     let told = raw::tyn_solve_either(sheet, &mut out);

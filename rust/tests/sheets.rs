@@ -1,6 +1,7 @@
 //! Written sheets: one form for each meaning; sheets of either form, there and back.
 #[macro_use]
 mod common;
+use tyngyrlak::field::potentials::Mixing;
 use tyngyrlak::frame::{Frame, Snapshot};
 use tyngyrlak::sheet::{pairs, read, rewrite, to_one, to_two, write};
 
@@ -8,7 +9,7 @@ const TYPED: &str = "020003000000050000000500000008\n0300020000\n0100040000000a0
                      020002000000050000000500000005\n020001000000090000000000000000\n";
 const WRITTEN: &str = "0100040000000a0000000a0000000a0700000003\n020000000000000000000000000000\n020001000000090000000000000000\n\
                        020002000000050000000500000005\n020003000000050000000500000008\n0300000002\n";
-const SECOND: &str = "1100040000000a0000000a0000000a0700000003\n12000000000000000000000000000000000000\n12000100000009000000000000000000000000\n\
+const SECOND: &str = "1100040000000a0000000a0000000a070000000301\n12000000000000000000000000000000000000\n12000100000009000000000000000000000000\n\
                       12000200000005000000050000000500000000\n12000300000005000000050000000800000000\n0300000002\n";
 const BOX: Frame = Frame { edges: [10; 3], periodic: [true; 3], radius: 3 };
 const ATOMS: [[u32; 3]; 4] = [[0, 0, 0], [9, 0, 0], [5, 5, 5], [5, 5, 8]];
@@ -62,7 +63,7 @@ tests! {
         let rows: Vec<(u32, u32)> = (0..1024).map(|k| (k, 0xffff)).collect();
         let long = write(&BOX, &atoms, &rows).unwrap();
         let two = to_two(&long).unwrap();
-        assert_eq!(two.len(), 51_241);
+        assert_eq!(two.len(), 51_243);
         assert_eq!(to_one(&two).unwrap(), long);
     }
 
@@ -75,6 +76,26 @@ tests! {
         assert_eq!(read(typed.as_bytes()).unwrap().species, [0, 0, 0xff00, 0]);
         assert_eq!(pairs(typed.as_bytes()), b"81000000020000000500\n8200020003\n8200000001\n");
         assert_eq!(pairs(TYPED.as_bytes()), pairs(SECOND.as_bytes()));
+    }
+
+    fn a_header_names_the_rule() {
+        let ending = |end: &str| SECOND.replace("070000000301\n", &format!("0700000003{end}\n"));
+        assert_eq!(read(TYPED.as_bytes()).unwrap().mixing, Mixing::HalfSum);
+        for (end, mixing) in [("", Mixing::HalfSum), ("01", Mixing::HalfSum), ("02", Mixing::Geometric)] {
+            let told = read(ending(end).as_bytes()).unwrap();
+            assert_eq!((told.mixing, told.form), (mixing, 2));
+            assert_eq!(pairs(ending(end).as_bytes()), pairs(SECOND.as_bytes()));
+        }
+        assert_eq!(to_one(ending("").as_bytes()).unwrap(), WRITTEN.as_bytes());
+        for sheet in [ending("02"), ending("02").replace("0700000003", "0700000006"), ending("02").replace("00000000\n120002", "00000007\n120002"), format!("110000{}000000000002\n", "0000000a".repeat(3))] {
+            let e = to_one(sheet.as_bytes()).unwrap_err();
+            assert_eq!((e.number, e.place, e.words()), (12, 0xffff_ffff, "the sheet can't go back to the first form: its rule is 2"));
+        }
+        for end in ["00", "03", "0a", "1", "001", "0102"] {
+            assert_eq!(read(ending(end).as_bytes()).unwrap_err().number, 9);
+            assert_eq!(to_one(ending(end).as_bytes()).unwrap_err().number, 9);
+        }
+        assert_eq!(read(TYPED.replace("0700000003", "070000000301").as_bytes()).unwrap_err().number, 9);
     }
 
     fn refusals_of_the_second_form() {

@@ -37,8 +37,8 @@ pub extern "C" fn tyn_rewrite(input: &[u8], out: &mut [u8]) -> FlatWhole
     give::whole(sheet_rewritten::rewrite(input, out))
 }
 
-// A job sheet of either form: as tyn_read, with a species for each atom (at least 1024 lent), 0 on a sheet of the first form. Refusals 1, 9, 10, 8, 11,
-// 2, 4.
+// A job sheet of either form: as tyn_read, with a species for each atom (at least 1024 lent), 0 on a sheet of the first form, and with its rule, 1 there
+// and where a header doesn't say one. Refusals 1, 9, 10, 8, 11, 2, 4.
 #[no_mangle]
 pub extern "C" fn tyn_read_either(
     input: &[u8],
@@ -51,8 +51,8 @@ pub extern "C" fn tyn_read_either(
     give_forms::formed(sheet_either::read_either(input, coordinates, species, exclusions))
 }
 
-// A job sheet of the first form in the second, each species 0, at the front of out (51241 bytes are always enough); the value is its length. Refusals:
-// those of tyn_read, then 3, 8.
+// A job sheet of the first form in the second, rule 1, each species 0, at the front of out (51243 bytes are always enough); the value is its length.
+// Refusals: those of tyn_read, then 3, 8.
 #[no_mangle]
 pub extern "C" fn tyn_to_two(input: &[u8], out: &mut [u8]) -> FlatWhole
     ensures { λ r. ⌜ Shown flatWhole (λ a. ToTwoSays (now (input .entry)) (now (out .entry)) a (now (out .exit))) r ⌝ }
@@ -61,7 +61,7 @@ pub extern "C" fn tyn_to_two(input: &[u8], out: &mut [u8]) -> FlatWhole
 }
 
 // A job sheet of the second form in the first, at the front of out (43049 bytes are always enough); the value is its length. Refusals: those of
-// tyn_read, then 12 (the place is the lowest atom whose species is not 0), then 3, 8.
+// tyn_read, then 12 (the place is 0xffffffff where the rule is 2, else the lowest atom whose species is not 0), then 3, 8.
 #[no_mangle]
 pub extern "C" fn tyn_to_one(input: &[u8], out: &mut [u8]) -> FlatWhole
     ensures { λ r. ⌜ Shown flatMoved (λ a. ToOneSays (now (input .entry)) (now (out .entry)) a (now (out .exit))) r ⌝ }

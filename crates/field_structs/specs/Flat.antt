@@ -41,6 +41,8 @@ use Rattle.sheet.specs.declared.Job.{Job}
 use Rattle.sheet.specs.declared.Sheet as sheet
 use Rattle.sheet.specs.declared.Sheet.the-variants as Sheet·cases
 use Rattle.potentials_pair.specs.declared.Lj.{Lj}
+use Rattle.potentials_pair.specs.declared.Mixing.{Mixing}
+use Rattle.potentials_pair.specs.declared.Mixing.the-variants.{HalfSum, Geometric}
 use Rattle.potentials.specs.declared.Bond.{Bond}
 use Rattle.potentials.specs.declared.LjAnswer.{LjAnswer}
 use Rattle.potentials.specs.declared.LjAnswer.the-variants as LjAnswer·cases
@@ -213,11 +215,15 @@ flatSheet (Sheet·cases.Refused r) = record { done = flatRefusal r; job = zeroJo
 
 -- ---- terms
 
+unfoldable pub flatRule : Mixing → ℕ
+flatRule HalfSum = 1
+flatRule Geometric = 2
+
 unfoldable pub flatLj : Lj → FlatLj
-flatLj lj = record { epsilon = lj .epsilon; sigma = lj .sigma; cutoff = lj .cutoff; shift = flag (lj .shift) }
+flatLj lj = record { epsilon = lj .epsilon; sigma = lj .sigma; cutoff = lj .cutoff; shift = flag (lj .shift); rule = flatRule (lj .rule) }
 
 abbrev pub zeroLj : FlatLj
-zeroLj = record { epsilon = bits 0; sigma = bits 0; cutoff = bits 0; shift = 0 }
+zeroLj = record { epsilon = bits 0; sigma = bits 0; cutoff = bits 0; shift = 0; rule = 0 }
 
 unfoldable pub flatLjAnswer : LjAnswer → FlatLjAnswer
 flatLjAnswer (LjAnswer·cases.Answered lj) = record { done = wellDone; lj = flatLj lj }

@@ -1,9 +1,10 @@
 -- The argument that a struct from C stands for. Definitions only.
 use Prim.Native.Nat.{ℕ}
-use mathlib.Core.Bool.{Bool, cond, not}
+use mathlib.Core.Bool.{Bool, cond, not, _||_}
 use mathlib.Core.List.{List, [], _∷_}
 use lib.Dec.{eqb}
-use lib.Ieee.{Float}
+use lib.Ieee.{Float, neg}
+use Rattle.float.specs.Literals.{f1}
 use Rattle.cell.specs.declared.Cell.{Cell}
 use Rattle.cell.specs.declared.Cell.the-variants as Cell·cases
 use Rattle.cell.specs.declared.Lattice.{Lattice}
@@ -18,6 +19,8 @@ use Rattle.potentials.specs.declared.CoulombTerm.the-variants as CoulombTerm·c
 use Rattle.potentials.specs.declared.BondTerm.{BondTerm}
 use Rattle.potentials.specs.declared.BondTerm.the-variants as BondTerm·cases
 use Rattle.potentials_pair.specs.declared.Lj.{Lj}
+use Rattle.potentials_pair.specs.declared.Mixing.{Mixing}
+use Rattle.potentials_pair.specs.declared.Mixing.the-variants.{HalfSum, Geometric}
 use Rattle.verlet.specs.declared.Thermostat.{Thermostat}
 use Rattle.verlet.specs.declared.Thermostat.the-variants as Thermostat·cases
 use Rattle.verlet_step.specs.declared.Pace.{Pace}
@@ -59,8 +62,16 @@ stateOf s =
       «built_in» = cellOf (s .«built_in»);
     }
 
+-- 02, No. 10: a job names rule 1 or rule 2. Another number makes the epsilon one that is out of range, so that the call refuses it with 3, in 3's place among its tests
+unfoldable pub ruledOf : ℕ → Float → Float
+ruledOf rule epsilon = cond (eqb rule 1 || eqb rule 2) epsilon (neg f1)
+
+unfoldable pub mixingOf : ℕ → Mixing
+mixingOf rule = cond (eqb rule 2) Geometric HalfSum
+
 unfoldable pub ljOf : FlatLj → Lj
-ljOf lj = record { epsilon = lj .epsilon; sigma = lj .sigma; cutoff = lj .cutoff; shift = isSet (lj .shift) }
+ljOf lj =
+    record { epsilon = ruledOf (lj .rule) (lj .epsilon); sigma = lj .sigma; cutoff = lj .cutoff; shift = isSet (lj .shift); rule = mixingOf (lj .rule) }
 
 unfoldable pub ljTermOf : FlatLjTerm → LjTerm
 ljTermOf term = cond (isSet (term .present)) (LjTerm·cases.Present (ljOf (term .lj))) LjTerm·cases.Absent

@@ -46,13 +46,14 @@ use potentials::Bond;
 use potentials::BondAnswer;
 use potentials::LjAnswer;
 use potentials_pair::Lj;
+use potentials_pair::Mixing;
 use sheet::Job;
 use sheet::Sheet;
 use verlet_step::Stepped;
 use virial::Summed;
 ghost use mathlib.Core.Path.{_≡_};
 ghost use Rattle.cell.specs.Vec.{zeroVec};
-ghost use Rattle.field_structs.specs.Flat.{flag, wellDone, flatRefusal, flatDone, flatNumber, flatYesNo, flatWhole, flatVector, flatLattice, zeroLattice, flatCell, flatLatticeAnswer, imageWith, withBoxes, flatImage, flatRows, flatInverse, flatSummed, flatState, zeroState, flatStateAnswer, flatUpdated, flatBuilt, flatLj, zeroLj, flatLjAnswer, zeroBond, flatBondAnswer, flatEvaluated, flatStepped, flatJob, zeroJob, flatSheet};
+ghost use Rattle.field_structs.specs.Flat.{flag, wellDone, flatRefusal, flatDone, flatNumber, flatYesNo, flatWhole, flatVector, flatLattice, zeroLattice, flatCell, flatLatticeAnswer, imageWith, withBoxes, flatImage, flatRows, flatInverse, flatSummed, flatState, zeroState, flatStateAnswer, flatUpdated, flatBuilt, flatRule, flatLj, zeroLj, flatLjAnswer, zeroBond, flatBondAnswer, flatEvaluated, flatStepped, flatJob, zeroJob, flatSheet};
 
 // 1 where it is set.
 pub fn flag_of(b: bool) -> u32
@@ -447,14 +448,25 @@ pub fn sheet(a: Sheet) -> FlatSheet
 
 // ---- terms
 
+fn rule_number(rule: Mixing) -> u32
+    ensures { λ r. ⌜ r ≡ flatRule rule ⌝ }
+{
+    match rule {
+        Mixing::HalfSum => 1,
+        Mixing::Geometric => 2,
+    }
+}
+
 pub fn lj(lj: Lj) -> FlatLj
     ensures { λ r. ⌜ r ≡ flatLj lj ⌝ }
 {
+    let rule = lj.rule;
     FlatLj {
         epsilon: lj.epsilon,
         sigma: lj.sigma,
         cutoff: lj.cutoff,
         shift: flag_of(lj.shift),
+        rule: rule_number(rule),
     }
 }
 
@@ -466,6 +478,7 @@ fn zero_lj() -> FlatLj
         sigma: 0.0,
         cutoff: 0.0,
         shift: 0,
+        rule: 0,
     }
 }
 

@@ -19,11 +19,13 @@ pub fn formed(a: EitherSheet) -> FlatFormed
             done: well(),
             job: job(f.job),
             form: f.form,
+            rule: f.rule,
         },
         EitherSheet::Refused(why) => FlatFormed {
             done: refusal(why),
             job: zero_job(),
             form: 0,
+            rule: 0,
         },
     }
 }
@@ -41,10 +43,10 @@ pub fn moved(a: Moved) -> FlatWhole
             done: refusal(why),
             value: 0,
         },
-        Moved::Typed { atom } => FlatWhole {
+        Moved::NoWayBack { place } => FlatWhole {
             done: FlatDone {
                 number: 12,
-                place: atom as u64,
+                place: place as u64,
             },
             value: 0,
         },

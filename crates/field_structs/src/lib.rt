@@ -51,13 +51,15 @@ pub struct FlatState {
     pub built_in: FlatCell,
 }
 
-// Lennard-Jones numbers; epsilon and sigma are those of a species that the table lacks, shift is a flag.
+// Lennard-Jones numbers; epsilon and sigma are those of a species that the table lacks, shift is a flag, rule mixes
+// sigmas: 1 by the half sum, 2 by the root of the product; another number is out of range (3).
 #[repr(C)]
 pub struct FlatLj {
     pub epsilon: f64,
     pub sigma: f64,
     pub cutoff: f64,
     pub shift: u32,
+    pub rule: u32,
 }
 
 // No Lennard-Jones term (present 0), or one (present not 0).
@@ -327,12 +329,13 @@ pub struct FlatSheet {
     pub job: FlatJob,
 }
 
-// What a job sheet of either form says; form is that of its header, 1 or 2.
+// What a job sheet of either form says; form is that of its header, 1 or 2, rule its mixing rule, 1 or 2.
 #[repr(C)]
 pub struct FlatFormed {
     pub done: FlatDone,
     pub job: FlatJob,
     pub form: u32,
+    pub rule: u32,
 }
 
 // A part of a lent table, by its first element and its length; 0 and 0 where the call is refused.

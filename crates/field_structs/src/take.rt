@@ -22,10 +22,11 @@ use potentials::BondTerm;
 use potentials::CoulombTerm;
 use potentials::LjTerm;
 use potentials_pair::Lj;
+use potentials_pair::Mixing;
 use verlet::Thermostat;
 use verlet_step::Pace;
 ghost use mathlib.Core.Path.{_≡_};
-ghost use Rattle.field_structs.specs.Taken.{latticeOf, cellOf, stateOf, ljOf, ljTermOf, coulombTermOf, bondTermOf, thermostatOf, settingOf, paceOf, frameOf, rowsTable};
+ghost use Rattle.field_structs.specs.Taken.{latticeOf, cellOf, stateOf, ruledOf, mixingOf, ljOf, ljTermOf, coulombTermOf, bondTermOf, thermostatOf, settingOf, paceOf, frameOf, rowsTable};
 
 pub fn lattice(l: FlatLattice) -> Lattice
     ensures { λ r. ⌜ r ≡ latticeOf l ⌝ }
@@ -69,14 +70,33 @@ pub fn state(s: FlatState) -> State
     }
 }
 
+fn ruled(rule: u32, epsilon: f64) -> f64
+    ensures { λ r. ⌜ r ≡ ruledOf rule epsilon ⌝ }
+{
+    if (rule == 1) | (rule == 2) {
+        return epsilon;
+    }
+    -1.0
+}
+
+fn mixing(rule: u32) -> Mixing
+    ensures { λ r. ⌜ r ≡ mixingOf rule ⌝ }
+{
+    if rule == 2 {
+        return Mixing::Geometric;
+    }
+    Mixing::HalfSum
+}
+
 pub fn lj(lj: FlatLj) -> Lj
     ensures { λ r. ⌜ r ≡ ljOf lj ⌝ }
 {
     Lj {
-        epsilon: lj.epsilon,
+        epsilon: ruled(lj.rule, lj.epsilon),
         sigma: lj.sigma,
         cutoff: lj.cutoff,
         shift: lj.shift != 0,
+        rule: mixing(lj.rule),
     }
 }
 

@@ -38,7 +38,7 @@ pub other-pairs-stay : (k s : ℕ) (epsilon sigma : Float) (t : Tables) → Othe
 unfolding ljPair
 other-pairs-stay k s epsilon sigma t h image lj species xs p e =
     let n = or-neither (eqb (getD species (p .0) 0) s) (eqb (getD species (p .1) 0) s) e in
-    ap₂ (λ (y z : Mixed). ljPull lj (mixOf y z) (displaced image xs p)) (others-stay k s epsilon sigma t h lj (getD species (p .0) 0) (eqb-false _ _ (n .0)))
+    ap₂ (λ (y z : Mixed). ljPull lj (mixOf (lj .rule) y z) (displaced image xs p)) (others-stay k s epsilon sigma t h lj (getD species (p .0) 0) (eqb-false _ _ (n .0)))
     (others-stay k s epsilon sigma t h lj (getD species (p .1) 0) (eqb-false _ _ (n .1)))
 
 module _ (k s : ℕ) (epsilon sigma : Float) (t : Tables) (h : Places k t) (lj : Lj) (cell : Cell) (species : List ℕ) (xs : List Float) where

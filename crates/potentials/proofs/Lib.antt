@@ -5,6 +5,7 @@ pub mod Kernels
 pub mod Only
 pub mod Outcomes
 pub mod Places
+pub mod Rules
 pub mod Source
 pub mod Table
 pub mod Turns

@@ -79,9 +79,9 @@ module _ (lj : Lj) (tab : Tables) where
           }
 
   -- what is remembered of two species gives the formula over their mixed numbers
-  pub near-for : (y z : ℕ) {n : Numbers} → n ≡ numbersFor lj tab y z → (d : Vec3) (r2 : Float) {r : Pull} → r ≡ nearBy (lj .shift) n d r2 → r ≡ ljNear lj (mixOf (lookBy tab lj y) (lookBy tab lj z)) d r2
+  pub near-for : (y z : ℕ) {n : Numbers} → n ≡ numbersFor lj tab y z → (d : Vec3) (r2 : Float) {r : Pull} → r ≡ nearBy (lj .shift) n d r2 → r ≡ ljNear lj (mixOf (lj .rule) (lookBy tab lj y) (lookBy tab lj z)) d r2
   unfolding numbersFor
-  near-for y z e d r2 q = q ∙ ap (λ (a : Numbers). nearBy (lj .shift) a d r2) e ∙ near-numbers lj (mixOf (lookBy tab lj y) (lookBy tab lj z)) d r2
+  near-for y z e d r2 q = q ∙ ap (λ (a : Numbers). nearBy (lj .shift) a d r2) e ∙ near-numbers lj (mixOf (lj .rule) (lookBy tab lj y) (lookBy tab lj z)) d r2
 
   pub begun : (n : Numbers) → n ≡ numbersFor lj tab 0 0 → Kept lj tab (replicate 16 0) (replicate 16 (n .depth)) (replicate 16 (n .square)) (replicate 16 (n .shift))
   begun n e =

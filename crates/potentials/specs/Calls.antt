@@ -23,6 +23,7 @@ use Rattle.virial.specs.Calls.{seenSummed, fewAtoms}
 use Rattle.virial.specs.Ranged.{unitsInRange}
 use Rattle.ranges.specs.Rows.{absentOf}
 use Rattle.potentials_pair.specs.declared.Lj.{Lj}
+use Rattle.potentials_pair.specs.declared.Mixing.the-variants.{HalfSum}
 use Rattle.potentials_pair.specs.Pull.{Total}
 use Rattle.potentials_pair.specs.Species.{Tables, rising, rowOf, lookOf}
 use Rattle.potentials.specs.declared.Bond.{Bond}
@@ -43,9 +44,9 @@ abbrev pub seenBond : BondAnswer.BondAnswer → Seen Bond
 seenBond (BondAnswer·cases.Answered bond) = answered bond
 seenBond (BondAnswer·cases.Refused r) = refusedBy r
 
--- `monatomic`, lines 103 to 108
+-- `monatomic`, lines 103 to 108; the rule is the Rust's
 unfoldable pub monatomicOf : Float → Float → Float → Lj
-monatomicOf epsilon sigma cutoff = record { epsilon = epsilon; sigma = sigma; cutoff = cutoff; shift = true }
+monatomicOf epsilon sigma cutoff = record { epsilon = epsilon; sigma = sigma; cutoff = cutoff; shift = true; rule = HalfSum }
 
 abbrev pub MonatomicSays : (epsilon sigma cutoff : Float) → LjAnswer.LjAnswer → Type 0
 MonatomicSays epsilon sigma cutoff r = seenLj r ≡ when (ljInRange (monatomicOf epsilon sigma cutoff)) (monatomicOf epsilon sigma cutoff)

@@ -38,7 +38,7 @@ ljTurn lj p tab species xs table i t k = ljStep lj p tab species xs t (firstAt t
 
 -- ---- the numbers of two species, remembered
 unfoldable pub numbersFor : Lj → Tables → ℕ → ℕ → Numbers
-numbersFor lj tab y z = numbersOf lj (mixOf (lookBy tab lj y) (lookBy tab lj z))
+numbersFor lj tab y z = numbersOf lj (mixOf (lj .rule) (lookBy tab lj y) (lookBy tab lj z))
 
 -- of a key, y * 2 ^ 32 + z
 abbrev pub numbersAt : Lj → Tables → ℕ → Numbers

@@ -49,7 +49,7 @@ displaced image xs p = image (subOf (positionAt xs (p .0)) (positionAt xs (p .1)
 -- lines 133 to 157
 unfoldable pub ljPair : (Vec3 → Image) → (ℕ → Mixed) → Lj → List ℕ → List Float → ℕ × ℕ → Pull
 ljPair image look lj species xs p =
-    ljPull lj (mixOf (look (getD species (p .0) 0)) (look (getD species (p .1) 0))) (displaced image xs p)
+    ljPull lj (mixOf (lj .rule) (look (getD species (p .0) 0)) (look (getD species (p .1) 0))) (displaced image xs p)
 
 -- `compute_pairs` over a list of pairs
 unfoldable pub ljOver : (ℕ → Mixed) → Lj → Cell → List ℕ → List Float → ℕ → List (ℕ × ℕ) → Total

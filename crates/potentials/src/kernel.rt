@@ -11,6 +11,7 @@ ghost use Rattle.potentials.specs.Calls.{monatomicOf};
 use crate::Bond;
 use cell::Cell;
 use potentials_pair::Lj;
+use potentials_pair::Mixing;
 use virial::Sum;
 use virial::Units;
 
@@ -22,6 +23,7 @@ pub fn monatomic(epsilon: f64, sigma: f64, cutoff: f64) -> Lj
         sigma: sigma,
         cutoff: cutoff,
         shift: true,
+        rule: Mixing::HalfSum,
     }
 }
 

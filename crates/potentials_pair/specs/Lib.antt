@@ -5,4 +5,5 @@ pub mod Lj
 pub mod Newton
 pub mod Once
 pub mod Pull
+pub mod Rules
 pub mod Species

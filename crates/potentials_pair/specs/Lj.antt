@@ -8,13 +8,20 @@ use Rattle.cell.specs.declared.Vec3.{Vec3}
 use Rattle.cell.specs.Vec.{scaleOf, norm2Of}
 use Rattle.potentials_pair.specs.declared.Lj.{Lj}
 use Rattle.potentials_pair.specs.declared.Mixed.{Mixed}
+use Rattle.potentials_pair.specs.declared.Mixing.{Mixing}
+use Rattle.potentials_pair.specs.declared.Mixing.the-variants.{HalfSum, Geometric}
 use Rattle.potentials_pair.specs.declared.Pull.{Pull}
 use Rattle.potentials_pair.specs.declared.Pull.the-variants.{Skip, Add}
 use Rattle.potentials_pair.specs.Pull.{skips}
 
--- `pair_params`, line 121: ((ei * ej).sqrt(), 0.5 * (si + sj))
-unfoldable pub mixOf : Mixed → Mixed → Mixed
-mixOf a b = record { epsilon = rootOf (a .epsilon ⊗ b .epsilon); sigma = half ⊗ (a .sigma ⊕ b .sigma) }
+-- 02, No. 10: "mix sigma by the geometric mean, root of the product, where the Rust takes the half sum"
+unfoldable pub sigmaOf : Mixing → Float → Float → Float
+sigmaOf HalfSum a b = half ⊗ (a ⊕ b)
+sigmaOf Geometric a b = rootOf (a ⊗ b)
+
+-- `pair_params`, line 121: ((ei * ej).sqrt(), 0.5 * (si + sj)). "Epsilon mixes as before"
+unfoldable pub mixOf : Mixing → Mixed → Mixed → Mixed
+mixOf rule a b = record { epsilon = rootOf (a .epsilon ⊗ b .epsilon); sigma = sigmaOf rule (a .sigma) (b .sigma) }
 
 -- s * s * s
 abbrev pub cube : Float → Float

@@ -1,20 +1,30 @@
 // Lennard-Jones over a difference and the numbers of two species.
 ghost use mathlib.Core.Path.{_≡_};
-ghost use Rattle.potentials_pair.specs.Lj.{mixOf};
+ghost use Rattle.potentials_pair.specs.Lj.{sigmaOf, mixOf};
 ghost use Rattle.potentials_pair.specs.Once.{numbersOf, energyBy, nearBy};
 use crate::Lj;
 use crate::Mixed;
+use crate::Mixing;
 use crate::Numbers;
 use crate::Pull;
 use cell::Vec3;
 
-// Lorentz-Berthelot.
-pub fn mix(a: Mixed, b: Mixed) -> Mixed
-    ensures { λ r. ⌜ r ≡ mixOf a b ⌝ }
+fn sigma(rule: Mixing, a: f64, b: f64) -> f64
+    ensures { λ r. ⌜ r ≡ sigmaOf rule a b ⌝ }
+{
+    match rule {
+        Mixing::HalfSum => 0.5 * (a + b),
+        Mixing::Geometric => float::quick_root(a * b),
+    }
+}
+
+// The rule is asked here and nowhere else.
+pub fn mix(rule: Mixing, a: Mixed, b: Mixed) -> Mixed
+    ensures { λ r. ⌜ r ≡ mixOf rule a b ⌝ }
 {
     Mixed {
         epsilon: float::quick_root(a.epsilon * b.epsilon),
-        sigma: 0.5 * (a.sigma + b.sigma),
+        sigma: sigma(rule, a.sigma, b.sigma),
     }
 }
 

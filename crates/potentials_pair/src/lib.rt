@@ -26,10 +26,17 @@ pub struct Numbers {
     pub shift: f64,
 }
 
+// How the sigmas of two species are mixed: the half sum, as the Rust has it, or the root of the product (02, No. 10). Epsilons mix as they do there in both.
+pub enum Mixing {
+    HalfSum,
+    Geometric,
+}
+
 // A Lennard-Jones term; epsilon and sigma are those of a species that its table lacks. (The Rust's `LennardJones`; its `params` are a lent table.)
 pub struct Lj {
     pub epsilon: f64,
     pub sigma: f64,
     pub cutoff: f64,
     pub shift: bool,
+    pub rule: Mixing,
 }

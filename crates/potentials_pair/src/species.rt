@@ -145,9 +145,10 @@ pub fn mixed(
     y: u32,
     z: u32,
 ) -> Mixed
-    ensures { λ r. ⌜ r ≡ mixOf (lookBy (tables (now («own_ids» .entry)) (now («own_params» .entry)) (now (ids .entry)) (now (params .entry))) lj y) (lookBy (tables (now («own_ids» .entry)) (now («own_params» .entry)) (now (ids .entry)) (now (params .entry))) lj z) ⌝ }
+    ensures { λ r. ⌜ r ≡ mixOf (lj .rule) (lookBy (tables (now («own_ids» .entry)) (now («own_params» .entry)) (now (ids .entry)) (now (params .entry))) lj y) (lookBy (tables (now («own_ids» .entry)) (now («own_params» .entry)) (now (ids .entry)) (now (params .entry))) lj z) ⌝ }
 {
     let a = look(own_ids, own_params, ids, params, lj, y);
     let b = look(own_ids, own_params, ids, params, lj, z);
-    crate::lennard_jones::mix(a, b)
+    let rule = lj.rule;
+    crate::lennard_jones::mix(rule, a, b)
 }

@@ -1,19 +1,21 @@
 // Two species tables: 58 and 59, the calls 50 and 53 with a mask, and 5a, `species_row`.
 use crate::answers;
 use crate::forces;
+use crate::masks;
 use crate::tables;
 use answer::Done;
 
-// The mask of 58 and 59: 0, or 4 where the own tables stand in the line. Another is no case.
+// The mask of 58 and 59: the own tables and the rule alone. Another is no case.
 fn masked_case(all: bool, ws: &[u64], out: &mut [u64; 8208]) -> usize {
-    let w = replay_words::take_word(ws, 0);
-    if w.value != 0 && w.value != 4 {
+    let m = masks::take_mask(ws);
+    let parts = m.parts;
+    if !m.known | parts.angles | parts.cell {
         return 0;
     }
     if all {
-        return forces::lj_all_case(w.value == 4, w.next, ws, out);
+        return forces::lj_all_case(parts, m.next, ws, out);
     }
-    forces::lj_pairs_case(w.value == 4, w.next, ws, out)
+    forces::lj_pairs_case(parts, m.next, ws, out)
 }
 
 // The two floats of a row, zeros for none.

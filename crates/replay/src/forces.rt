@@ -1,12 +1,14 @@
 // The calls of `potentials`, 50 to 54.
 use crate::answers;
 use crate::masks;
+use crate::masks::Parts;
 use crate::records;
 use crate::tables;
 use potentials::Bond;
 
-pub(crate) fn lj_pairs_case(own: bool, from: usize, ws: &[u64], out: &mut [u64; 8208]) -> usize {
-    let lj = records::take_lj(ws, from);
+pub(crate) fn lj_pairs_case(parts: Parts, from: usize, ws: &[u64], out: &mut [u64; 8208]) -> usize {
+    let own = parts.own;
+    let lj = records::take_lj(parts.rule, ws, from);
     let of = records::take_cell(ws, lj.next);
     let y = masks::take_u32s_if(own, ws, of.next);
     let z = masks::take_floats_if(own, ws, y.next);
@@ -38,8 +40,9 @@ pub(crate) fn lj_pairs_case(own: bool, from: usize, ws: &[u64], out: &mut [u64; 
     answers::put_summed_forces(out, r, tables::part(&forces, f))
 }
 
-pub(crate) fn lj_all_case(own: bool, from: usize, ws: &[u64], out: &mut [u64; 8208]) -> usize {
-    let lj = records::take_lj(ws, from);
+pub(crate) fn lj_all_case(parts: Parts, from: usize, ws: &[u64], out: &mut [u64; 8208]) -> usize {
+    let own = parts.own;
+    let lj = records::take_lj(parts.rule, ws, from);
     let of = records::take_cell(ws, lj.next);
     let y = masks::take_u32s_if(own, ws, of.next);
     let z = masks::take_floats_if(own, ws, y.next);
@@ -154,10 +157,10 @@ fn bonds_all_case(ws: &[u64], out: &mut [u64; 8208]) -> usize {
 
 pub(crate) fn answer(call: u64, ws: &[u64], out: &mut [u64; 8208]) -> usize {
     match call {
-        80 => lj_pairs_case(false, 0, ws, out),
+        80 => lj_pairs_case(masks::none(), 0, ws, out),
         81 => coulomb_pairs_case(ws, out),
         82 => bonds_all_case(ws, out),
-        83 => lj_all_case(false, 0, ws, out),
+        83 => lj_all_case(masks::none(), 0, ws, out),
         84 => coulomb_all_case(ws, out),
         _ => 0,
     }

@@ -5,6 +5,7 @@ pub(crate) struct Parts {
     pub(crate) angles: bool, // 1: the term of angles after bonds', and its two tables after theirs
     pub(crate) cell: bool, // 2: a cell at the end of State
     pub(crate) own: bool, // 4: the two own tables before ids and rows
+    pub(crate) rule: bool, // 8: the mixing rule at the end of Lennard-Jones' numbers
 }
 
 pub(crate) struct MaskArg {
@@ -19,6 +20,7 @@ pub(crate) fn none() -> Parts {
         angles: false,
         cell: false,
         own: false,
+        rule: false,
     }
 }
 
@@ -28,9 +30,10 @@ pub(crate) fn take_mask(ws: &[u64]) -> MaskArg {
         parts: Parts {
             angles: w.value % 2 == 1,
             cell: w.value / 2 % 2 == 1,
-            own: w.value / 4 == 1,
+            own: w.value / 4 % 2 == 1,
+            rule: w.value / 8 == 1,
         },
-        known: w.value < 8,
+        known: w.value < 16,
         next: w.next,
     }
 }

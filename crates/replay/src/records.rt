@@ -12,6 +12,7 @@ use potentials::LjTerm;
 use potentials_angle::Angle;
 use potentials_angle::AngleTerm;
 use potentials_pair::Lj;
+use potentials_pair::Mixing;
 use virial::Sum;
 use virial::Units;
 
@@ -44,6 +45,11 @@ pub(crate) struct UnitsArg {
 pub(crate) struct StateArg {
     pub(crate) value: State,
     pub(crate) next: usize,
+}
+
+struct RuleArg {
+    value: Mixing,
+    next: usize,
 }
 
 pub(crate) struct LjArg {
@@ -176,20 +182,50 @@ pub(crate) fn take_units(ws: &[u64], at: usize) -> UnitsArg {
     }
 }
 
-// Epsilon, sigma, cutoff, shift.
-pub(crate) fn take_lj(ws: &[u64], at: usize) -> LjArg {
+// The rule where it stands in the line, 1 or 2: another word is no case. Rule 1 where it doesn't.
+fn take_rule(there: bool, ws: &[u64], at: usize) -> RuleArg {
+    if !there {
+        return RuleArg {
+            value: Mixing::HalfSum,
+            next: at,
+        };
+    }
+    let w = replay_words::take_u32(ws, at);
+    if w.value == 1 {
+        return RuleArg {
+            value: Mixing::HalfSum,
+            next: w.next,
+        };
+    }
+    if w.value == 2 {
+        return RuleArg {
+            value: Mixing::Geometric,
+            next: w.next,
+        };
+    }
+    RuleArg {
+        value: Mixing::HalfSum,
+        next: ws.len() + 1,
+    }
+}
+
+// Epsilon, sigma, cutoff, shift, and the rule where it stands in the line.
+pub(crate) fn take_lj(ruled: bool, ws: &[u64], at: usize) -> LjArg {
     let epsilon = replay_words::take_float(ws, at);
     let sigma = replay_words::take_float(ws, epsilon.next);
     let cutoff = replay_words::take_float(ws, sigma.next);
     let shift = replay_words::take_bool(ws, cutoff.next);
+    let rule = take_rule(ruled, ws, shift.next);
+    let mixing = rule.value;
     LjArg {
         value: Lj {
             epsilon: epsilon.value,
             sigma: sigma.value,
             cutoff: cutoff.value,
             shift: shift.value,
+            rule: mixing,
         },
-        next: shift.next,
+        next: rule.next,
     }
 }
 
@@ -260,10 +296,10 @@ fn remembered(parts: Parts, s: State, cell: Cell) -> State {
     in_own(s, cell)
 }
 
-fn take_lj_term(ws: &[u64], at: usize) -> LjTermArg {
+fn take_lj_term(ruled: bool, ws: &[u64], at: usize) -> LjTermArg {
     let there = replay_words::take_bool(ws, at);
     if there.value {
-        let lj = take_lj(ws, there.next);
+        let lj = take_lj(ruled, ws, there.next);
         let value = lj.value;
         return LjTermArg {
             value: LjTerm::Present(value),
@@ -344,7 +380,7 @@ fn take_angle_term_if(there: bool, ws: &[u64], at: usize) -> AngleTermArg {
 }
 
 pub(crate) fn take_settings(parts: Parts, ws: &[u64], at: usize) -> SettingsArg {
-    let a = take_lj_term(ws, at);
+    let a = take_lj_term(parts.rule, ws, at);
     let b = take_coulomb_term(ws, a.next);
     let c = take_bond_term(ws, b.next);
     let g = take_angle_term_if(parts.angles, ws, c.next);

@@ -12,6 +12,7 @@ use potentials::CoulombTerm;
 use potentials::LjTerm;
 use potentials_angle::AngleTerm;
 use potentials_pair::Lj;
+use potentials_pair::Mixing;
 use virial::Sum;
 use virial::Summed;
 
@@ -67,6 +68,7 @@ fn lj() -> Lj {
         sigma: 1.0,
         cutoff: 1.0,
         shift: false,
+        rule: Mixing::HalfSum,
     }
 }
 

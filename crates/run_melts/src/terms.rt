@@ -10,6 +10,7 @@ use potentials::CoulombTerm;
 use potentials::LjTerm;
 use potentials_angle::AngleTerm;
 use potentials_pair::Lj;
+use potentials_pair::Mixing;
 use virial::Units;
 
 pub(crate) fn units() -> Units {
@@ -28,6 +29,7 @@ pub(crate) fn lj(shift: bool) -> LjTerm {
         sigma: 3.1,
         cutoff: 6.0,
         shift,
+        rule: Mixing::HalfSum,
     })
 }
 

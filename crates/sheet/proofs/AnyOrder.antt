@@ -22,7 +22,7 @@ use Rattle.sheet.proofs.Order.{ReadWhole, same-sheet}
 -- ---- a sheet as lists of numbers, and back
 
 abbrev heads : Seen SoundTwo → List ℕ
-heads (answered a) = 0 ∷ a .sound .head .atoms ∷ a .sound .head .ex ∷ a .sound .head .ey ∷ a .sound .head .ez ∷ a .sound .head .mask ∷ a .sound .head .radius ∷ []
+heads (answered a) = 0 ∷ a .sound .head .atoms ∷ a .sound .head .ex ∷ a .sound .head .ey ∷ a .sound .head .ez ∷ a .sound .head .mask ∷ a .sound .head .radius ∷ a .rule ∷ []
 heads (refused n p) = 1 ∷ n ∷ p ∷ []
 
 abbrev places : Seen SoundTwo → List ℕ
@@ -41,10 +41,10 @@ abbrev headFrom : List ℕ → Head
 headFrom l = record { atoms = getD l 1 0; ex = getD l 2 0; ey = getD l 3 0; ez = getD l 4 0; mask = getD l 5 0; radius = getD l 6 0 }
 
 abbrev from : List ℕ → List ℕ → List ℕ → List ℕ → Seen SoundTwo
-from l co ex sp = cond (eqb (getD l 0 0) 0) (answered (record { sound = record { head = headFrom l; coords = co; rows = rows ex }; species = sp })) (refused (getD l 1 0) (getD l 2 0))
+from l co ex sp = cond (eqb (getD l 0 0) 0) (answered (record { sound = record { head = headFrom l; coords = co; rows = rows ex }; rule = getD l 7 0; species = sp })) (refused (getD l 1 0) (getD l 2 0))
 
 from-it : (x : Seen SoundTwo) → from (heads x) (places x) (pairs x) (kinds x) ≡ x
-from-it (answered a) = ap (λ r. answered (record { sound = record { head = a .sound .head; coords = a .sound .coords; rows = r }; species = a .species })) (rows-flat (a .sound .rows))
+from-it (answered a) = ap (λ r. answered (record { sound = record { head = a .sound .head; coords = a .sound .coords; rows = r }; rule = a .rule; species = a .species })) (rows-flat (a .sound .rows))
 from-it (refused n p) = refl
 
 from-same : (x y : Seen SoundTwo) → heads x ≡ heads y → places x ≡ places y → pairs x ≡ pairs y → kinds x ≡ kinds y → x ≡ y
@@ -67,7 +67,7 @@ module _ {cs ds : List (List ℕ)} (p : Perm cs ds) where
 -- ---- of the first form
 
 abbrev bare : Seen Sound → Seen SoundTwo
-bare (answered a) = answered (record { sound = a; species = [] })
+bare (answered a) = answered (record { sound = a; rule = 1; species = [] })
 bare (refused n p) = refused n p
 
 abbrev unbare : Seen SoundTwo → Seen Sound

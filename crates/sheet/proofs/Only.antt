@@ -4,7 +4,9 @@ use mathlib.Core.List.{List}
 use Prim.Native.Nat.{ℕ}
 use Rattle.answer.proofs.Only.{made, seen-only, told-back}
 use Rattle.sheet.specs.Read.{Outcome, seenSheet, readOf, ReadSays}
-use Rattle.sheet.specs.ReadTwo.{OutcomeTwo, readTwoOf, ReadTwoSays}
+use Rattle.sheet.specs.ReadTwo.{OutcomeTwo, readTwoOf, seenRuled, ReadTwoSays}
+use Rattle.sheet.specs.declared.two.RuledSheet.{RuledSheet}
+use Rattle.sheet.specs.declared.two.RuledSheet.the-variants as ruledSheets
 use Rattle.sheet.specs.declared.Sheet as sheet
 use Rattle.sheet.specs.declared.Sheet.the-variants as sheets
 
@@ -27,13 +29,20 @@ pub read-only : (s co ex : List ℕ) (r t : sheet.Sheet) (co₁ ex₁ co₂ ex�
 read-only s co ex r t co₁ ex₁ co₂ ex₂ p q = told r t co₁ ex₁ co₂ ex₂ (readOf s co ex) p q
 
 -- the same of `read_two`
-told-two : (r t : sheet.Sheet) (co₁ sp₁ ex₁ co₂ sp₂ ex₂ : List ℕ) (o : OutcomeTwo) → record { shown = seenSheet r; coordinates = co₁; species = sp₁; exclusions = ex₁ } ≡ o → record { shown = seenSheet t; coordinates = co₂; species = sp₂; exclusions = ex₂ } ≡ o → (r ≡ t) × (co₁ ≡ co₂) × (sp₁ ≡ sp₂) × (ex₁ ≡ ex₂)
+ruled-made : (x : RuledSheet) → made ruledSheets.Answered ruledSheets.Refused seenRuled (seenRuled x) ≡ x
+ruled-made (ruledSheets.Answered j) = refl
+ruled-made (ruledSheets.Refused r) = ap ruledSheets.Refused (told-back r)
+
+pub ruled-only : (x y : RuledSheet) → seenRuled x ≡ seenRuled y → x ≡ y
+ruled-only = seen-only ruledSheets.Answered ruledSheets.Refused seenRuled ruled-made
+
+told-two : (r t : RuledSheet) (co₁ sp₁ ex₁ co₂ sp₂ ex₂ : List ℕ) (o : OutcomeTwo) → record { shown = seenRuled r; coordinates = co₁; species = sp₁; exclusions = ex₁ } ≡ o → record { shown = seenRuled t; coordinates = co₂; species = sp₂; exclusions = ex₂ } ≡ o → (r ≡ t) × (co₁ ≡ co₂) × (sp₁ ≡ sp₂) × (ex₁ ≡ ex₂)
 told-two r t co₁ sp₁ ex₁ co₂ sp₂ ex₂ o p q = (
-  sheet-only r t (ap (λ (x : OutcomeTwo). x .shown) (p ∙ sym q)),
+  ruled-only r t (ap (λ (x : OutcomeTwo). x .shown) (p ∙ sym q)),
   ap (λ (x : OutcomeTwo). x .coordinates) (p ∙ sym q),
   ap (λ (x : OutcomeTwo). x .species) (p ∙ sym q),
   ap (λ (x : OutcomeTwo). x .exclusions) (p ∙ sym q),
 )
 
-pub read-two-only : (s co sp ex : List ℕ) (r t : sheet.Sheet) (co₁ sp₁ ex₁ co₂ sp₂ ex₂ : List ℕ) → ReadTwoSays s co sp ex r co₁ sp₁ ex₁ → ReadTwoSays s co sp ex t co₂ sp₂ ex₂ → (r ≡ t) × (co₁ ≡ co₂) × (sp₁ ≡ sp₂) × (ex₁ ≡ ex₂)
+pub read-two-only : (s co sp ex : List ℕ) (r t : RuledSheet) (co₁ sp₁ ex₁ co₂ sp₂ ex₂ : List ℕ) → ReadTwoSays s co sp ex r co₁ sp₁ ex₁ → ReadTwoSays s co sp ex t co₂ sp₂ ex₂ → (r ≡ t) × (co₁ ≡ co₂) × (sp₁ ≡ sp₂) × (ex₁ ≡ ex₂)
 read-two-only s co sp ex r t co₁ sp₁ ex₁ co₂ sp₂ ex₂ p q = told-two r t co₁ sp₁ ex₁ co₂ sp₂ ex₂ (readTwoOf s co sp ex) p q

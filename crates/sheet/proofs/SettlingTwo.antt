@@ -7,7 +7,7 @@ use lib.ListN.{length}
 use lib.Seq.{sets}
 use native.Mathlib.Omega.{arith}
 use borrow.Author.Tests.{lt-ltb, le-ltb}
-use Rattle.answer.specs.Seen.{Seen, answered, refused, refusedBy}
+use Rattle.answer.specs.Seen.{Seen, answered, refused, refusedBy, numberOf, placeOf}
 use Rattle.answer.specs.declared.Refusal.{Refusal}
 use Rattle.answer.specs.declared.Refusal.the-variants.{Lengths}
 use Rattle.lists.proofs.Cases.{impossible}
@@ -16,7 +16,7 @@ use Rattle.sheet_lines_two.specs.Twos.{toldOf, twosOf}
 use Rattle.sheet.specs.Meaning.{Meaning}
 use Rattle.sheet.specs.Reading.{tested, run, blank, Sound, soundWith, thenTested}
 use Rattle.sheet.specs.Read.{Outcome, jobFor, handed}
-use Rattle.sheet.specs.ReadTwo.{speciesIn, withSpecies, paired, ranTwo, sheetTwo, OutcomeTwo, handedTwo, readTwoOf}
+use Rattle.sheet.specs.ReadTwo.{speciesIn, ruleIn, withSpecies, paired, ranTwo, sheetTwo, OutcomeTwo, handedTwo, readTwoOf}
 use Rattle.sheet.specs.declared.Job.{Job}
 use Rattle.sheet.proofs.Settling.{sound-few}
 
@@ -47,9 +47,9 @@ pub job-few : (m : Meaning) (j : Job) (co′ ex′ co ex : List ℕ) → record 
 job-few m j co′ ex′ co ex e = job-few-of (thenTested (answered m)) (λ a p. few-atoms (answered m) a p) j co′ ex′ co ex e
 
 -- ---- what is handed out
-module _ (kinds co sp ex : List ℕ) where
+module _ (rule : ℕ) (kinds co sp ex : List ℕ) where
   pub settled-two : (y : Seen Sound) (j : Job) (co′ sp′ ex′ : List ℕ) → record { shown = answered j; coordinates = co′; exclusions = ex′ } ≡ handed y co ex → sp′ ≡ sets sp 0 (speciesIn (j .atoms) kinds)
-      → record { shown = answered j; coordinates = co′; species = sp′; exclusions = ex′ } ≡ handedTwo (withSpecies y kinds) co sp ex
+      → record { shown = answered (record { job = j; rule = rule }); coordinates = co′; species = sp′; exclusions = ex′ } ≡ handedTwo (withSpecies y rule kinds) co sp ex
   unfolding jobFor
   settled-two (answered a) j co′ sp′ ex′ e q =
       let s : answered j ≡ answered (jobFor (a .head) (length (a .rows))) = ap (λ (o : Outcome). o .shown) e in
@@ -58,10 +58,13 @@ module _ (kinds co sp ex : List ℕ) where
   settled-two (refused n p) j co′ sp′ ex′ e q = let s : answered j ≡ refused n p = ap (λ (o : Outcome). o .shown) e in impossible (cc)
 
   pub unsettled-two : (y : Seen Sound) (r : Refusal) (co′ ex′ : List ℕ) → record { shown = refusedBy r; coordinates = co′; exclusions = ex′ } ≡ handed y co ex
-      → record { shown = refusedBy r; coordinates = co′; species = sp; exclusions = ex′ } ≡ handedTwo (withSpecies y kinds) co sp ex
+      → record { shown = refusedBy r; coordinates = co′; species = sp; exclusions = ex′ } ≡ handedTwo (withSpecies y rule kinds) co sp ex
   unsettled-two (answered a) r co′ ex′ e = let s : refusedBy r ≡ answered (jobFor (a .head) (length (a .rows))) = ap (λ (o : Outcome). o .shown) e in impossible (cc)
   unsettled-two (refused n p) r co′ ex′ e =
-      rw (ap (λ (o : Outcome). o .shown) e, ap (λ (o : Outcome). o .coordinates) e, ap (λ (o : Outcome). o .exclusions) e)
+      let s : _≡_ {A = Seen Job} (refusedBy r) (refused n p) = ap (λ (o : Outcome). o .shown) e in
+      let u : numberOf r ≡ n = cc in
+      let v : placeOf r ≡ p = cc in
+      rw (u, v, ap (λ (o : Outcome). o .coordinates) e, ap (λ (o : Outcome). o .exclusions) e)
 
 -- ---- `read_two` by its cases
 module _ (s co sp ex : List ℕ) where
@@ -101,6 +104,6 @@ module _ (s co sp ex : List ℕ) where
             unfolding sheetTwo ranTwo
             two-refused r e = rw passed (rw (← p, ← e))
 
-            pub two-whole : (m : Meaning) (o : OutcomeTwo) → answered m ≡ run (map (toldOf false) (twosOf s)) 0 blank → o ≡ handedTwo (withSpecies (thenTested (answered m)) (k .atoms .coords)) co sp ex → o ≡ readTwoOf s co sp ex
+            pub two-whole : (m : Meaning) (o : OutcomeTwo) → answered m ≡ run (map (toldOf false) (twosOf s)) 0 blank → o ≡ handedTwo (withSpecies (thenTested (answered m)) (ruleIn (k .header)) (k .atoms .coords)) co sp ex → o ≡ readTwoOf s co sp ex
             unfolding sheetTwo ranTwo
             two-whole m o e q = rw passed (rw (← p, ← e) q)

@@ -70,7 +70,7 @@ module _ (lines : ℕ → List ℕ → ℕ → List Line) where
     pub here : at < length s
     pub first : (f : ℕ) → lines (suc f) s at ≡ l ∷ lines f s (at + w)
     pub least : WellFormed l → 11 ≤ w
-    pub most : w ≤ 41
+    pub most : w ≤ 43
 
   module _ {s co₀ se₀ co se ta : List ℕ} {d : Desk} {at n : ℕ} (v : Half lines s co₀ se₀ co se ta d at n) (l : Line) (w : ℕ) (x : OneMore s at n l w)
       (k : kept.Kept) (co′ se′ ta′ : List ℕ) (says : shownKept k co′ se′ ta′ ≡ onward (acted (actOf l) (meaningFor d co se ta)) (refusalFor l (n + 1)) answered) where
@@ -81,7 +81,7 @@ module _ (lines : ℕ → List ℕ → ℕ → List Line) where
         ap (λ (f : ℕ). run (lines f s at) n (meaningFor d co se ta)) e
         ∙ ap (λ (ls : List Line). run ls n (meaningFor d co se ta)) (x .first (length s - (n + 1)))
 
-    pub half-wide : (d′ : Desk) → k ≡ keeps.Next d′ → (11 ≤ w) × (w ≤ 41)
+    pub half-wide : (d′ : Desk) → k ≡ keeps.Next d′ → (11 ≤ w) × (w ≤ 43)
     half-wide d′ p =
         let q : answered (meaningFor d′ co′ se′ ta′) ≡ onward (acted (actOf l) (meaningFor d co se ta)) (refusalFor l (n + 1)) answered = rw p at says in
         (x .least (next-well l (meaningFor d co se ta) (meaningFor d′ co′ se′ ta′) (n + 1) q), x .most)

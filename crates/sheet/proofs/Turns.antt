@@ -27,7 +27,7 @@ wide-least (Exclusion a b) g = omega arith
 wide-least Malformed g = absurd g
 wide-least End g = absurd g
 
-wide-most : (l : Line) → lineWidth l ≤ 41
+wide-most : (l : Line) → lineWidth l ≤ 43
 wide-most (Header h) = omega arith
 wide-most (Atom n x y z) = omega arith
 wide-most (Exclusion a b) = omega arith
@@ -55,7 +55,7 @@ halfway-start s co se ta d a b c h = half-start linesFrom s co se ta d a b c h
 
 module _ {s co₀ se₀ co se ta : List ℕ} {d : Desk} {at n : ℕ} (v : Halfway s co₀ se₀ co se ta d at n) (l : Line) (w : ℕ) (h : at < length s) (e : l ≡ lineAt s at) (f : w ≡ lineWidth l)
     (k : kept.Kept) (co′ se′ ta′ : List ℕ) (says : shownKept k co′ se′ ta′ ≡ onward (acted (actOf l) (meaningFor d co se ta)) (refusalFor l (n + 1)) answered) where
-  pub kept-wide : (d′ : Desk) → k ≡ keeps.Next d′ → (11 ≤ w) × (w ≤ 41)
+  pub kept-wide : (d′ : Desk) → k ≡ keeps.Next d′ → (11 ≤ w) × (w ≤ 43)
   kept-wide d′ p = half-wide linesFrom v l w (one-more s at n l w h e f) k co′ se′ ta′ says d′ p
 
   pub halfway-next : (d′ : Desk) → k ≡ keeps.Next d′ → FitKept k ta′ → length co′ ≡ length co → length se′ ≡ length se → Halfway s co₀ se₀ co′ se′ ta′ d′ (at + w) (n + 1)

@@ -10,6 +10,7 @@ use lib.ListN.{length, getD, set, length-append}
 use lib.Seq.{sets}
 use lib.Dec.{ltb, eqb}
 use borrow.Author.Tests.{lt-ltb, le-ltb, ltb-true}
+use Rattle.lists.proofs.Cases.{by-test}
 use Rattle.hex.specs.Digits.{byteAt, hex2, hex4, hex8}
 use Rattle.hex.proofs.Writing.{put-put}
 use Rattle.sheet_lines.specs.Grammar.{WellFormed}
@@ -19,7 +20,7 @@ use Rattle.sheet_lines.specs.declared.Three.the-variants.{Of, Nothing}
 use Rattle.sheet_lines.specs.declared.Line.{Line}
 use Rattle.sheet_lines.specs.declared.Line.the-variants.{Header, Atom, Exclusion, Malformed, End}
 use Rattle.sheet_lines_two.specs.declared.TwoLine.{TwoLine}
-use Rattle.sheet_lines_two.specs.Twos.{plainTwo, typedTwo, twoAt, wideTwo, widthTwo, twosFrom, twosOf, kindOf, toldOf}
+use Rattle.sheet_lines_two.specs.Twos.{plainTwo, typedTwo, ruledTwo, endTwo, headerTwo, twoAt, wideTwo, widthTwo, twosFrom, twosOf, kindOf, toldOf}
 use Rattle.sheet.specs.Desk.{NumberBelow}
 use Rattle.sheet.specs.ReadTwo.{speciesIn}
 use Rattle.sheet.proofs.Turning.{OneMore}
@@ -29,8 +30,8 @@ toldFrom b f s at = map (toldOf b) (twosFrom f s at)
 
 -- ---- how far a line goes
 
-least-two : (b : Bool) (c : Line) (t : ℕ) → WellFormed (cond b (kindOf c t) c) → 11 ≤ wideTwo c
-least-two b (Header h) t g = omega arith
+least-two : (b : Bool) (c : Line) (t : ℕ) → WellFormed (cond b (kindOf c t) c) → 11 ≤ wideTwo c t
+least-two b (Header h) t g = by-test (λ e. 11 ≤ cond e 41 43) (eqb t 0) (λ _. omega arith) (λ _. omega arith)
 least-two b (Atom n x y z) t g = omega arith
 least-two b (Exclusion d e) t g = omega arith
 least-two true Malformed t g = absurd g
@@ -38,20 +39,20 @@ least-two false Malformed t g = absurd g
 least-two true End t g = absurd g
 least-two false End t g = absurd g
 
-most-two : (c : Line) → wideTwo c ≤ 41
-most-two (Header h) = omega arith
-most-two (Atom n x y z) = omega arith
-most-two (Exclusion a b) = omega arith
-most-two Malformed = omega arith
-most-two End = omega arith
+most-two : (c : Line) (t : ℕ) → wideTwo c t ≤ 43
+most-two (Header h) t = by-test (λ e. cond e 41 43 ≤ 43) (eqb t 0) (λ _. omega arith) (λ _. omega arith)
+most-two (Atom n x y z) t = omega arith
+most-two (Exclusion a b) t = omega arith
+most-two Malformed t = omega arith
+most-two End t = omega arith
 
 pub one-two : (b : Bool) (s : List ℕ) (at n : ℕ) (t : TwoLine) (l : Line) (w : ℕ) → at < length s → t ≡ twoAt s at → l ≡ toldOf b t → w ≡ widthTwo t → OneMore (toldFrom b) s at n l w
 one-two b s at n t l w h e g f =
     record {
       here = h;
       first = λ k. rw (f, g, e) (simp (lt-ltb at (length s) h));
-      least = λ q. rw f (least-two b (t .core) (t .species) (rw g at q));
-      most = rw f (most-two (t .core));
+      least = λ q. rw f (least-two b (t .core) (t .extra) (rw g at q));
+      most = rw f (most-two (t .core) (t .extra));
     }
 
 pub told-end : (b : Bool) (f : ℕ) (s : List ℕ) (at : ℕ) → length s ≤ at → toldFrom b f s at ≡ []
@@ -89,13 +90,23 @@ core-if false x y f g = g
 
 below-typed : (l : Line) (t : ℕ) → NumberBelow l → NumberBelow ((typedTwo l t) .core)
 unfolding typedTwo
-below-typed l t h = core-if (ltb t (2 ^ 32)) (record { core = l; species = t }) (plainTwo Malformed) h tt
+below-typed l t h = core-if (ltb t (2 ^ 32)) (record { core = l; extra = t }) (plainTwo Malformed) h tt
+
+below-ruled : (l : Line) (r : ℕ) → NumberBelow l → NumberBelow ((ruledTwo l r) .core)
+unfolding ruledTwo
+below-ruled l r h = core-if (eqb r 1) (record { core = l; extra = 1 }) _ h (core-if (eqb r 2) (record { core = l; extra = 2 }) (plainTwo Malformed) h tt)
+
+below-head : (s : List ℕ) (at : ℕ) → NumberBelow ((headerTwo s at) .core)
+unfolding headerTwo endTwo
+below-head s at =
+    core-if (eqb (byteAt s (at + 40)) 10) _ _ (below-header (hex4 s (at + 2)) (threeAt s (at + 6)) (hex2 s (at + 30)) (hex8 s (at + 32)) (byteAt s (at + 40)))
+    (below-ruled (headerOf (hex4 s (at + 2)) (threeAt s (at + 6)) (hex2 s (at + 30)) (hex8 s (at + 32)) (byteAt s (at + 40 + 2))) (hex2 s (at + 40)) (below-header (hex4 s (at + 2)) (threeAt s (at + 6)) (hex2 s (at + 30)) (hex8 s (at + 32)) (byteAt s (at + 40 + 2))))
 
 below-core : (s : List ℕ) (at : ℕ) → NumberBelow ((twoAt s at) .core)
 unfolding twoAt
 below-core s at =
     core-if (ltb at (length s)) _ _
-    (core-if (eqb (hex2 s at) 17) _ _ (below-header (hex4 s (at + 2)) (threeAt s (at + 6)) (hex2 s (at + 30)) (hex8 s (at + 32)) (byteAt s (at + 40)))
+    (core-if (eqb (hex2 s at) 17) _ _ (below-head s at)
     (core-if (eqb (hex2 s at) 18) _ _ (below-typed (atomOf (hex4 s (at + 2)) (threeAt s (at + 6)) (byteAt s (at + 38))) (hex8 s (at + 30)) (below-atom (hex4 s (at + 2)) (threeAt s (at + 6)) (byteAt s (at + 38))))
     (core-if (eqb (hex2 s at) 3) _ _ (below-exclusion (hex4 s (at + 2)) (hex4 s (at + 6)) (byteAt s (at + 10))) tt)))
     tt
@@ -108,7 +119,7 @@ below-kind Malformed t b = tt
 below-kind End t b = tt
 
 pub below-two : (b : Bool) (s : List ℕ) (at : ℕ) → NumberBelow (toldOf b (twoAt s at))
-below-two true s at = below-kind ((twoAt s at) .core) ((twoAt s at) .species) (below-core s at)
+below-two true s at = below-kind ((twoAt s at) .core) ((twoAt s at) .extra) (below-core s at)
 below-two false s at = below-core s at
 
 -- ---- the species

@@ -12,6 +12,7 @@ use Rattle.sheet_lines.specs.declared.Head.{Head}
 use Rattle.sheet_lines.specs.declared.Line.{Line}
 use Rattle.sheet_lines.specs.declared.Line.the-variants.{Header, Atom, Exclusion, Malformed, End}
 use Rattle.sheet.specs.Meaning.{Meaning}
+use Rattle.sheet.specs.ReadTwo.{ruleIn}
 use Rattle.sheet.specs.declared.desk.Desk.{Desk}
 use Rattle.sheet.specs.declared.desk.Kept as kept
 use Rattle.sheet.specs.declared.desk.Kept.the-variants as keeps
@@ -30,6 +31,11 @@ meaningFor d co se ta =
 abbrev pub shownKept : kept.Kept → List ℕ → List ℕ → List ℕ → Seen Meaning
 shownKept (keeps.Next d) co se ta = answered (meaningFor d co se ta)
 shownKept (keeps.Refused r) co se ta = refusedBy r
+
+-- the rule, of a desk on which the species were read
+abbrev pub ruleKept : kept.Kept → ℕ
+ruleKept (keeps.Next d) = ruleIn (headerFor d)
+ruleKept (keeps.Refused r) = 1
 
 abbrev pub shownRows : Count → List ℕ → Option (List (ℕ × ℕ))
 shownRows (Held n) ta = some (take n (rows ta))

@@ -1,5 +1,6 @@
-// A sheet of the second form (02, No. 9), read by the first form's own steps: its lines are told in the first form twice, with
-// their coordinates, and with their species where these stand.
+// A sheet of the second form (02, No. 9 and 10), read by the first form's own steps: its lines are told in the first form twice, with
+// their coordinates and radius, and with their species and rule where these stand.
+use crate::Job;
 use crate::Sheet;
 use crate::desk::Desk;
 use crate::desk::Kept;
@@ -19,9 +20,19 @@ ghost use lib.Seq.{sets};
 ghost use Rattle.answer.specs.Seen.{answered};
 ghost use Rattle.sheet_lines_two.specs.Twos.{toldOf, twosOf};
 ghost use Rattle.sheet.specs.Reading.{run, thenTested};
-ghost use Rattle.sheet.specs.Desk.{Fit, FitKept, shownKept, meaningFor};
-ghost use Rattle.sheet.specs.Read.{seenSheet};
-ghost use Rattle.sheet.specs.ReadTwo.{speciesIn, withSpecies, handedTwo, ReadTwoSays};
+ghost use Rattle.sheet.specs.Desk.{Fit, FitKept, shownKept, meaningFor, ruleKept};
+ghost use Rattle.sheet.specs.ReadTwo.{speciesIn, withSpecies, handedTwo, seenRuled, ReadTwoSays};
+
+// What a sheet says, and its rule, 1 or 2.
+pub struct RuledJob {
+    pub job: Job,
+    pub rule: u32,
+}
+
+pub enum RuledSheet {
+    Answered(RuledJob),
+    Refused(Refusal),
+}
 
 // The lines in turn, as `read_lines` has them.
 fn read_twos(s: &[u8], kinds: bool, coords: &mut [u32], seen: &mut [u8], table: &mut [u32]) -> Kept
@@ -51,6 +62,19 @@ fn read_twos(s: &[u8], kinds: bool, coords: &mut [u32], seen: &mut [u8], table: 
     Kept::Next(desk)
 }
 
+// The rule that was read with the species.
+fn rule_kept(kinds: Kept) -> u32
+    ensures { λ r. ⌜ r ≡ ruleKept kinds ⌝ }
+{
+    let Kept::Next(desk) = kinds else {
+        return 1;
+    };
+    if desk.has {
+        return desk.head.radius;
+    }
+    1
+}
+
 // The species of the first n atoms, into another table.
 fn copy_species(from: &[u32], to: &mut [u32], n: usize)
     requires { ⌜ (3 * n ≤ length (now from)) × (n ≤ length (now to)) ⌝ }
@@ -69,51 +93,52 @@ fn settle_two(
     coords: &[u32],
     seen: &[u8],
     table: &[u32],
+    rule: u32,
     kinds: &[u32],
     coordinates: &mut [u32],
     species: &mut [u32],
     exclusions: &mut [u32],
-) -> Sheet
+) -> RuledSheet
     requires { ⌜ Fit (desk .count) (now table) × (length (now coords) ≡ 3072) × (length (now seen) ≡ 1024) × (length (now kinds) ≡ 3072) × (3072 ≤ length (now coordinates)) × (1024 ≤ length (now species)) × (2048 ≤ length (now exclusions)) ⌝ }
-    ensures { λ r. ⌜ record { shown = seenSheet r; coordinates = now (coordinates .exit); species = now (species .exit); exclusions = now (exclusions .exit) } ≡ handedTwo (withSpecies (thenTested (answered (meaningFor desk (now (coords .entry)) (now (seen .entry)) (now (table .entry))))) (now (kinds .entry))) (now (coordinates .entry)) (now (species .entry)) (now (exclusions .entry)) ⌝ }
+    ensures { λ r. ⌜ record { shown = seenRuled r; coordinates = now (coordinates .exit); species = now (species .exit); exclusions = now (exclusions .exit) } ≡ handedTwo (withSpecies (thenTested (answered (meaningFor desk (now (coords .entry)) (now (seen .entry)) (now (table .entry))))) rule (now (kinds .entry))) (now (coordinates .entry)) (now (species .entry)) (now (exclusions .entry)) ⌝ }
 {
     let sheet = settle(desk, coords, seen, table, coordinates, exclusions);
     match sheet {
         Sheet::Answered(job) => {
             copy_species(kinds, species, job.atoms as usize);
-            Sheet::Answered(job)
+            RuledSheet::Answered(RuledJob { job, rule })
         }
-        Sheet::Refused(r) => Sheet::Refused(r),
+        Sheet::Refused(r) => RuledSheet::Refused(r),
     }
 }
 
-// A second-form sheet's numbers, as `read` has them, with the species one an atom. A refusal touches nothing.
+// A second-form sheet's numbers, as `read` has them, with its rule, and the species one an atom. A refusal touches nothing.
 pub fn read_two(
     input: &[u8],
     coordinates: &mut [u32],
     species: &mut [u32],
     exclusions: &mut [u32],
-) -> Sheet
+) -> RuledSheet
     ensures { λ r. ⌜ ReadTwoSays (now (input .entry)) (now (coordinates .entry)) (now (species .entry)) (now (exclusions .entry)) r (now (coordinates .exit)) (now (species .exit)) (now (exclusions .exit)) ⌝ }
 {
     if 65536 < input.len() {
-        return Sheet::Refused(Refusal::Lengths);
+        return RuledSheet::Refused(Refusal::Lengths);
     }
     if coordinates.len() < 3072 {
-        return Sheet::Refused(Refusal::Lengths);
+        return RuledSheet::Refused(Refusal::Lengths);
     }
     if species.len() < 1024 {
-        return Sheet::Refused(Refusal::Lengths);
+        return RuledSheet::Refused(Refusal::Lengths);
     }
     if exclusions.len() < 2048 {
-        return Sheet::Refused(Refusal::Lengths);
+        return RuledSheet::Refused(Refusal::Lengths);
     }
     let mut kinds = [0u32; 3072];
     let mut seen = [0u8; 1024];
     let mut table = [0u32; 2048];
     let first = read_twos(input, true, &mut kinds, &mut seen, &mut table);
     if let Kept::Refused(r) = first {
-        return Sheet::Refused(r);
+        return RuledSheet::Refused(r);
     }
     let mut coords = [0u32; 3072];
     seen = [0u8; 1024];
@@ -125,11 +150,12 @@ pub fn read_two(
             &coords,
             &seen,
             &table,
+            rule_kept(first),
             &kinds,
             coordinates,
             species,
             exclusions,
         ),
-        Kept::Refused(r) => Sheet::Refused(r),
+        Kept::Refused(r) => RuledSheet::Refused(r),
     }
 }

@@ -22,7 +22,7 @@ use Rattle.sheet.specs.declared.Job.{Job}
 use Rattle.sheet.specs.Meaning.{Meaning}
 use Rattle.sheet.specs.Reading.{Sound, thenTested, sheetOf}
 use Rattle.sheet.specs.Read as reading
-use Rattle.sheet.specs.ReadTwo.{SoundTwo, speciesIn, withSpecies, paired, ranTwo, sheetTwo, handedTwo, readTwoOf}
+use Rattle.sheet.specs.ReadTwo.{SoundTwo, speciesIn, ruleIn, withSpecies, paired, ranTwo, sheetTwo, handedTwo, readTwoOf}
 use Rattle.sheet.proofs.Sizes.{Full, full, run-full}
 use Rattle.sheet.proofs.AnyOrder.{one-order}
 use Rattle.sheet.proofs.OrderTwo.{two-order}
@@ -46,15 +46,15 @@ pub record FullTwo (a : SoundTwo) : Type 0 where
   pub sound : Full (a .sound)
   pub species : length (a .species) ≡ a .sound .head .atoms
 
-with-full : (y : Seen Sound) (l : List ℕ) (a : SoundTwo) → ((b : Sound) → y ≡ answered b → Full b) → withSpecies y l ≡ answered a → FullTwo a
-with-full (answered b) l a f e =
-    let h : record { sound = b; species = speciesIn (b .head .atoms) l } ≡ a = cc in
+with-full : (y : Seen Sound) (r : ℕ) (l : List ℕ) (a : SoundTwo) → ((b : Sound) → y ≡ answered b → Full b) → withSpecies y r l ≡ answered a → FullTwo a
+with-full (answered b) r l a f e =
+    let h : record { sound = b; rule = r; species = speciesIn (b .head .atoms) l } ≡ a = cc in
     rw (← h) (record { sound = f b refl; species = species-length (b .head .atoms) l })
-with-full (refused n p) l a f e = impossible (cc)
+with-full (refused n p) r l a f e = impossible (cc)
 
 paired-full : (k m : Seen Meaning) (a : SoundTwo) → ((b : Sound) → thenTested m ≡ answered b → Full b) → paired k m ≡ answered a → FullTwo a
 paired-full (refused n p) m a f e = impossible (cc)
-paired-full (answered k) m a f e = with-full (thenTested m) (k .atoms .coords) a f e
+paired-full (answered k) m a f e = with-full (thenTested m) (ruleIn (k .header)) (k .atoms .coords) a f e
 
 pub full-two : (s : List ℕ) (a : SoundTwo) → sheetTwo s ≡ answered a → FullTwo a
 unfolding sheetTwo ranTwo

@@ -1,5 +1,5 @@
--- What the program `pairs_either` prints for a sheet of either form (02, No. 9), whole, and what `solve_either` answers and leaves: as `solve` for a sheet of the first form, and
--- for one of the second form as for what it says in the first; species don't enter it. Definitions only.
+-- What the program `pairs_either` prints for a sheet of either form (02, No. 9 and 10), whole, and what `solve_either` answers and leaves: as `solve` for a sheet of the first form, and
+-- for one of the second form as for what it says in the first; species and rule don't enter it. Definitions only.
 use Prim.Native.Nat.{ℕ, _≤_}
 use mathlib.Core.Path.{_≡_}
 use mathlib.Core.Bool.{cond}
@@ -19,7 +19,7 @@ use Rattle.sheet_answer.specs.declared.SheetList.{SheetList}
 use Rattle.sheet_answer.specs.Solve.{Outcome, answerText}
 use Rattle.sheet_answer.specs.List.{seenList, ListOutcome, listFor}
 
--- without its species
+-- without its species and its rule
 abbrev pub untyped : Seen SoundTwo → Seen Sound
 untyped (answered a) = answered (a .sound)
 untyped (refused n p) = refused n p

@@ -1,4 +1,4 @@
-// The printed answer of a sheet of either form (02, No. 9); species don't enter it. specs/Either.antt says which bytes.
+// The printed answer of a sheet of either form (02, No. 9 and 10); species and rule don't enter it. specs/Either.antt says which bytes.
 use crate::SheetList;
 use crate::kernel::list_job;
 use crate::put_list;

@@ -1,4 +1,4 @@
-// Sheets of either form (02, No. 9) from standard input: the printed answer, or the sheet moved to the other form, to standard output.
+// Sheets of either form (02, No. 9 and 10) from standard input: the printed answer, or the sheet moved to the other form, to standard output.
 use answer::Whole;
 use libc::STDIN_FILENO;
 use libc::STDOUT_FILENO;
@@ -61,8 +61,8 @@ pub fn print_one(sheet: &[u8], out: &mut [u8])
         Moved::Refused(r) => {
             print_line(r.number(), r.place());
         }
-        Moved::Typed { atom } => {
-            print_line(12, atom as u64);
+        Moved::NoWayBack { place } => {
+            print_line(12, place as u64);
         }
     }
 }
@@ -91,7 +91,7 @@ fn read_and_print_two(input: &mut [u8], out: &mut [u8]) -> usize
 }
 
 // Room for one byte more than a sheet may have, and for the longest form: a header, 1,024 atoms, 1,024 exclusions; how many bytes it read.
-pub fn run_two(input: &mut [u8; 65537], out: &mut [u8; 51241]) -> usize
+pub fn run_two(input: &mut [u8; 65537], out: &mut [u8; 51243]) -> usize
     ensures { λ got. ⌜ now (out .exit) ≡ toTwoOf (take got (now (input .exit))) (now (out .entry)) .out ⌝ }
 {
     read_and_print_two(input, out)

@@ -24,7 +24,7 @@ use Rattle.sheet.specs.Read as one
 use Rattle.sheet.specs.ReadTwo.{OutcomeTwo, readTwoOf}
 use Rattle.sheet.specs.declared.Job.{Job}
 use Rattle.sheet.proofs.Sizes.{full}
-use Rattle.sheet_either.specs.Either.{saysTwo, isTwo, formed, Outcome, asTwo, asOne, eitherOf}
+use Rattle.sheet_either.specs.Either.{saysTwo, isTwo, Outcome, asTwo, asOne, eitherOf}
 
 -- ---- which form: each exclusion takes 11 bytes
 abbrev pub leftTwo : List ℕ → ℕ → Bool
@@ -34,14 +34,14 @@ pub two-start : (s : List ℕ) → leftTwo s 0 ≡ isTwo (twosOf s)
 unfolding twosOf
 two-start s = let e : length s - 0 / 11 ≡ length s = omega arith in ap (λ (f : ℕ). isTwo (twosFrom f s 0)) e
 
-pub two-step : (s : List ℕ) (at : ℕ) (l : Line) → at < length s → at % 11 ≡ 0 → l ≡ (twoAt s at) .core → leftTwo s at ≡ saysTwo l (isTwo (twosFrom (length s - (at + 11) / 11) s (at + wideTwo l)))
-two-step s at l h z e =
+pub two-step : (s : List ℕ) (at : ℕ) (t : TwoLine) → at < length s → at % 11 ≡ 0 → t ≡ twoAt s at → leftTwo s at ≡ saysTwo (t .core) (isTwo (twosFrom (length s - (at + 11) / 11) s (at + widthTwo t)))
+two-step s at t h z e =
     let k : length s - at / 11 ≡ suc (length s - (at + 11) / 11) = omega arith in
     ap (λ (f : ℕ). isTwo (twosFrom f s at)) k ∙ rw e (simp (lt-ltb at (length s) h))
 
--- the same of a line that was read
-pub two-is : (s : List ℕ) (at : ℕ) (t : TwoLine) (l : Line) → at < length s → at % 11 ≡ 0 → t ≡ twoAt s at → t .core ≡ l → leftTwo s at ≡ saysTwo l (isTwo (twosFrom (length s - (at + 11) / 11) s (at + wideTwo l)))
-two-is s at t l h z e c = two-step s at l h z (sym c ∙ ap (λ (x : TwoLine). x .core) e)
+-- the same by what the line says in the first form
+pub two-is : (s : List ℕ) (at : ℕ) (t : TwoLine) (l : Line) → at < length s → at % 11 ≡ 0 → t ≡ twoAt s at → t .core ≡ l → leftTwo s at ≡ saysTwo l (isTwo (twosFrom (length s - (at + 11) / 11) s (at + wideTwo l (t .extra))))
+two-is s at t l h z e c = two-step s at t h z e ∙ ap (λ (k : Line). saysTwo k (isTwo (twosFrom (length s - (at + 11) / 11) s (at + wideTwo k (t .extra))))) c
 
 pub two-end : (f : ℕ) (s : List ℕ) (at : ℕ) → length s ≤ at → isTwo (twosFrom f s at) ≡ false
 two-end zero s at h = refl

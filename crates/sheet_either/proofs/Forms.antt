@@ -8,7 +8,7 @@ use native.Mathlib.Omega.{arith}
 use lib.ListN.{length, replicate}
 use lib.Seq.{sets}
 use lib.Dec.{ltb, leb, eqb}
-use borrow.Author.Tests.{lt-ltb, le-ltb, eqb-true, ltb-true, ltb-false}
+use borrow.Author.Tests.{lt-ltb, le-ltb, ne-eqb, eqb-true, ltb-true, ltb-false}
 use Rattle.lists.proofs.Cases.{by-test, impossible}
 use Rattle.answer.specs.Seen.{Seen, answered, refused, refusedBy}
 use Rattle.answer.specs.declared.Refusal.the-variants.{Lengths}
@@ -21,30 +21,32 @@ use Rattle.sheet_lines.specs.declared.Head.{Head}
 use Rattle.sheet_lines.specs.declared.Line.{Line}
 use Rattle.sheet_lines.specs.declared.Line.the-variants.{Header, Atom, Exclusion, Malformed, End}
 use Rattle.sheet_lines_two.specs.declared.TwoLine.{TwoLine}
-use Rattle.sheet_lines_two.specs.Twos.{plainTwo, twoAt, wideTwo, widthTwo, twosFrom, twosOf, toldOf}
+use Rattle.sheet_lines_two.specs.Twos.{plainTwo, ruledTwo, endTwo, headerTwo, twoAt, wideTwo, widthTwo, twosFrom, twosOf, toldOf}
 use Rattle.sheet.specs.declared.Job.{Job}
+use Rattle.sheet.specs.declared.two.RuledJob.{RuledJob}
 use Rattle.sheet.specs.Meaning.{Meaning, andThen, acted, actOf, excluding}
 use Rattle.sheet.specs.Reading.{Sound, refusalFor, onward, run, blank, tested, soundWith, thenTested, sheetOf}
 use Rattle.sheet.specs.Read as one
-use Rattle.sheet.specs.ReadTwo.{SoundTwo, withSpecies, paired, ranTwo, sheetTwo, OutcomeTwo, handedTwo, readTwoOf}
+use Rattle.sheet.specs.ReadTwo.{SoundTwo, ruleIn, withSpecies, paired, ranTwo, sheetTwo, OutcomeTwo, handedTwo, readTwoOf}
 use Rattle.sheet.proofs.Order.{read-well}
 use Rattle.sheet.proofs.AnyOrder.{one-kept, one-order}
-use Rattle.sheet.proofs.OrderTwo.{TwosKept, twos-kept, two-order}
+use Rattle.sheet.proofs.OrderTwo.{TwosKept, twos-kept, kept-is, header-says-rule, two-order}
 use Rattle.sheet_either.specs.declared.Formed.{Formed}
-use Rattle.sheet_either.specs.Either.{saysTwo, isTwo, formed, Outcome, asTwo, zeroed, asOne, eitherOf}
-use Rattle.sheet_either.specs.Theorems.{FirstForm, SecondForm, OtherForm, OtherMalformed, EitherInAnyOrder}
+use Rattle.sheet_either.specs.Either.{saysTwo, isTwo, formedOne, formedTwo, Outcome, asTwo, zeroed, asOne, eitherOf}
+use Rattle.sheet_either.specs.Theorems.{FirstForm, SecondForm, OtherForm, OtherMalformed, RuleAnswered, EitherInAnyOrder}
 use Rattle.sheet_either.proofs.Either.{by-two, by-one}
 
 -- ---- a line of the other form
 
 pub other-malformed : (s : List ℕ) (at : ℕ) → OtherMalformed s at
-unfolding lineAt twoAt
+unfolding lineAt twoAt headerTwo endTwo ruledTwo
 other-malformed s at h =
     record {
       header-two = λ e. simp (lt-ltb at (length s) h, e);
       atom-two = λ e. simp (lt-ltb at (length s) h, e);
       header-one = λ e. simp (lt-ltb at (length s) h, e);
       atom-one = λ e. simp (lt-ltb at (length s) h, e);
+      other-pair = λ e a b c. simp (lt-ltb at (length s) h, e, ne-eqb (byteAt s (at + 40)) 10 a, ne-eqb (hex2 s (at + 40)) 1 b, ne-eqb (hex2 s (at + 40)) 2 c);
     }
 
 -- ---- a sheet of the first form is not of the second
@@ -92,7 +94,7 @@ kind-here s at h g =
     (λ r. exclusion-here s at h (eqb-true (hex2 s at) 3 r))
     (λ r. absurd (rw (none-here s at h p q r) at g))))
 
-line-not : (l : Line) (f : ℕ) (s : List ℕ) (at : ℕ) → Out l → WellFormed l → AllWellFormed (linesFrom f s (at + lineWidth l)) → ((k : ℕ) → AllWellFormed (linesFrom f s k) → isTwo (twosFrom f s k) ≡ false) → saysTwo l (isTwo (twosFrom f s (at + wideTwo l))) ≡ false
+line-not : (l : Line) (f : ℕ) (s : List ℕ) (at : ℕ) → Out l → WellFormed l → AllWellFormed (linesFrom f s (at + lineWidth l)) → ((k : ℕ) → AllWellFormed (linesFrom f s k) → isTwo (twosFrom f s k) ≡ false) → saysTwo l (isTwo (twosFrom f s (at + wideTwo l 0))) ≡ false
 line-not (Header h) f s at o g a r = absurd o
 line-not (Atom n x y z) f s at o g a r = absurd o
 line-not (Exclusion b c) f s at o g a r = r (at + 11) a
@@ -133,13 +135,9 @@ header-stays : (ls : List TwoLine) (n : ℕ) (m r : Meaning) → isTwo ls ≡ fa
 header-stays [] n m r t e = let h : m ≡ r = cc in ap (λ (k : Meaning). k .header) (sym h)
 header-stays (l ∷ ls) n m r t e = line-stays (l .core) ls n m r (λ k u p. header-stays ls (n + 1) k r u p) t e
 
-no-head : (h : Option Head) (m : Meaning) (sp : List ℕ) (a : SoundTwo) → h ≡ none → withSpecies (soundWith (tested h (m .atoms .marks)) m) sp ≡ answered a → ⊥
-no-head none m sp a q e = impossible (cc)
-no-head (some h) m sp a q e = impossible (cc)
-
-kept-is : (s : List ℕ) (r : TwosKept s) → sheetTwo s ≡ withSpecies (thenTested (answered (r .meaning))) (r .kinds .atoms .coords)
-unfolding sheetTwo
-kept-is s r = rw (r .typed, r .read)
+no-head : (h : Option Head) (m : Meaning) (r : ℕ) (sp : List ℕ) (a : SoundTwo) → h ≡ none → withSpecies (soundWith (tested h (m .atoms .marks)) m) r sp ≡ answered a → ⊥
+no-head none m r sp a q e = impossible (cc)
+no-head (some h) m r sp a q e = impossible (cc)
 
 ran-stays : (s : List ℕ) (m : Meaning) → isTwo (twosOf s) ≡ false → ranTwo false s ≡ answered m → m .header ≡ none
 unfolding ranTwo
@@ -150,7 +148,7 @@ two-is-two s a e =
     cases (isTwo (twosOf s)) (λ p. p)
     (λ p.
     let r = twos-kept s a e in
-    absurd (no-head (r .meaning .header) (r .meaning) (r .kinds .atoms .coords) a (ran-stays s (r .meaning) p (r .read)) (sym (kept-is s r) ∙ e)))
+    absurd (no-head (r .meaning .header) (r .meaning) (ruleIn (r .kinds .header)) (r .kinds .atoms .coords) a (ran-stays s (r .meaning) p (r .read)) (sym (kept-is s r) ∙ e)))
 
 -- ---- what is answered was sound
 
@@ -158,7 +156,7 @@ peel-one : (b : Bool) (x : one.Outcome) (co ex : List ℕ) (j : Job) → cond b 
 peel-one true x co ex j e = impossible (cc)
 peel-one false x co ex j e = (refl, e)
 
-peel-two : (b : Bool) (x : OutcomeTwo) (co sp ex : List ℕ) (j : Job) → cond b (handedTwo (refusedBy Lengths) co sp ex) x .shown ≡ answered j → (b ≡ false) × (x .shown ≡ answered j)
+peel-two : (b : Bool) (x : OutcomeTwo) (co sp ex : List ℕ) (j : RuledJob) → cond b (handedTwo (refusedBy Lengths) co sp ex) x .shown ≡ answered j → (b ≡ false) × (x .shown ≡ answered j)
 peel-two true x co sp ex j e = impossible (cc)
 peel-two false x co sp ex j e = (refl, e)
 
@@ -166,8 +164,10 @@ handed-sound : (y : Seen Sound) (co ex : List ℕ) (j : Job) → one.handed y co
 handed-sound (answered a) co ex j e = (a, refl)
 handed-sound (refused n p) co ex j e = impossible (cc)
 
-handed-two : (y : Seen SoundTwo) (co sp ex : List ℕ) (j : Job) → handedTwo y co sp ex .shown ≡ answered j → (a : SoundTwo) × (y ≡ answered a)
-handed-two (answered a) co sp ex j e = (a, refl)
+handed-two : (y : Seen SoundTwo) (co sp ex : List ℕ) (j : RuledJob) → handedTwo y co sp ex .shown ≡ answered j → (a : SoundTwo) × (y ≡ answered a) × (j .rule ≡ a .rule)
+handed-two (answered a) co sp ex j e =
+    let k : record { job = one.jobFor (a .sound .head) (length (a .sound .rows)); rule = a .rule } ≡ j = cc in
+    (a, refl, sym (ap (λ (x : RuledJob). x .rule) k))
 handed-two (refused n p) co sp ex j e = impossible (cc)
 
 pub one-sound : (s co ex : List ℕ) (j : Job) → one.readOf s co ex .shown ≡ answered j → (a : Sound) × (sheetOf s ≡ answered a)
@@ -178,7 +178,7 @@ one-sound s co ex j e =
     let r = peel-one (ltb (length ex) 2048) _ co ex j (q .1) in
     handed-sound (sheetOf s) co ex j (r .1)
 
-pub two-sound : (s co sp ex : List ℕ) (j : Job) → readTwoOf s co sp ex .shown ≡ answered j → ((a : SoundTwo) × (sheetTwo s ≡ answered a)) × (1024 ≤ length sp)
+pub two-sound : (s co sp ex : List ℕ) (j : RuledJob) → readTwoOf s co sp ex .shown ≡ answered j → ((a : SoundTwo) × (sheetTwo s ≡ answered a) × (j .rule ≡ a .rule)) × (1024 ≤ length sp)
 unfolding readTwoOf
 two-sound s co sp ex j e =
     let p = peel-two (ltb 65536 (length s)) _ co sp ex j e in
@@ -193,7 +193,7 @@ pub first-form : (s co sp ex : List ℕ) → FirstForm s co sp ex
 first-form s co sp ex h j e =
     let a = one-sound s co ex j e in
     sym (by-one s co sp ex h (one.readOf s co ex) (one-not-two s (a .0) (a .1)) refl)
-    ∙ ap (λ (x : Seen Job). record { shown = formed 1 x; coordinates = one.readOf s co ex .coordinates; species = zeroed x sp; exclusions = one.readOf s co ex .exclusions }) e
+    ∙ ap (λ (x : Seen Job). record { shown = formedOne x; coordinates = one.readOf s co ex .coordinates; species = zeroed x sp; exclusions = one.readOf s co ex .exclusions }) e
 
 pub second-form : (s co sp ex : List ℕ) → SecondForm s co sp ex
 second-form s co sp ex j e =
@@ -210,9 +210,13 @@ same-read-two : (s t co sp ex : List ℕ) → sheetTwo t ≡ sheetTwo s → leng
 unfolding readTwoOf
 same-read-two s t co sp ex e h = rw (e, h)
 
-unformed : (k : ℕ) (x : Seen Job) (f : Formed) → formed k x ≡ answered f → (j : Job) × (x ≡ answered j)
-unformed k (answered j) f e = (j, refl)
-unformed k (refused n p) f e = impossible (cc)
+unformed-one : (x : Seen Job) (f : Formed) → formedOne x ≡ answered f → (j : Job) × (x ≡ answered j) × (record { job = j; form = 1; rule = 1 } ≡ f)
+unformed-one (answered j) f e = (j, refl, cc)
+unformed-one (refused n p) f e = impossible (cc)
+
+unformed-two : (x : Seen RuledJob) (f : Formed) → formedTwo x ≡ answered f → (j : RuledJob) × (x ≡ answered j) × (record { job = j .job; form = 2; rule = j .rule } ≡ f)
+unformed-two (answered j) f e = (j, refl, cc)
+unformed-two (refused n p) f e = impossible (cc)
 
 peel-either : (b : Bool) (x : Outcome) (co sp ex : List ℕ) (f : Formed) → cond b (record { shown = refusedBy Lengths; coordinates = co; species = sp; exclusions = ex }) x .shown ≡ answered f → (b ≡ false) × (x .shown ≡ answered f)
 peel-either true x co sp ex f e = impossible (cc)
@@ -222,12 +226,29 @@ roomy : (s co sp ex : List ℕ) (f : Formed) → eitherOf s co sp ex .shown ≡ 
 unfolding eitherOf
 roomy s co sp ex f e = ltb-false (length sp) 1024 (peel-either (ltb (length sp) 1024) _ co sp ex f e .0)
 
+-- ---- the rule
+pub rule-answered : (s co sp ex : List ℕ) → RuleAnswered s co sp ex
+rule-answered s co sp ex f e =
+    let h = roomy s co sp ex f e in
+    cases (isTwo (twosOf s))
+    (λ t.
+    let j = unformed-two (readTwoOf s co sp ex .shown) f (ap (λ (o : Outcome). o .shown) (by-two s co sp ex h (readTwoOf s co sp ex) t refl) ∙ e) in
+    let a = two-sound s co sp ex (j .0) (j .1) .0 in
+    let r = header-says-rule s (a .0) (a .1) in
+    let k : f .rule ≡ a .0 .rule = sym (ap (λ (x : Formed). x .rule) (j .2)) ∙ a .2 in
+    let n : f .form ≡ 2 = sym (ap (λ (x : Formed). x .form) (j .2)) in
+    (λ q. absurd (omega arith), omega (arith, k, r .1), omega (arith, k, r .2)))
+    (λ t.
+    let j = unformed-one (one.readOf s co ex .shown) f (ap (λ (o : Outcome). o .shown) (by-one s co sp ex h (one.readOf s co ex) t refl) ∙ e) in
+    let k : f .rule ≡ 1 = sym (ap (λ (x : Formed). x .rule) (j .2)) in
+    (λ _. k, omega (arith, k), omega (arith, k)))
+
 module _ (s co sp ex : List ℕ) (f : Formed) (e : eitherOf s co sp ex .shown ≡ answered f) (cs ds : List (List ℕ)) (w : AllWhole cs) (g : s ≡ joinAll cs) (p : Perm cs ds) where
   order-two : isTwo (twosOf s) ≡ true → eitherOf (joinAll ds) co sp ex ≡ eitherOf s co sp ex
   order-two t =
       let h = roomy s co sp ex f e in
       let b = by-two s co sp ex h (readTwoOf s co sp ex) t refl in
-      let j = unformed 2 (readTwoOf s co sp ex .shown) f (ap (λ (o : Outcome). o .shown) b ∙ e) in
+      let j = unformed-two (readTwoOf s co sp ex .shown) f (ap (λ (o : Outcome). o .shown) b ∙ e) in
       let a = two-sound s co sp ex (j .0) (j .1) .0 in
       let q = two-order s (a .0) (a .1) cs ds w g p in
       sym (by-two (joinAll ds) co sp ex h (readTwoOf (joinAll ds) co sp ex) (two-is-two (joinAll ds) (a .0) (q .0 ∙ a .1)) refl)
@@ -237,7 +258,7 @@ module _ (s co sp ex : List ℕ) (f : Formed) (e : eitherOf s co sp ex .shown �
   order-one t =
       let h = roomy s co sp ex f e in
       let b = by-one s co sp ex h (one.readOf s co ex) t refl in
-      let j = unformed 1 (one.readOf s co ex .shown) f (ap (λ (o : Outcome). o .shown) b ∙ e) in
+      let j = unformed-one (one.readOf s co ex .shown) f (ap (λ (o : Outcome). o .shown) b ∙ e) in
       let a = one-sound s co ex (j .0) (j .1) in
       let q = one-order s (a .0) (a .1) cs ds w g p in
       sym (by-one (joinAll ds) co sp ex h (one.readOf (joinAll ds) co ex) (one-not-two (joinAll ds) (a .0) (q .0 ∙ a .1)) refl)

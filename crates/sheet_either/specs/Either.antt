@@ -1,4 +1,4 @@
--- What `read_either` answers and leaves (02, No. 9: "The new reader takes either form; a mixed sheet is malformed at the first line of the form that didn't come first").
+-- What `read_either` answers and leaves (02, No. 9 and 10: "The new reader takes either form; a mixed sheet is malformed at the first line of the form that didn't come first").
 -- The first header or atom line says which form's reader reads the sheet; to it each line of the other form is malformed. Definitions only.
 use Prim.Native.Nat.{ℕ}
 use mathlib.Core.Path.{_≡_}
@@ -14,6 +14,7 @@ use Rattle.sheet_lines.specs.declared.Line.the-variants.{Header, Atom, Exclusio
 use Rattle.sheet_lines_two.specs.declared.TwoLine.{TwoLine}
 use Rattle.sheet_lines_two.specs.Twos.{twosOf}
 use Rattle.sheet.specs.declared.Job.{Job}
+use Rattle.sheet.specs.declared.two.RuledJob.{RuledJob}
 use Rattle.sheet.specs.Read as one
 use Rattle.sheet.specs.ReadTwo.{OutcomeTwo, readTwoOf}
 use Rattle.sheet_either.specs.declared.Formed.{Formed}
@@ -32,10 +33,14 @@ abbrev pub isTwo : List TwoLine → Bool
 isTwo [] = false
 isTwo (l ∷ ls) = saysTwo (l .core) (isTwo ls)
 
--- an answer with its form
-abbrev pub formed : ℕ → Seen Job → Seen Formed
-formed f (answered j) = answered (record { job = j; form = f })
-formed f (refused n p) = refused n p
+-- an answer with its form and its rule; "Sheet one means rule 1"
+abbrev pub formedOne : Seen Job → Seen Formed
+formedOne (answered j) = answered (record { job = j; form = 1; rule = 1 })
+formedOne (refused n p) = refused n p
+
+abbrev pub formedTwo : Seen RuledJob → Seen Formed
+formedTwo (answered r) = answered (record { job = r .job; form = 2; rule = r .rule })
+formedTwo (refused n p) = refused n p
 
 -- what is shown, and the three lent rooms as they are left
 pub record Outcome : Type 0 where
@@ -45,7 +50,7 @@ pub record Outcome : Type 0 where
   pub exclusions : List ℕ
 
 abbrev pub asTwo : OutcomeTwo → Outcome
-asTwo o = record { shown = formed 2 (o .shown); coordinates = o .coordinates; species = o .species; exclusions = o .exclusions }
+asTwo o = record { shown = formedTwo (o .shown); coordinates = o .coordinates; species = o .species; exclusions = o .exclusions }
 
 -- on a sheet of the first form each atom has species 0
 abbrev pub zeroed : Seen Job → List ℕ → List ℕ
@@ -54,7 +59,7 @@ zeroed (refused n p) sp = sp
 
 abbrev pub asOne : one.Outcome → List ℕ → Outcome
 asOne o sp =
-    record { shown = formed 1 (o .shown); coordinates = o .coordinates; species = zeroed (o .shown) sp; exclusions = o .exclusions }
+    record { shown = formedOne (o .shown); coordinates = o .coordinates; species = zeroed (o .shown) sp; exclusions = o .exclusions }
 
 -- 1: a species room under 1,024, else as the form's reader has it
 unfoldable pub eitherOf : List ℕ → List ℕ → List ℕ → List ℕ → Outcome

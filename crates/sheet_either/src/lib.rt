@@ -1,9 +1,10 @@
-// A sheet of either form (02, No. 9): the first header or atom line says which. specs/Either.antt says what `read_either` answers
+// A sheet of either form (02, No. 9 and 10): the first header or atom line says which. specs/Either.antt says what `read_either` answers
 // and leaves.
 use answer::Refusal;
 use sheet::Job;
 use sheet::Sheet;
 use sheet::read;
+use sheet::two::RuledSheet;
 use sheet::two::read_two;
 use sheet_lines::Line;
 use sheet_lines_two::two_at;
@@ -14,10 +15,11 @@ ghost use lib.Seq.{sets};
 ghost use Rattle.sheet_lines_two.specs.Twos.{twosOf};
 ghost use Rattle.sheet_either.specs.Either.{isTwo, EitherSays};
 
-// What a sheet says, and which form its header has, 1 or 2.
+// What a sheet says, which form its header has, 1 or 2, and its rule, 1 or 2; a sheet of the first form means rule 1.
 pub struct Formed {
     pub job: Job,
     pub form: u32,
+    pub rule: u32,
 }
 
 pub enum EitherSheet {
@@ -88,10 +90,15 @@ pub fn read_either(
     if is_two(input) {
         let sheet = read_two(input, coordinates, species, exclusions);
         match sheet {
-            Sheet::Answered(job) => {
-                return EitherSheet::Answered(Formed { job, form: 2 });
+            RuledSheet::Answered(said) => {
+                let job = said.job;
+                return EitherSheet::Answered(Formed {
+                    job,
+                    form: 2,
+                    rule: said.rule,
+                });
             }
-            Sheet::Refused(r) => {
+            RuledSheet::Refused(r) => {
                 return EitherSheet::Refused(r);
             }
         }
@@ -100,7 +107,11 @@ pub fn read_either(
     match sheet {
         Sheet::Answered(job) => {
             zero_first(species, job.atoms as usize);
-            EitherSheet::Answered(Formed { job, form: 1 })
+            EitherSheet::Answered(Formed {
+                job,
+                form: 1,
+                rule: 1,
+            })
         }
         Sheet::Refused(r) => EitherSheet::Refused(r),
     }

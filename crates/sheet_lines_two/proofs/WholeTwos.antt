@@ -3,37 +3,45 @@
 use Prim.Native.Nat.{ℕ, zero, suc, _+_}
 use mathlib.Core.Path.{_≡_, refl, sym, ap, subst, _∙_}
 use mathlib.Core.Bool.{cond}
-use mathlib.Core.List.{List, [], _∷_, _++_, List·Permᴰ}
+use mathlib.Core.List.{List, [], _∷_, _++_, append-assoc, List·Permᴰ}
+use native.Mathlib.Omega.{arith}
 use lib.ListN.{length}
 use lib.Dec.{ltb}
 use Rattle.hex.specs.Glyphs.{text2, text4, text8, Stands}
-use Rattle.sheet_lines.specs.Grammar.{text888, Valid, WellFormed, WholeLine, AllWhole, joinAll}
+use Rattle.sheet_lines.specs.Grammar.{text888, Valid, WellFormed, Unbroken, WholeLine, AllWhole, joinAll}
+use Rattle.sheet_lines.specs.declared.Head.{Head}
 use Rattle.sheet_lines.specs.declared.Line.{Line}
 use Rattle.sheet_lines.specs.declared.Line.the-variants.{Header, Atom, Exclusion, Malformed, End}
 use Rattle.sheet_lines.proofs.AnyForm.{Each, textsBy, linesBy, Form, lines-of-bytes, bytes-of-lines, whole-texts, lines-reordered}
 use Rattle.sheet_lines.proofs.Texts.{unbroken-append, unbroken2, unbroken4, unbroken8, unbroken888, whole-text}
 use Rattle.sheet_lines_two.specs.declared.TwoLine.{TwoLine}
 use Rattle.sheet_lines_two.specs.Twos.{twoAt, widthTwo, twosFrom, twosOf}
-use Rattle.sheet_lines_two.specs.Grammar.{textWith, twoText, ValidWith, ValidTwo, WellTwo, textTwo}
-use Rattle.sheet_lines_two.proofs.GrammarTwo.{line-text-two, text-line-two, length-two, StoodWith}
+use Rattle.sheet_lines_two.specs.Grammar.{headText, ruleText, textWith, twoText, ValidWith, ValidTwo, WellTwo, textTwo}
+use Rattle.sheet_lines_two.proofs.GrammarTwo.{rule-bytes, line-text-two, text-line-two, length-two, StoodWith}
 
 -- ---- a line's bytes are a whole line
 
-whole-with : (c : Line) (t : ℕ) → ValidWith c t → WholeLine (textWith c t)
-unfolding textWith
-whole-with (Header h) t v =
+rule-whole : (h : Head) (t : ℕ) → Unbroken (headText h) → WholeLine (headText h ++ ruleText t)
+unfolding ruleText
+rule-whole h zero u = record { body = headText h; unbroken = u; is = refl }
+rule-whole h (suc t) u =
     record {
-      body = text2 17 ++ text4 (h .atoms) ++ text888 (h .ex) (h .ey) (h .ez) ++ text2 (h .mask) ++ text8 (h .radius);
-      unbroken =
-          unbroken-append (text2 17 ++ text4 (h .atoms) ++ text888 (h .ex) (h .ey) (h .ez) ++ text2 (h .mask)) (text8 (h .radius))
-          (unbroken-append (text2 17 ++ text4 (h .atoms) ++ text888 (h .ex) (h .ey) (h .ez)) (text2 (h .mask))
-          (unbroken-append (text2 17 ++ text4 (h .atoms)) (text888 (h .ex) (h .ey) (h .ez))
-          (unbroken-append (text2 17) (text4 (h .atoms)) (unbroken2 17) (unbroken4 (h .atoms)))
-          (unbroken888 (h .ex) (h .ey) (h .ez)))
-          (unbroken2 (h .mask)))
-          (unbroken8 (h .radius));
-      is = refl;
+      body = headText h ++ text2 (suc t);
+      unbroken = unbroken-append (headText h) (text2 (suc t)) u (unbroken2 (suc t));
+      is = ap (λ (e : List ℕ). headText h ++ e) (rule-bytes (suc t) (omega arith)) ∙ sym (append-assoc (headText h) (text2 (suc t)) (10 ∷ []));
     }
+
+whole-with : (c : Line) (t : ℕ) → ValidWith c t → WholeLine (textWith c t)
+unfolding textWith headText
+whole-with (Header h) t v =
+    rule-whole h t
+    (unbroken-append (text2 17 ++ text4 (h .atoms) ++ text888 (h .ex) (h .ey) (h .ez) ++ text2 (h .mask)) (text8 (h .radius))
+    (unbroken-append (text2 17 ++ text4 (h .atoms) ++ text888 (h .ex) (h .ey) (h .ez)) (text2 (h .mask))
+    (unbroken-append (text2 17 ++ text4 (h .atoms)) (text888 (h .ex) (h .ey) (h .ez))
+    (unbroken-append (text2 17) (text4 (h .atoms)) (unbroken2 17) (unbroken4 (h .atoms)))
+    (unbroken888 (h .ex) (h .ey) (h .ez)))
+    (unbroken2 (h .mask)))
+    (unbroken8 (h .radius)))
 whole-with (Atom n x y z) t v =
     record {
       body = text2 18 ++ text4 n ++ text888 x y z ++ text8 t;
@@ -58,9 +66,9 @@ pub second-form : Form TwoLine twoText twoAt widthTwo ValidTwo WellTwo
 second-form =
     record {
       reads = line-text-two;
-      stood = λ s at g. stood-good s at (twoAt s at .core) (twoAt s at .species) g (text-line-two s at);
-      wide = λ l. length-two (l .core) (l .species);
-      whole = λ l v. whole-with (l .core) (l .species) v;
+      stood = λ s at g. stood-good s at (twoAt s at .core) (twoAt s at .extra) g (text-line-two s at);
+      wide = λ l. length-two (l .core) (l .extra);
+      whole = λ l v. whole-with (l .core) (l .extra) v;
     }
 
 -- ---- its lines

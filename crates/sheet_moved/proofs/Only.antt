@@ -17,7 +17,7 @@ use Rattle.sheet_moved.specs.Moved.{seenMoved, ToOneSays, ToTwoSays}
 -- the answer made again from what is seen of it
 abbrev again : Seen ℕ → moved.Moved
 again (answered n) = moves.Answered n
-again (refused n p) = cond (eqb n 12) (moves.Typed p) (moves.Refused (told n p))
+again (refused n p) = cond (eqb n 12) (moves.NoWayBack p) (moves.Refused (told n p))
 
 no-other : (r : Refusal) → again (refused (numberOf r) (placeOf r)) ≡ moves.Refused (told (numberOf r) (placeOf r))
 no-other Lengths = refl
@@ -37,7 +37,7 @@ no-other (Absent k) = refl
 moved-again : (x : moved.Moved) → again (seenMoved x) ≡ x
 moved-again (moves.Answered n) = refl
 moved-again (moves.Refused r) = no-other r ∙ ap moves.Refused (told-back r)
-moved-again (moves.Typed k) = refl
+moved-again (moves.NoWayBack k) = refl
 
 pub moved-only : (x y : moved.Moved) → seenMoved x ≡ seenMoved y → x ≡ y
 moved-only x y e = sym (moved-again x) ∙ ap again e ∙ moved-again y

@@ -1,4 +1,4 @@
--- THEOREMS. Moving there and back is the written first form; what is written in the second form reads back; going back is possible exactly when every species is 0; whole lines
+-- THEOREMS. Moving there and back is the written first form; what is written in the second form reads back; going back is possible exactly when the rule is 1 and every species is 0; whole lines
 -- in another order are moved alike. Assumes nothing.
 use Prim.Native.Nat.{ℕ, zero, suc, _/_, _≤_, _<_}
 use mathlib.Core.Path.{_≡_, refl, sym, ap, _∙_}
@@ -24,7 +24,7 @@ use Rattle.sheet.specs.Read as reading
 use Rattle.sheet.specs.ReadTwo.{SoundTwo, sheetTwo, OutcomeTwo, handedTwo, readTwoOf}
 use Rattle.sheet.proofs.AnyOrder.{one-order}
 use Rattle.sheet.proofs.OrderTwo.{two-order}
-use Rattle.sheet_either.specs.Either.{formed, zeroed, asTwo, eitherOf}
+use Rattle.sheet_either.specs.Either.{zeroed, asTwo, eitherOf}
 use Rattle.sheet_either.proofs.Forms.{second-form}
 use Rattle.sheet_answer.proofs.TellingEither.{full-two}
 use Rattle.sheet_written.specs.Written.{headOf, writtenText}
@@ -35,8 +35,8 @@ use Rattle.sheet_written.proofs.Back.{reads-written, reads-two, two-few, laid-f
 use Rattle.sheet_rewritten.specs.Rewrite.{boxOf, formOf, rewritten}
 use Rattle.sheet_rewritten.proofs.Forms.{asked-is, form-reads}
 use Rattle.sheet_rewritten.proofs.OneForm.{form-is}
-use Rattle.sheet_moved.specs.Moved.{back, toOneOf, forth, toTwoOf, seenMoved, ToOneSays, ToTwoSays}
-use Rattle.sheet_moved.specs.Theorems.{ThereAndBack, TwoReads, BackExactly, ToOneInAnyOrder, ToTwoInAnyOrder}
+use Rattle.sheet_moved.specs.Moved.{atRule, untypedBack, back, toOneOf, forth, toTwoOf, seenMoved, ToOneSays, ToTwoSays}
+use Rattle.sheet_moved.specs.Theorems.{ThereAndBack, formedThere, TwoReads, BackExactly, ToOneInAnyOrder, ToTwoInAnyOrder}
 use Rattle.sheet_moved.specs.declared.Moved as moved
 
 -- ---- the lowest that is not 0
@@ -67,25 +67,36 @@ module _ (s out : List ℕ) (h : length s ≤ 65536) (a : SoundTwo) (e : sheetTw
   long : length (a .species) ≡ a .sound .head .atoms
   long = full-two s a e .species
 
-  possible : ((k : ℕ) → getD (a .species) k 0 ≡ 0) → toOneOf s out ≡ writeOf (boxOf (a .sound)) (a .sound .coords) (flat (a .sound .rows)) out
-  possible z = opened ∙ rw (le-ltb (leadOf 0 (a .species)) (a .sound .head .atoms) (omega (arith, lead-all (a .species) z, long)))
+  untyped : a .rule ≡ 1 → toOneOf s out ≡ untypedBack a out
+  untyped r = opened ∙ rw (eq-eqb (a .rule) 1 r)
 
-  typed : (k : ℕ) → k < a .sound .head .atoms → (getD (a .species) k 0 ≡ 0 → ⊥) → ((i : ℕ) → i < k → getD (a .species) i 0 ≡ 0) → toOneOf s out ≡ record { shown = refused 12 k; out = out }
-  typed k q n z =
+  possible : a .rule ≡ 1 → ((k : ℕ) → getD (a .species) k 0 ≡ 0) → toOneOf s out ≡ writeOf (boxOf (a .sound)) (a .sound .coords) (flat (a .sound .rows)) out
+  possible r z = untyped r ∙ rw (le-ltb (leadOf 0 (a .species)) (a .sound .head .atoms) (omega (arith, lead-all (a .species) z, long)))
+
+  second-rule : a .rule ≡ 2 → toOneOf s out ≡ record { shown = refused 12 atRule; out = out }
+  second-rule r = opened ∙ rw r
+
+  typed : a .rule ≡ 1 → (k : ℕ) → k < a .sound .head .atoms → (getD (a .species) k 0 ≡ 0 → ⊥) → ((i : ℕ) → i < k → getD (a .species) i 0 ≡ 0) → toOneOf s out ≡ record { shown = refused 12 k; out = out }
+  typed r k q n z =
       let l : leadOf 0 (a .species) ≡ k = lead-lowest (a .species) k (omega (arith, long)) n z in
-      opened ∙ rw (l, lt-ltb k (a .sound .head .atoms) q)
+      untyped r ∙ rw (l, lt-ltb k (a .sound .head .atoms) q)
 
   back-by : (t : Bool) (n : ℕ) → ltb (leadOf 0 (a .species)) (a .sound .head .atoms) ≡ t → cond t (record { shown = refused 12 (leadOf 0 (a .species)); out = out }) (writeOf (boxOf (a .sound)) (a .sound .coords) (flat (a .sound .rows)) out) .shown ≡ answered n → a .sound .head .atoms ≤ leadOf 0 (a .species)
   back-by true n p q = impossible (cc)
   back-by false n p q = ltb-false (leadOf 0 (a .species)) (a .sound .head .atoms) p
 
-  only : (n : ℕ) → toOneOf s out .shown ≡ answered n → (k : ℕ) → getD (a .species) k 0 ≡ 0
-  only n q k =
-      let m = back-by (ltb (leadOf 0 (a .species)) (a .sound .head .atoms)) n refl (sym (ap (λ (o : Outcome). o .shown) opened) ∙ q) in
-      lead-only (a .species) (omega (arith, long, m)) k
+  ruled-by : (t : Bool) (n : ℕ) → cond t (untypedBack a out) (record { shown = refused 12 atRule; out = out }) .shown ≡ answered n → t ≡ true
+  ruled-by true n q = refl
+  ruled-by false n q = impossible (cc)
+
+  only : (n : ℕ) → toOneOf s out .shown ≡ answered n → (a .rule ≡ 1) × ((k : ℕ) → getD (a .species) k 0 ≡ 0)
+  only n q =
+      let r : a .rule ≡ 1 = eqb-true (a .rule) 1 (ruled-by (eqb (a .rule) 1) n (sym (ap (λ (o : Outcome). o .shown) opened) ∙ q)) in
+      let m = back-by (ltb (leadOf 0 (a .species)) (a .sound .head .atoms)) n refl (sym (ap (λ (o : Outcome). o .shown) (untyped r)) ∙ q) in
+      (r, λ k. lead-only (a .species) (omega (arith, long, m)) k)
 
 pub back-exactly : (s out : List ℕ) → BackExactly s out
-back-exactly s out h a e = record { possible = possible s out h a e; typed = typed s out h a e; only = only s out h a e }
+back-exactly s out h a e = record { possible = possible s out h a e; second-rule = second-rule s out h a e; typed = typed s out h a e; only = only s out h a e }
 
 -- ---- an answered `to_two`
 pub record Moved (s : List ℕ) (out : List ℕ) (n : ℕ) : Type 0 where
@@ -151,11 +162,11 @@ module _ (s out : List ℕ) (n : ℕ) (m : Moved s out n) where
   abbrev text : List ℕ
   text = take n (toTwoOf s out .out)
 
-  sheet-two : sheetTwo (take n (toTwoOf s out .out)) ≡ answered (record { sound = a; species = replicate (a .head .atoms) 0 })
+  sheet-two : sheetTwo (take n (toTwoOf s out .out)) ≡ answered (record { sound = a; rule = 1; species = replicate (a .head .atoms) 0 })
   sheet-two =
       ap sheetTwo (m .text)
       ∙ (reads-two (boxOf a) (a .coords) (flat (a .rows)) passed
-      ∙ (ap (λ (x : Sound). answered (record { sound = x; species = replicate (length (a .coords) / 3) 0 })) same ∙ ap (λ (k : ℕ). answered (record { sound = a; species = replicate k 0 })) atoms))
+      ∙ (ap (λ (x : Sound). answered (record { sound = x; rule = 1; species = replicate (length (a .coords) / 3) 0 })) same ∙ ap (λ (k : ℕ). answered (record { sound = a; rule = 1; species = replicate k 0 })) atoms))
 
   few : length (take n (toTwoOf s out .out)) ≤ 65536
   few = omega (arith, ap length (m .text), two-few (boxOf a) (a .coords) (flat (a .rows)) passed)
@@ -172,23 +183,23 @@ module _ (s out : List ℕ) (n : ℕ) (m : Moved s out n) where
       ∙ ap (λ (t : List ℕ). laidIn t to) (sym (form-is s (record { short = m .short; sound = a; is = m .is; ranged = m .ranged })))
 
   one-back : (to : List ℕ) → toOneOf (take n (toTwoOf s out .out)) to ≡ laidIn (rewritten s) to
-  one-back to = possible (take n (toTwoOf s out .out)) to few (record { sound = a; species = replicate (a .head .atoms) 0 }) sheet-two (nought (a .head .atoms)) ∙ written to
+  one-back to = possible (take n (toTwoOf s out .out)) to few (record { sound = a; rule = 1; species = replicate (a .head .atoms) 0 }) sheet-two refl (nought (a .head .atoms)) ∙ written to
 
   module _ (co sp ex : List ℕ) (x : 3072 ≤ length co) (y : 1024 ≤ length sp) (z : 2048 ≤ length ex) where
     read-one : reading.readOf s co ex ≡ reading.handed (answered a) co ex
     unfolding reading.readOf
     read-one = rw (le-ltb 65536 (length s) (m .short), le-ltb (length co) 3072 x, le-ltb (length ex) 2048 z, m .is)
 
-    read-two : readTwoOf (take n (toTwoOf s out .out)) co sp ex ≡ handedTwo (answered (record { sound = a; species = replicate (a .head .atoms) 0 })) co sp ex
+    read-two : readTwoOf (take n (toTwoOf s out .out)) co sp ex ≡ handedTwo (answered (record { sound = a; rule = 1; species = replicate (a .head .atoms) 0 })) co sp ex
     unfolding readTwoOf
     read-two = rw (le-ltb 65536 (length (take n (toTwoOf s out .out))) few, le-ltb (length co) 3072 x, le-ltb (length sp) 1024 y, le-ltb (length ex) 2048 z, sheet-two)
 
-    two-reads-by : eitherOf (take n (toTwoOf s out .out)) co sp ex ≡ record { shown = formed 2 (reading.readOf s co ex .shown); coordinates = reading.readOf s co ex .coordinates; species = zeroed (reading.readOf s co ex .shown) sp; exclusions = reading.readOf s co ex .exclusions }
+    two-reads-by : eitherOf (take n (toTwoOf s out .out)) co sp ex ≡ record { shown = formedThere (reading.readOf s co ex .shown); coordinates = reading.readOf s co ex .coordinates; species = zeroed (reading.readOf s co ex .shown) sp; exclusions = reading.readOf s co ex .exclusions }
     unfolding reading.jobFor
     two-reads-by =
-        second-form (take n (toTwoOf s out .out)) co sp ex (reading.jobFor (a .head) (length (a .rows))) (ap (λ (o : OutcomeTwo). o .shown) read-two)
+        second-form (take n (toTwoOf s out .out)) co sp ex (record { job = reading.jobFor (a .head) (length (a .rows)); rule = 1 }) (ap (λ (o : OutcomeTwo). o .shown) read-two)
         ∙ (ap asTwo read-two
-        ∙ sym (ap (λ (o : reading.Outcome). record { shown = formed 2 (o .shown); coordinates = o .coordinates; species = zeroed (o .shown) sp; exclusions = o .exclusions }) read-one))
+        ∙ sym (ap (λ (o : reading.Outcome). record { shown = formedThere (o .shown); coordinates = o .coordinates; species = zeroed (o .shown) sp; exclusions = o .exclusions }) read-one))
 
 pub there-and-back : (s out : List ℕ) → ThereAndBack s out
 there-and-back s out n q to = one-back s out n (moved-two s out n q) to
@@ -227,10 +238,16 @@ type-fits : (t : Bool) (k : ℕ) (d : Done) (text out : List ℕ) (n : ℕ) → 
 type-fits true k d text out n q = impossible (cc)
 type-fits false k d text out n q = after-fits d text out n q
 
+rule-fits : (t : Bool) (x : Outcome) (out : List ℕ) (n : ℕ) → (x .shown ≡ answered n → n ≤ length (x .out)) → cond t x (record { shown = refused 12 atRule; out = out }) .shown ≡ answered n → n ≤ length (cond t x (record { shown = refused 12 atRule; out = out }) .out)
+rule-fits true x out n f q = f q
+rule-fits false x out n f q = impossible (cc)
+
 back-fits : (x : Seen SoundTwo) (out : List ℕ) (n : ℕ) → back x out .shown ≡ answered n → n ≤ length (back x out .out)
 unfolding writeOf
 back-fits (refused k p) out n = λ q. impossible (cc)
-back-fits (answered a) out n = type-fits (ltb (leadOf 0 (a .species)) (a .sound .head .atoms)) (leadOf 0 (a .species)) (writeAsked (boxOf (a .sound)) (a .sound .coords) (flat (a .sound .rows))) (writtenText (boxOf (a .sound)) (a .sound .coords) (flat (a .sound .rows))) out n
+back-fits (answered a) out n =
+    rule-fits (eqb (a .rule) 1) (untypedBack a out) out n
+    (type-fits (ltb (leadOf 0 (a .species)) (a .sound .head .atoms)) (leadOf 0 (a .species)) (writeAsked (boxOf (a .sound)) (a .sound .coords) (flat (a .sound .rows))) (writtenText (boxOf (a .sound)) (a .sound .coords) (flat (a .sound .rows))) out n)
 
 forth-fits : (x : Seen Sound) (out : List ℕ) (n : ℕ) → forth x out .shown ≡ answered n → n ≤ length (forth x out .out)
 unfolding writeTwoOf

@@ -32,8 +32,8 @@ use Rattle.sheet_lines.specs.Grammar.{Valid, AllValid}
 use Rattle.sheet_lines.proofs.AnyForm.{Each}
 use Rattle.sheet_lines.proofs.Texts.{lines-of-text}
 use Rattle.sheet_lines_two.specs.declared.TwoLine.{TwoLine}
-use Rattle.sheet_lines_two.specs.Twos.{plainTwo, toldOf, twosOf}
-use Rattle.sheet_lines_two.specs.Grammar.{ValidWith, ValidTwo}
+use Rattle.sheet_lines_two.specs.Twos.{plainTwo, ruledHead, toldOf, twosOf}
+use Rattle.sheet_lines_two.specs.Grammar.{ValidWith, ValidTwo, textTwo}
 use Rattle.sheet_lines_two.proofs.WholeTwos.{twos-of-text}
 use Rattle.sheet.specs.Meaning.{Meaning, Atoms, andThen, acted, actOf, headed, seated, excluding, placed, fresh}
 use Rattle.sheet.specs.Reading.{refusalFor, onward, run, blank, leadOf, strayOf, unmarkedOf, counted, tested, Sound, soundWith, thenTested, sheetOf}
@@ -41,7 +41,7 @@ use Rattle.sheet.specs.Read.{jobFor, readOf}
 use Rattle.sheet.specs.ReadTwo.{SoundTwo, speciesIn, withSpecies, paired, ranTwo, sheetTwo}
 use Rattle.sheet_written.specs.Written.{headOf, atomLine, atomLines, rowLine, writtenLines, writtenText}
 use Rattle.sheet_written.specs.Write.{writeAsked, Outcome, laidIn, writeAfter, writeOf}
-use Rattle.sheet_written.specs.WrittenTwo.{plainText, writtenTwo}
+use Rattle.sheet_written.specs.WrittenTwo.{twoLines, writtenTwo}
 use Rattle.sheet_written.specs.Theorems.{jobWith, WriteReads}
 use Rattle.sheet_written.proofs.Flags.{flags-back}
 use Rattle.sheet_written.proofs.Cases.{Fine, fine, bytes-are}
@@ -333,10 +333,10 @@ write-reads f xs table out n e co ex a b =
     let p = read-of f xs table out n (writeAsked f xs table) refl e in
     ap (λ (s : List ℕ). readOf s co ex) (p .0) ∙ read-written f xs table (p .1) co ex a b
 
--- ---- in the second form, each species 0
+-- ---- in the second form, rule 1, each species 0
 
 valid-plain : (l : Line) → Valid l → ValidWith l 0
-valid-plain (Header h) v = (v, refl)
+valid-plain (Header h) v = (v, omega arith)
 valid-plain (Atom n x y z) v = (v, omega arith)
 valid-plain (Exclusion a b) v = (v, refl)
 valid-plain Malformed v = absurd v
@@ -375,13 +375,18 @@ told-rows (p ∷ l) = ap (λ (r : List Line). rowLine p ∷ r) (told-rows l)
 long-noughts : (n : ℕ) → length (noughts n) ≡ n
 long-noughts n = length-replicate {A = ℕ} n 0
 
-told-written : (h : Head) (xs : List ℕ) (l : List (ℕ × ℕ)) → map (toldOf true) (map plainTwo (writtenLines h xs l)) ≡ writtenLines h (noughts (3 * (length xs / 3))) l
-unfolding writtenLines atomLines
+-- the header has its rule where its radius stands
+told-written : (h : Head) (xs : List ℕ) (l : List (ℕ × ℕ)) → map (toldOf true) (twoLines h xs l) ≡ writtenLines (ruledHead h 1) (noughts (3 * (length xs / 3))) l
+unfolding twoLines writtenLines atomLines
 told-written h xs l =
     let e : length xs / 3 ≡ length (noughts (3 * (length xs / 3))) / 3 = omega (arith, long-noughts (3 * (length xs / 3))) in
-    ap (λ (r : List Line). Header h ∷ r)
+    ap (λ (r : List Line). Header (ruledHead h 1) ∷ r)
     (told-append (map (atomLine xs) (upTo (length xs / 3))) (map rowLine l)
     ∙ ap₂ (λ (u v : List Line). u ++ v) (told-atoms xs (3 * (length xs / 3)) (upTo (length xs / 3)) ∙ ap (λ (n : ℕ). map (atomLine (noughts (3 * (length xs / 3)))) (upTo n)) e) (told-rows l))
+
+told-places : (h : Head) (xs : List ℕ) (l : List (ℕ × ℕ)) → map (toldOf false) (twoLines h xs l) ≡ writtenLines h xs l
+unfolding twoLines writtenLines
+told-places h xs l = ap (λ (r : List Line). Header h ∷ r) (told-core (atomLines xs ++ map rowLine l))
 
 -- noughts put over noughts
 noughts-put : (n j : ℕ) → sets (noughts (n + j)) 0 (noughts n) ≡ noughts (n + j)
@@ -403,26 +408,34 @@ module _ (h : Head) (xs : List ℕ) (l : List (ℕ × ℕ)) (size : length xs �
       ∙ ap (λ (c : List ℕ). answered (record { header = some h; atoms = record { coords = c; marks = sets (noughts 1024) 0 (ones (h .atoms)) }; rows = l }))
       (ap (λ (i : ℕ). sets (noughts i) 0 (noughts n)) j ∙ (noughts-put n (3072 - n) ∙ ap (λ (i : ℕ). noughts i) (sym j)))
 
-  pub two-written : (s : List ℕ) → twosOf s ≡ map plainTwo (writtenLines h xs l) → sheetTwo s ≡ answered (record { sound = record { head = h; coords = xs; rows = l }; species = replicate (h .atoms) 0 })
+-- such lines are read as the header, the coordinates and the rows, rule 1, with species 0
+module _ (h : Head) (xs : List ℕ) (l : List (ℕ × ℕ)) (size : length xs ≡ 3 * h .atoms) (few : h .atoms ≤ 1024) (t : isTable l ≡ true) (k : length l ≤ 1024) where
+  pub two-written : (s : List ℕ) → twosOf s ≡ twoLines h xs l → sheetTwo s ≡ answered (record { sound = record { head = h; coords = xs; rows = l }; rule = 1; species = replicate (h .atoms) 0 })
   unfolding sheetTwo ranTwo
   two-written s e =
       let n : 3 * (length xs / 3) ≡ 3 * h .atoms = omega arith in
-      let a : run (map (toldOf true) (twosOf s)) 0 blank ≡ answered (record { header = some h; atoms = record { coords = noughts 3072; marks = sets (noughts 1024) 0 (ones (h .atoms)) }; rows = l }) =
-      ap (λ (ls : List TwoLine). run (map (toldOf true) ls) 0 blank) e ∙ (ap (λ (ls : List Line). run ls 0 blank) (told-written h xs l) ∙ kinds-written (3 * (length xs / 3)) n) in
-      let b : run (map (toldOf false) (twosOf s)) 0 blank ≡ run (writtenLines h xs l) 0 blank = ap (λ (ls : List TwoLine). run (map (toldOf false) ls) 0 blank) e ∙ ap (λ (ls : List Line). run ls 0 blank) (told-core (writtenLines h xs l)) in
+      let a : run (map (toldOf true) (twosOf s)) 0 blank ≡ answered (record { header = some (ruledHead h 1); atoms = record { coords = noughts 3072; marks = sets (noughts 1024) 0 (ones (h .atoms)) }; rows = l }) =
+      ap (λ (ls : List TwoLine). run (map (toldOf true) ls) 0 blank) e ∙ (ap (λ (ls : List Line). run ls 0 blank) (told-written h xs l) ∙ kinds-written (ruledHead h 1) xs l size few t k (3 * (length xs / 3)) n) in
+      let b : run (map (toldOf false) (twosOf s)) 0 blank ≡ run (writtenLines h xs l) 0 blank = ap (λ (ls : List TwoLine). run (map (toldOf false) ls) 0 blank) e ∙ ap (λ (ls : List Line). run ls 0 blank) (told-places h xs l) in
       ap₂ paired a b
-      ∙ (ap (λ (x : Seen Sound). withSpecies x (noughts 3072)) (sound-written h xs l size few t k)
-      ∙ ap (λ (r : List ℕ). answered (record { sound = record { head = h; coords = xs; rows = l }; species = r })) (species-noughts (h .atoms) 3072))
+      ∙ (ap (λ (x : Seen Sound). withSpecies x 1 (noughts 3072)) (sound-written h xs l size few t k)
+      ∙ ap (λ (r : List ℕ). answered (record { sound = record { head = h; coords = xs; rows = l }; rule = 1; species = r })) (species-noughts (h .atoms) 3072))
 
--- what `write_two` writes is read as that header, those coordinates and those rows, with species 0
+-- what `write_two` writes is read as that header, those coordinates and those rows, rule 1, with species 0
 module _ (f : Frame) (xs table : List ℕ) (g : Fine f xs table) where
-  pub reads-two : sheetTwo (writtenTwo f xs table) ≡ answered (record { sound = record { head = headOf f (length xs / 3); coords = xs; rows = rows table }; species = replicate (length xs / 3) 0 })
+  valid-two : Each ValidTwo (twoLines (headOf f (length xs / 3)) xs (rows table))
+  unfolding twoLines writtenLines
+  valid-two =
+      let v = valid-written f xs table g in
+      ((v .0, omega arith), each-plain (atomLines xs ++ map rowLine (rows table)) (v .1))
+
+  pub reads-two : sheetTwo (writtenTwo f xs table) ≡ answered (record { sound = record { head = headOf f (length xs / 3); coords = xs; rows = rows table }; rule = 1; species = replicate (length xs / 3) 0 })
   unfolding writtenTwo
   reads-two =
       two-written (headOf f (length xs / 3)) xs (rows table) (omega (arith, head-atoms f xs table g, g .threes)) (omega (arith, head-atoms f xs table g, g .few)) (g .exclusions .ascending) (omega (arith, length-rows table, g .exclusions .few))
-      (plainText (writtenLines (headOf f (length xs / 3)) xs (rows table)))
-      (twos-of-text (map plainTwo (writtenLines (headOf f (length xs / 3)) xs (rows table))) (each-plain (writtenLines (headOf f (length xs / 3)) xs (rows table)) (valid-written f xs table g)))
-      ∙ ap (λ (n : ℕ). answered (record { sound = record { head = headOf f (length xs / 3); coords = xs; rows = rows table }; species = replicate n 0 })) (head-atoms f xs table g)
+      (textTwo (twoLines (headOf f (length xs / 3)) xs (rows table)))
+      (twos-of-text (twoLines (headOf f (length xs / 3)) xs (rows table)) valid-two)
+      ∙ ap (λ (n : ℕ). answered (record { sound = record { head = headOf f (length xs / 3); coords = xs; rows = rows table }; rule = 1; species = replicate n 0 })) (head-atoms f xs table g)
 
-  pub two-few : length (writtenTwo f xs table) ≤ 51241
+  pub two-few : length (writtenTwo f xs table) ≤ 51243
   two-few = omega (arith, bytes-two f xs table, g .few, g .exclusions .few)

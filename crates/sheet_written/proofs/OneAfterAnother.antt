@@ -32,22 +32,26 @@ three-put at x y z l m₁ m₂ m₃ p q r =
     let two : m₂ ≡ sets l at (text8 x ++ text8 y) = put-put 8 (text8 x) (text8 y) l m₁ m₂ at (length8 x) p q in
     put-put 16 (text8 x ++ text8 y) (text8 z) l m₂ m₃ at (simp (length-append, length8)) two r
 
--- a header's numbers after the two digits of its kind
-pub head-put : (k : ℕ) (h : Head) (l m₁ m₂ m₃ m₄ m₅ m₆ : List ℕ) → m₁ ≡ sets l 0 (text2 k) → m₂ ≡ sets m₁ 2 (text4 (h .atoms)) → m₃ ≡ sets m₂ 6 (text888 (h .ex) (h .ey) (h .ez)) → m₄ ≡ sets m₃ 30 (text2 (h .mask)) → m₅ ≡ sets m₄ 32 (text8 (h .radius)) → m₆ ≡ set m₅ 40 10 → m₆ ≡ sets l 0 (text2 k ++ text4 (h .atoms) ++ text888 (h .ex) (h .ey) (h .ez) ++ text2 (h .mask) ++ text8 (h .radius) ++ (10 ∷ []))
-head-put k h l m₁ m₂ m₃ m₄ m₅ m₆ p q r s t u =
+-- a header's 40 digits, those of its kind first
+abbrev pub headDigits : ℕ → Head → List ℕ
+headDigits k h = text2 k ++ text4 (h .atoms) ++ text888 (h .ex) (h .ey) (h .ez) ++ text2 (h .mask) ++ text8 (h .radius)
+
+pub head-long : (k : ℕ) (h : Head) → length (headDigits k h) ≡ 40
+head-long k h = simp (length-append, length2, length4, length8, long888)
+
+pub head-put : (k : ℕ) (h : Head) (l m₁ m₂ m₃ m₄ m₅ : List ℕ) → m₁ ≡ sets l 0 (text2 k) → m₂ ≡ sets m₁ 2 (text4 (h .atoms)) → m₃ ≡ sets m₂ 6 (text888 (h .ex) (h .ey) (h .ez)) → m₄ ≡ sets m₃ 30 (text2 (h .mask)) → m₅ ≡ sets m₄ 32 (text8 (h .radius)) → m₅ ≡ sets l 0 (headDigits k h)
+head-put k h l m₁ m₂ m₃ m₄ m₅ p q r s t =
     let a = text2 k ++ text4 (h .atoms) in
     let b = text2 k ++ text4 (h .atoms) ++ text888 (h .ex) (h .ey) (h .ez) in
     let d = text2 k ++ text4 (h .atoms) ++ text888 (h .ex) (h .ey) (h .ez) ++ text2 (h .mask) in
-    let e = text2 k ++ text4 (h .atoms) ++ text888 (h .ex) (h .ey) (h .ez) ++ text2 (h .mask) ++ text8 (h .radius) in
     let two : m₂ ≡ sets l 0 a = put-put 2 (text2 k) (text4 (h .atoms)) l m₁ m₂ 0 (length2 k) p q in
     let three : m₃ ≡ sets l 0 b = put-put 6 a (text888 (h .ex) (h .ey) (h .ez)) l m₂ m₃ 0 (simp (length-append, length2, length4)) two r in
     let four : m₄ ≡ sets l 0 d = put-put 30 b (text2 (h .mask)) l m₃ m₄ 0 (simp (length-append, length2, length4, long888)) three s in
-    let five : m₅ ≡ sets l 0 e = put-put 32 d (text8 (h .radius)) l m₄ m₅ 0 (simp (length-append, length2, length4, long888)) four t in
-    put-put 40 e (10 ∷ []) l m₅ m₆ 0 (simp (length-append, length2, length4, length8, long888)) five u
+    put-put 32 d (text8 (h .radius)) l m₄ m₅ 0 (simp (length-append, length2, length4, long888)) four t
 
 pub header-put : (h : Head) (l m₁ m₂ m₃ m₄ m₅ m₆ : List ℕ) → m₁ ≡ sets l 0 (text2 1) → m₂ ≡ sets m₁ 2 (text4 (h .atoms)) → m₃ ≡ sets m₂ 6 (text888 (h .ex) (h .ey) (h .ez)) → m₄ ≡ sets m₃ 30 (text2 (h .mask)) → m₅ ≡ sets m₄ 32 (text8 (h .radius)) → m₆ ≡ set m₅ 40 10 → m₆ ≡ sets l 0 (lineText (Header h))
 unfolding lineText
-header-put h l m₁ m₂ m₃ m₄ m₅ m₆ p q r s t u = head-put 1 h l m₁ m₂ m₃ m₄ m₅ m₆ p q r s t u
+header-put h l m₁ m₂ m₃ m₄ m₅ m₆ p q r s t u = put-put 40 (headDigits 1 h) (10 ∷ []) l m₅ m₆ 0 (head-long 1 h) (head-put 1 h l m₁ m₂ m₃ m₄ m₅ p q r s t) u
 
 -- ---- a line, and those that are left after it
 

@@ -146,7 +146,7 @@ module _ (marks : List ℕ) (a : LentAtoms) (l : Links) (h : strikeAsked marks a
   unfolding ljPair coulombPair bondPair angleBend
   pulls-stay =
       record {
-        lj = λ image look t i j e f. λ n. ljPull t (mixOf (look (species-same i e n)) (look (species-same j f n))) (displaced-same image i j e f n);
+        lj = λ image look t i j e f. λ n. ljPull t (mixOf (t .rule) (look (species-same i e n)) (look (species-same j f n))) (displaced-same image i j e f n);
         coulomb = λ image ke cutoff i j e f. λ n. cond (neutral (charge-same i e n) (charge-same j f n)) Skip (coulombPull ke cutoff (charge-same i e n) (charge-same j f n) (displaced-same image i j e f n));
         bond = λ image t b i j c s e f. λ n. bondPull (own (l .ks) (linksLeft marks l .ks) (t .k) b c s (strike-keeps marks a l h .1 .ks) n) (own (l .lengths) (linksLeft marks l .lengths) (t .r0) b c s (strike-keeps marks a l h .1 .lengths) n) (displaced-same image i j e f n);
         angle = λ image t r c b s x y z. λ n. bendOf (own-angle t r b s n) (displaced-same image (c .first) (c .apex) x y n) (displaced-same image (c .last) (c .apex) z y n);

@@ -12,7 +12,27 @@ use std::sync::Arc;
 
 type EnergyAndForces = (f64, Vec<[f64; 3]>);
 
-/// Lennard-Jones potential with per-species parameters and Lorentz-Berthelot mixing, a spherical cutoff, and optional energy shift for continuity.
+/// How the sigmas of two species mix. Epsilons mix by the root of their product in both.
+#[derive(Debug, Clone, Copy, PartialEq, Eq, Default)]
+pub enum Mixing {
+    /// Rule 1, Lorentz-Berthelot: the half sum, as the original has it.
+    #[default]
+    HalfSum,
+    /// Rule 2: the geometric mean, root of the product.
+    Geometric,
+}
+
+impl Mixing {
+    /// The rule's number, 1 or 2, as a job names it.
+    pub fn rule(self) -> u32 {
+        match self {
+            Mixing::HalfSum => 1,
+            Mixing::Geometric => 2,
+        }
+    }
+}
+
+/// Lennard-Jones potential with per-species parameters and a mixing rule, a spherical cutoff, and optional energy shift for continuity.
 #[derive(Debug, Clone)]
 pub struct LennardJones {
     /// Per-species `(epsilon eV, sigma Å)` keyed by species id (e.g. atomic number).
@@ -25,17 +45,24 @@ pub struct LennardJones {
     pub cutoff: f64,
     /// Shift the potential so that it is 0 at the cutoff.
     pub shift: bool,
+    /// How two species mix.
+    pub mixing: Mixing,
 }
 
 impl LennardJones {
     /// A single-species LJ fluid, shifted.
     pub fn monatomic(epsilon: f64, sigma: f64, cutoff: f64) -> Self {
-        Self { params: HashMap::new(), house: Arc::default(), default: (epsilon, sigma), cutoff, shift: true }
+        Self { params: HashMap::new(), house: Arc::default(), default: (epsilon, sigma), cutoff, shift: true, mixing: Mixing::HalfSum }
     }
 
     /// Argon: ε = 0.0103 eV, σ = 3.4 Å, cutoff 2.5σ.
     pub fn argon() -> Self {
         Self::monatomic(0.0103, 3.4, 2.5 * 3.4)
+    }
+
+    /// The same potential with another mixing rule.
+    pub fn mixed_by(self, mixing: Mixing) -> Self {
+        Self { mixing, ..self }
     }
 
     /// The same potential over a shared house table: a species' row is the one of `params` where there is one, else the house's, else the default.
@@ -82,7 +109,7 @@ impl LennardJones {
     }
 
     pub(super) fn numbers(&self) -> raw::Lj {
-        raw::Lj { epsilon: self.default.0, sigma: self.default.1, cutoff: self.cutoff, shift: self.shift.into() }
+        raw::Lj { epsilon: self.default.0, sigma: self.default.1, cutoff: self.cutoff, shift: self.shift.into(), rule: self.mixing.rule() }
     }
 
     /// Both tables, the own one first: the species ascending, and epsilon and sigma of each.

@@ -5,7 +5,7 @@ use Rattle.field_structs.proofs.give.lj.Tie as tie
 
 returns : tie.Need-returns
 unfolding flatLj
-returns c = rw (c .flag-of .ensures)
+returns c = rw (c .before .flag-of .ensures, c .rule-number .ensures)
 
 pub lj-spec : {M : Type 1} → statement M
-lj-spec = tie.close (tie.spec (λ c κs. search needs) returns)
+lj-spec = tie.close (tie.spec (λ c κs. search needs) (λ c κs. search needs) returns)

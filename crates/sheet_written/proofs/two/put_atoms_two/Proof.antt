@@ -20,87 +20,87 @@ Inv-loop out₀ xs n i₀ out i = TwosPut xs out₀ out i
 abbrev μ-loop : tie.MeasureT-loop
 μ-loop out₀ xs n i₀ out i = n - i
 
--- src/lines.rt:65:5
+-- src/two.rt:55:5
 loop-holds : tie.Need-loop-holds Inv-loop μ-loop
 loop-holds c = twos-begin _ _
 
--- src/lines.rt:68:18
+-- src/two.rt:58:18
 mul-put-atom-two : tie.Need-mul-put-atom-two Inv-loop μ-loop
 mul-put-atom-two c = omega (arith, c .before .loop-test .taken, c .before .before .before .before .before .pre)
 
--- src/lines.rt:68:13
+-- src/two.rt:58:13
 add-put-atom-two : tie.Need-add-put-atom-two Inv-loop μ-loop
 add-put-atom-two c = omega (arith, c .before .loop-test .taken, c .before .before .before .before .before .pre)
 
--- src/lines.rt:69:13
+-- src/two.rt:59:13
 cast-put-atom-two : tie.Need-cast-put-atom-two Inv-loop μ-loop
 cast-put-atom-two c = omega (arith, c .before .loop-test .taken, c .before .before .before .before .before .pre)
 
--- src/lines.rt:70:16
+-- src/two.rt:60:16
 mul-put-atom-two-2 : tie.Need-mul-put-atom-two-2 Inv-loop μ-loop
 mul-put-atom-two-2 c = omega (arith, c .before .loop-test .taken, c .before .before .before .before .before .pre)
 
--- src/lines.rt:70:13
+-- src/two.rt:60:13
 mul-put-atom-two-3 : tie.Need-mul-put-atom-two-3 Inv-loop μ-loop
 mul-put-atom-two-3 c = omega (arith, c .before .loop-test .taken, c .before .before .before .before .before .pre)
 
--- src/lines.rt:70:13
+-- src/two.rt:60:13
 shared-slice-read-put-atom-two : tie.Need-shared-slice-read-put-atom-two Inv-loop μ-loop
 shared-slice-read-put-atom-two c = omega (arith, c .before .before .loop-test .taken, c .before .before .before .before .before .before .pre)
 
--- src/lines.rt:71:16
+-- src/two.rt:61:16
 mul-put-atom-two-4 : tie.Need-mul-put-atom-two-4 Inv-loop μ-loop
 mul-put-atom-two-4 c = omega (arith, c .before .before .loop-test .taken, c .before .before .before .before .before .before .pre)
 
--- src/lines.rt:71:16
+-- src/two.rt:61:16
 add-put-atom-two-2 : tie.Need-add-put-atom-two-2 Inv-loop μ-loop
 add-put-atom-two-2 c = omega (arith, c .before .before .loop-test .taken, c .before .before .before .before .before .before .pre)
 
--- src/lines.rt:71:13
+-- src/two.rt:61:13
 mul-put-atom-two-5 : tie.Need-mul-put-atom-two-5 Inv-loop μ-loop
 mul-put-atom-two-5 c = omega (arith, c .before .before .loop-test .taken, c .before .before .before .before .before .before .pre)
 
--- src/lines.rt:71:13
+-- src/two.rt:61:13
 shared-slice-read-put-atom-two-2 : tie.Need-shared-slice-read-put-atom-two-2 Inv-loop μ-loop
 shared-slice-read-put-atom-two-2 c = omega (arith, c .before .before .before .loop-test .taken, c .before .before .before .before .before .before .before .pre)
 
--- src/lines.rt:72:16
+-- src/two.rt:62:16
 mul-put-atom-two-6 : tie.Need-mul-put-atom-two-6 Inv-loop μ-loop
 mul-put-atom-two-6 c = omega (arith, c .before .before .before .loop-test .taken, c .before .before .before .before .before .before .before .pre)
 
--- src/lines.rt:72:16
+-- src/two.rt:62:16
 add-put-atom-two-3 : tie.Need-add-put-atom-two-3 Inv-loop μ-loop
 add-put-atom-two-3 c = omega (arith, c .before .before .before .loop-test .taken, c .before .before .before .before .before .before .before .pre)
 
--- src/lines.rt:72:13
+-- src/two.rt:62:13
 mul-put-atom-two-7 : tie.Need-mul-put-atom-two-7 Inv-loop μ-loop
 mul-put-atom-two-7 c = omega (arith, c .before .before .before .loop-test .taken, c .before .before .before .before .before .before .before .pre)
 
--- src/lines.rt:72:13
+-- src/two.rt:62:13
 shared-slice-read-put-atom-two-3 : tie.Need-shared-slice-read-put-atom-two-3 Inv-loop μ-loop
 shared-slice-read-put-atom-two-3 c = omega (arith, c .before .before .before .before .loop-test .taken, c .before .before .before .before .before .before .before .before .pre)
 
--- src/lines.rt:66:9
+-- src/two.rt:56:9
 put-atom-two-requires : tie.Need-put-atom-two-requires Inv-loop μ-loop
 put-atom-two-requires c κs = omega (arith, c .before .before .before .before .loop-test .taken, c .before .before .before .before .before .before .before .before .pre)
 
--- src/lines.rt:74:9
+-- src/two.rt:64:9
 add-i : tie.Need-add-i Inv-loop μ-loop
 add-i c = omega (arith, c .before .before .before .before .before .before .before .loop-test .taken, c .before .before .before .before .before .before .before .before .before .before .before .pre)
 
--- src/lines.rt:65:5
+-- src/two.rt:55:5
 loop-less : tie.Need-loop-less Inv-loop μ-loop
 loop-less c = omega (arith, c .before .before .before .before .before .before .before .loop-test .taken, c .before .before .before .before .before .before .before .before .before .before .before .pre)
 
--- src/lines.rt:65:5
+-- src/two.rt:55:5
 loop-again : tie.Need-loop-again Inv-loop μ-loop
 loop-again c = twos-turn _ _ (c .before .before .before .before .before .before .before .before .loop .inv) (c .before .before .before .before .before .before .before .loop-test .taken) (c .before .before .put-atom-two .ensures)
 
--- src/lines.rt:59:1
+-- src/two.rt:49:1
 same-length : tie.Need-same-length Inv-loop μ-loop
 same-length c = c .before .loop .inv .size
 
--- src/lines.rt:59:1
+-- src/two.rt:49:1
 returns : tie.Need-returns Inv-loop μ-loop
 returns c = twos-end _ _ (c .before .loop .inv) (c .loop-test .left)
 
