@@ -35,7 +35,7 @@ module _ {B : Type 0} {p p′ : B → ℕ → B} where
   pub folds-agree : (c : ℕ) → ((m : ℕ) → m < c → (t : B) → p′ t m ≡ p t m) → (t : B) → foldl p′ t (upTo c) ≡ foldl p t (upTo c)
   folds-agree c e t = agree-from 0 c (λ m l h. e m (omega arith)) t
 
-fold-last : {B : Type 0} (p : B → ℕ → B) (c : ℕ) (t : B) → foldl p t (upTo (c + 1)) ≡ p (foldl p t (upTo c)) c
+pub fold-last : {B : Type 0} (p : B → ℕ → B) (c : ℕ) (t : B) → foldl p t (upTo (c + 1)) ≡ p (foldl p t (upTo c)) c
 unfolding numbers
 fold-last p c t =
     ap (foldl p t) (numbers-append 0 c 1) ∙ foldl-append p t (upTo c) (numbers (0 + c) 1) ∙ ap (λ (k : ℕ). p (foldl p t (upTo c)) k) (zero-add c)
@@ -62,7 +62,7 @@ module _ (l : List Float) (c : ℕ) (d : Vec3) where
   abbrev both : List Float
   both = set one (3 * c + 1) (d .y)
 
-  vec-here : 3 * c + 2 < length l → positionAt (setVec l c d) c ≡ d
+  pub vec-here : 3 * c + 2 < length l → positionAt (setVec l c d) c ≡ d
   unfolding positionAt
   vec-here h =
       let n : length one ≡ length l = length-set l (3 * c) (d .x) in
@@ -82,7 +82,7 @@ module _ (l : List Float) (c : ℕ) (d : Vec3) where
       ∙ getD-set-other one (3 * c + 1) k (d .y) nan (λ q. omega (arith, q))
       ∙ getD-set-other l (3 * c) k (d .x) nan (λ q. omega (arith, q))
 
-  vec-below : (m : ℕ) → m < c → positionAt (setVec l c d) m ≡ positionAt l m
+  pub vec-below : (m : ℕ) → m < c → positionAt (setVec l c d) m ≡ positionAt l m
   unfolding positionAt
   vec-below m h = rw (vec-at (3 * m) (omega arith), vec-at (3 * m + 1) (omega arith), vec-at (3 * m + 2) (omega arith))
 
@@ -136,38 +136,39 @@ module _ (pull : Float → Vec3 → Float → Pull) {A : Type 0} (f : Total → 
       → ((t : Total) → f t r ≡ cond skipped t (after t (i, j) (pull u d v))) → {c′ : ℕ} → c′ ≡ cond skipped c (c + 1) → PlaceAdds step (blockStep pull atoms″ apart″ two″) c c′ f r
   placed ea eb ew skipped e q = rw (ea, eb, ew) (placed′ skipped e q)
 
--- ---- the two floats of Coulomb's places, found after the sift
-pub pulled-none : (two pulls : List Float) → Pulled two pulls 0
-pulled-none two pulls = record { energy = λ m h. absurd (omega arith); slope = λ m h. absurd (omega arith) }
+-- ---- the two floats of a place, found after the sift
+module _ (e g : ℕ → Float) where
+  pub pulled-none : (pulls : List Float) → Pulled e g pulls 0
+  pulled-none pulls = record { energy = λ m h. absurd (omega arith); slope = λ m h. absurd (omega arith) }
 
-with-pull : (two pulls : List Float) {n : ℕ} → 2 * n + 1 < length pulls → Pulled two pulls n → Pulled two (withPull two pulls n) (n + 1)
-with-pull two pulls {n} l p =
-    let e : Float = coulombEnergy two n in
-    let g : Float = coulombSlope two n in
-    record {
-      energy =
-          λ m h. ⊎-elim
-          (λ (q : m ≡ n). rw q (pair-first pulls n e g nan l))
-          (λ (q : m ≡ n → ⊥). pair-other pulls n e g nan (2 * m) (omega (arith, q)) ∙ p .energy m (omega (arith, q)))
-          (same-or m n);
-      slope =
-          λ m h. ⊎-elim
-          (λ (q : m ≡ n). rw q (pair-second pulls n e g nan l))
-          (λ (q : m ≡ n → ⊥). pair-other pulls n e g nan (2 * m + 1) (omega (arith, q)) ∙ p .slope m (omega (arith, q)))
-          (same-or m n);
-    }
+  with-pull : (pulls : List Float) {n : ℕ} → 2 * n + 1 < length pulls → Pulled e g pulls n → Pulled e g (withPull e g pulls n) (n + 1)
+  with-pull pulls {n} l p =
+      record {
+        energy =
+            λ m h. ⊎-elim
+            (λ (q : m ≡ n). rw q (pair-first pulls n (e n) (g n) nan l))
+            (λ (q : m ≡ n → ⊥). pair-other pulls n (e n) (g n) nan (2 * m) (omega (arith, q)) ∙ p .energy m (omega (arith, q)))
+            (same-or m n);
+        slope =
+            λ m h. ⊎-elim
+            (λ (q : m ≡ n). rw q (pair-second pulls n (e n) (g n) nan l))
+            (λ (q : m ≡ n → ⊥). pair-other pulls n (e n) (g n) nan (2 * m + 1) (omega (arith, q)) ∙ p .slope m (omega (arith, q)))
+            (same-or m n);
+      }
 
-pub pulled-turn : (two pulls : List Float) {n : ℕ} → 2 * n + 1 < length pulls → Pulled two pulls n → {pulls′ : List Float} → pulls′ ≡ withPull two pulls n → Pulled two pulls′ (n + 1)
-pulled-turn two pulls l p e = rw e (with-pull two pulls l p)
+  pub pulled-turn : (pulls : List Float) {n : ℕ} → 2 * n + 1 < length pulls → Pulled e g pulls n → {pulls′ : List Float} → pulls′ ≡ withPull e g pulls n → Pulled e g pulls′ (n + 1)
+  pulled-turn pulls l p q = rw q (with-pull pulls l p)
 
-pub pulled-end : (two pulls : List Float) {m n : ℕ} → n ≤ m → Pulled two pulls m → Pulled two pulls n
-pulled-end two pulls h p = record { energy = λ k l. p .energy k (omega arith); slope = λ k l. p .slope k (omega arith) }
+  pub pulled-end : (pulls : List Float) {m n : ℕ} → n ≤ m → Pulled e g pulls m → Pulled e g pulls n
+  pulled-end pulls h p = record { energy = λ k l. p .energy k (omega arith); slope = λ k l. p .slope k (omega arith) }
 
-pulled-fold : (atoms : List ℕ) (apart two pulls : List Float) (n : ℕ) → Pulled two pulls n → (t : Total) → foldl (blockStep scaledPull atoms apart pulls) t (upTo n) ≡ foldl (blockStep coulombNear atoms apart two) t (upTo n)
+-- .. of Coulomb
+pulled-fold : (atoms : List ℕ) (apart two pulls : List Float) (n : ℕ) → Pulled (coulombEnergy two) (coulombSlope two) pulls n → (t : Total)
+    → foldl (blockStep scaledPull atoms apart pulls) t (upTo n) ≡ foldl (blockStep coulombNear atoms apart two) t (upTo n)
 pulled-fold atoms apart two pulls n p t =
-    folds-agree {p = blockStep coulombNear atoms apart two} {p′ = blockStep scaledPull atoms apart pulls} n (λ m h x. unfold blockStep in unfold scaledPull in unfold coulombNear in unfold coulombEnergy in unfold coulombSlope in rw (p .energy m h, p .slope m h)) t
+    folds-agree {p = blockStep coulombNear atoms apart two} {p′ = blockStep scaledPull atoms apart pulls} n (λ m h x. unfold blockStep in unfold scaledPull in unfold coulombNear in rw (p .energy m h, p .slope m h) (unfold coulombEnergy in unfold coulombSlope in refl)) t
 
-pub pulled-sum : (atoms : List ℕ) (apart two pulls : List Float) (n : ℕ) → Pulled two pulls n → (t : Total) {t′ : Total} → t′ ≡ foldl (blockStep scaledPull atoms apart pulls) t (upTo n) → t′ ≡ foldl (blockStep coulombNear atoms apart two) t (upTo n)
+pub pulled-sum : (atoms : List ℕ) (apart two pulls : List Float) (n : ℕ) → Pulled (coulombEnergy two) (coulombSlope two) pulls n → (t : Total) {t′ : Total} → t′ ≡ foldl (blockStep scaledPull atoms apart pulls) t (upTo n) → t′ ≡ foldl (blockStep coulombNear atoms apart two) t (upTo n)
 pulled-sum atoms apart two pulls n p t e = e ∙ pulled-fold atoms apart two pulls n p t
 
 -- no place for a pair that adds nothing

@@ -1,4 +1,4 @@
--- A loop over pairs under way: what is left gives what all gave from the start. Over the rows of a table, over the numbers below m, over numbers that stand for pairs, over an atom's later partners, over all pairs. Assumes nothing.
+-- A loop over pairs under way: what is left gives what all gave from the start. Over the rows of a table, over the numbers below m, over an atom's later partners, over all pairs. Assumes nothing.
 use mathlib.Core.Path.{_≡_, refl, sym, ap, _∙_}
 use mathlib.Core.List.{List, _∷_, foldl, foldl-append}
 use Prim.Native.Nat.{ℕ, _+_, _-_, _/_, _<_, _≤_}
@@ -8,7 +8,7 @@ use lib.ListN.{length, getD, drop}
 use Rattle.lists.specs.Lists.{numbers, upTo, withEach, inside, allPairs, rows}
 use Rattle.lists.proofs.Exactness.{numbers-at, length-upTo, ordered-rising}
 use Rattle.lists.proofs.Rows.{length-rows}
-use Rattle.lists.proofs.Walks.{fold-next, fold-past, numbers-next, numbers-end, later-next, later-end, pairs-next, pairs-end}
+use Rattle.lists.proofs.Walks.{fold-next, fold-past, later-next, later-end, pairs-next, pairs-end}
 
 -- at place k of the list l, with t so far, all gives r
 pub record Left {A B : Type 0} (f : B → A → B) (l : List A) (k : ℕ) (t r : B) : Type 0 where
@@ -36,19 +36,6 @@ module _ {B : Type 0} {f : B → ℕ → B} (m : ℕ) {k : ℕ} {t r : B} where
 
   pub numbers-over : m ≤ k → Left f (upTo m) k t r → t ≡ r
   numbers-over h l = left-end 0 (upTo m) (omega (arith, length-upTo m)) l
-
--- ---- the numbers from k to m
-pub record Rest {B : Type 0} (f : B → ℕ → B) (k m : ℕ) (t r : B) : Type 0 where
-  pub same : foldl f t (numbers k (m - k)) ≡ r
-
-module _ {B : Type 0} {f : B → ℕ → B} {k m : ℕ} {t r : B} where
-  pub rest-turn : {t′ : B} → k < m → Rest f k m t r → t′ ≡ f t k → Rest f (k + 1) m t′ r
-  rest-turn h l e =
-      let s : foldl f (f t k) (numbers (k + 1) (m - (k + 1))) ≡ r = rw (numbers-next m k h) at (l .same) in
-      record { same = ap (λ (x : B). foldl f x (numbers (k + 1) (m - (k + 1)))) e ∙ s }
-
-  pub rest-end : m ≤ k → Rest f k m t r → t ≡ r
-  rest-end h l = rw (numbers-end m k h) at (l .same)
 
 -- ---- what is left of the pairs
 with-next : (n i j : ℕ) → i < j → j < n → withEach i (numbers j (n - j)) ≡ (i, j) ∷ withEach i (numbers (j + 1) (n - (j + 1)))

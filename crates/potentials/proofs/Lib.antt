@@ -2,10 +2,10 @@ pub mod Desks
 pub mod Blocks
 pub mod Folds
 pub mod Kernels
+pub mod Near
 pub mod Only
 pub mod Outcomes
 pub mod Places
 pub mod Rules
 pub mod Source
 pub mod Table
-pub mod Turns

@@ -26,7 +26,7 @@ use Rattle.potentials.specs.Terms.{step, displaced, coulombPair, bondPai
 use Rattle.potentials.specs.Steps.{coulombStep}
 use Rattle.potentials.specs.Blocks.{blockStep, scaledPull}
 
-skip-one : (n : Bool) (t : Total) (p : ℕ × ℕ) (x : Pull) → after t p (cond n Skip x) ≡ cond n t (after t p x)
+pub skip-one : (n : Bool) (t : Total) (p : ℕ × ℕ) (x : Pull) → after t p (cond n Skip x) ≡ cond n t (after t p x)
 skip-one true t p x = refl
 skip-one false t p x = refl
 

@@ -1,17 +1,24 @@
 -- A block of pairs in local arrays: two atoms a place, three floats of how they lie to each other, and two floats more. Nobody has to believe it. Definitions only.
 use mathlib.Core.Path.{_≡_}
+use mathlib.Core.Bool.{Bool}
 use mathlib.Core.List.{List, foldl}
 use Prim.Native.Nat.{ℕ, _+_, _*_, _<_, _≤_}
 use lib.Ieee.{Float}
 use lib.ListN.{length, getD, set, drop}
 use Rattle.float.specs.Arith.{_⊗_, _⊘_, at}
 use Rattle.float.specs.Def.{rootOf}
-use Rattle.lists.specs.Lists.{upTo}
+use Rattle.lists.specs.Lists.{upTo, rows}
 use Rattle.cell.specs.declared.Vec3.{Vec3}
 use Rattle.cell.specs.Vec.{scaleOf, positionAt}
+use Rattle.cell_prepared.specs.declared.Prepared.{Prepared}
+use Rattle.potentials_pair.specs.declared.Lj.{Lj}
+use Rattle.potentials_pair.specs.declared.Numbers.{Numbers}
 use Rattle.potentials_pair.specs.declared.Pull.{Pull}
 use Rattle.potentials_pair.specs.declared.Pull.the-variants.{Add}
+use Rattle.potentials_pair.specs.Once.{energyBy, slopeBy, nearBy}
 use Rattle.potentials_pair.specs.Pull.{Total, after}
+use Rattle.potentials_pair.specs.Species.{Tables}
+use Rattle.potentials.specs.Steps.{ljStep, numbersFor}
 
 -- what place m adds; `pull` makes it of the two floats and of how the atoms lie
 unfoldable pub blockStep : (Float → Vec3 → Float → Pull) → List ℕ → List Float → List Float → Total → ℕ → Total
@@ -49,10 +56,61 @@ coulombEnergy two m = at two (2 * m) ⊘ rootOf (at two (2 * m + 1))
 unfoldable pub coulombSlope : List Float → ℕ → Float
 coulombSlope two m = at two (2 * m) ⊘ (at two (2 * m + 1) ⊗ rootOf (at two (2 * m + 1)))
 
-abbrev pub withPull : List Float → List Float → ℕ → List Float
-withPull two pulls m = set (set pulls (2 * m) (coulombEnergy two m)) (2 * m + 1) (coulombSlope two m)
+-- energies e and slopes g, at place m
+abbrev pub withPull : (ℕ → Float) → (ℕ → Float) → List Float → ℕ → List Float
+withPull e g pulls m = set (set pulls (2 * m) (e m)) (2 * m + 1) (g m)
 
 -- .. at the first n places
-pub record Pulled (two pulls : List Float) (n : ℕ) : Type 0 where
-  pub energy : (m : ℕ) → m < n → at pulls (2 * m) ≡ coulombEnergy two m
-  pub slope : (m : ℕ) → m < n → at pulls (2 * m + 1) ≡ coulombSlope two m
+pub record Pulled (e g : ℕ → Float) (pulls : List Float) (n : ℕ) : Type 0 where
+  pub energy : (m : ℕ) → m < n → at pulls (2 * m) ≡ e m
+  pub slope : (m : ℕ) → m < n → at pulls (2 * m + 1) ≡ g m
+
+-- ---- a block of Lennard-Jones has one float a place, the squared distance
+
+-- what place m adds; `pull` makes it of the two atoms, of how they lie, and of the float
+unfoldable pub nearStep : (ℕ → ℕ → Vec3 → Float → Pull) → List ℕ → List Float → List Float → Total → ℕ → Total
+nearStep pull atoms apart near t m =
+    after t (getD atoms (2 * m) 0, getD atoms (2 * m + 1) 0) (pull (getD atoms (2 * m) 0) (getD atoms (2 * m + 1) 0) (positionAt apart m) (at near m))
+
+-- a pair that is not skipped, by the numbers of its species
+unfoldable pub ljWith : Lj → Tables → List ℕ → ℕ → ℕ → Vec3 → Float → Pull
+ljWith lj tab species i j d r2 = nearBy (lj .shift) (numbersFor lj tab (getD species i 0) (getD species j 0)) d r2
+
+-- 128 places
+pub record NearBlock (atoms : List ℕ) (apart near : List Float) : Type 0 where
+  pub atoms256 : length atoms ≡ 256
+  pub apart384 : length apart ≡ 384
+  pub near128 : length near ≡ 128
+
+-- `PlaceAdds` and `Sifted` of Lennard-Jones: no species is asked yet, so for all of them
+pub record NearAdds (lj : Lj) (p : Prepared) (xs : List Float) (atoms atoms′ : List ℕ) (apart near apart′ near′ : List Float) (c c′ i j : ℕ) : Type 0 where
+  pub few : c′ ≤ c + 1
+  pub adds : (tab : Tables) (species : List ℕ)
+      → PlaceAdds (nearStep (ljWith lj tab species) atoms apart near) (nearStep (ljWith lj tab species) atoms′ apart′ near′) c c′ (ljStep lj p tab species xs) (i, j)
+
+pub record NearSifted (lj : Lj) (p : Prepared) (xs : List Float) (table atoms : List ℕ) (apart near : List Float) (c from k : ℕ) : Type 0 where
+  pub few : c + from ≤ k
+  pub sifts : (tab : Tables) (species : List ℕ) → Sifted (nearStep (ljWith lj tab species) atoms apart near) c (ljStep lj p tab species xs) (rows table) from k
+
+-- 128 depths, squares and shifts; those of place m
+pub record Numbered128 (ds ss hs : List Float) : Type 0 where
+  pub ds128 : length ds ≡ 128
+  pub ss128 : length ss ≡ 128
+  pub hs128 : length hs ≡ 128
+
+abbrev pub numbersOn : List Float → List Float → List Float → ℕ → Numbers
+numbersOn ds ss hs m = record { depth = at ds m; square = at ss m; shift = at hs m }
+
+-- the numbers of the species of place m's atoms, and that the first n places have theirs
+unfoldable pub numbersWith : Lj → Tables → List ℕ → List ℕ → ℕ → Numbers
+numbersWith lj tab species atoms m = numbersFor lj tab (getD species (getD atoms (2 * m) 0) 0) (getD species (getD atoms (2 * m + 1) 0) 0)
+
+pub record Recalled (lj : Lj) (tab : Tables) (species atoms : List ℕ) (ds ss hs : List Float) (n : ℕ) : Type 0 where
+  pub right : (m : ℕ) → m < n → numbersOn ds ss hs m ≡ numbersWith lj tab species atoms m
+
+-- the two floats of `nearBy` at place m
+unfoldable pub ljEnergyOn : Bool → List Float → List Float → List Float → List Float → ℕ → Float
+ljEnergyOn shift near ds ss hs m = energyBy shift (numbersOn ds ss hs m) (at near m)
+
+unfoldable pub ljSlopeOn : List Float → List Float → List Float → List Float → ℕ → Float
+ljSlopeOn near ds ss hs m = slopeBy (numbersOn ds ss hs m) (at near m)

@@ -1,9 +1,7 @@
 -- What the loops say of themselves: a cell's facts are asked once, species are looked up by halving, and the numbers of two species are remembered. Nobody has to believe it. Definitions only.
 use mathlib.Core.Path.{_≡_}
-use mathlib.Core.Bool.{cond}
 use mathlib.Core.List.{List}
-use Prim.Native.Nat.{ℕ, _+_, _*_, _/_, _%_, _^_, _<_}
-use lib.Dec.{ltb}
+use Prim.Native.Nat.{ℕ, _/_, _%_, _^_, _<_}
 use lib.Ieee.{Float}
 use lib.ListN.{length, getD}
 use Rattle.lists.specs.Atoms.{atomsOf}
@@ -23,18 +21,6 @@ ljStep lj p tab species xs = step (atomsOf xs) (ljPair (λ d. imageIn p d) (look
 
 unfoldable pub coulombStep : Float → Float → Prepared → List Float → List Float → Total → ℕ × ℕ → Total
 coulombStep ke cutoff p charges xs = step (atomsOf xs) (coulombPair (λ d. imageIn p d) ke cutoff charges xs)
-
--- ---- one loop for the rows of a table and for an atom's later partners
-
--- the pair of number k: row k of a table of pairs, or i and k past the table's end
-unfoldable pub firstAt : List ℕ → ℕ → ℕ → ℕ
-firstAt table i k = cond (ltb k (length table / 2)) (getD table (2 * k) 0) i
-
-unfoldable pub secondAt : List ℕ → ℕ → ℕ
-secondAt table k = cond (ltb k (length table / 2)) (getD table (2 * k + 1) 0) k
-
-unfoldable pub ljTurn : Lj → Prepared → Tables → List ℕ → List Float → List ℕ → ℕ → Total → ℕ → Total
-ljTurn lj p tab species xs table i t k = ljStep lj p tab species xs t (firstAt table i k, secondAt table k)
 
 -- ---- the numbers of two species, remembered
 unfoldable pub numbersFor : Lj → Tables → ℕ → ℕ → Numbers

@@ -10,7 +10,7 @@ ghost use Rattle.potentials_pair.specs.Pull.{held};
 ghost use Rattle.potentials_pair.specs.Coulomb.{coulombNear};
 ghost use Rattle.potentials.specs.Terms.{coulombPair};
 ghost use Rattle.potentials.specs.Steps.{coulombStep};
-ghost use Rattle.potentials.specs.Blocks.{blockStep, withPull, Block, PlaceAdds, Sifted, Pulled};
+ghost use Rattle.potentials.specs.Blocks.{blockStep, coulombEnergy, coulombSlope, withPull, Block, PlaceAdds, Sifted, Pulled};
 use crate::block;
 use crate::pairs;
 use cell_prepared::Prepared;
@@ -112,7 +112,7 @@ fn sift(
 // Energy and slope of place m.
 fn pull_at(m: usize, two: &[f64], pulls: &mut [f64])
     requires { ⌜ (m < 128) × (length (now two) ≡ 256) × (length (now pulls) ≡ 256) ⌝ }
-    ensures { λ _. ⌜ now (pulls .exit) ≡ withPull (now (two .entry)) (now (pulls .entry)) m ⌝ }
+    ensures { λ _. ⌜ now (pulls .exit) ≡ withPull (coulombEnergy (now (two .entry))) (coulombSlope (now (two .entry))) (now (pulls .entry)) m ⌝ }
 {
     let qq = two[2 * m];
     let r2 = two[2 * m + 1];
@@ -124,7 +124,7 @@ fn pull_at(m: usize, two: &[f64], pulls: &mut [f64])
 // .. of the first n places.
 fn pull_all(n: usize, two: &[f64], pulls: &mut [f64])
     requires { ⌜ (n ≤ 128) × (length (now two) ≡ 256) × (length (now pulls) ≡ 256) ⌝ }
-    ensures { λ _. ⌜ Pulled (now (two .entry)) (now (pulls .exit)) n ⌝ }
+    ensures { λ _. ⌜ Pulled (coulombEnergy (now (two .entry))) (coulombSlope (now (two .entry))) (now (pulls .exit)) n ⌝ }
 {
     let mut m = 0;
     while m < n {

@@ -17,15 +17,17 @@ numbersOf lj m =
     let sc6 = cube (m .sigma ⊗ m .sigma ⊘ (lj .cutoff ⊗ lj .cutoff)) in
     record { depth = f4 ⊗ m .epsilon; square = m .sigma ⊗ m .sigma; shift = f4 ⊗ m .epsilon ⊗ (sc6 ⊗ sc6 ⊖ sc6) }
 
-unfoldable pub energyBy : Bool → Numbers → Float → Float → Float
-energyBy shift n s6 s12 =
-    let e = n .depth ⊗ (s12 ⊖ s6) in
+unfoldable pub energyBy : Bool → Numbers → Float → Float
+energyBy shift n r2 =
+    let s6 = cube (n .square ⊗ (f1 ⊘ r2)) in
+    let e = n .depth ⊗ (s6 ⊗ s6 ⊖ s6) in
     cond shift (e ⊖ n .shift) e
 
-unfoldable pub nearBy : Bool → Numbers → Vec3 → Float → Pull
-nearBy shift n d r2 =
+unfoldable pub slopeBy : Numbers → Float → Float
+slopeBy n r2 =
     let inverse = f1 ⊘ r2 in
     let s6 = cube (n .square ⊗ inverse) in
-    let s12 = s6 ⊗ s6 in
-    let slope = n .depth ⊗ (neg f6 ⊗ s12 ⊕ f3 ⊗ s6) ⊗ inverse in
-    Add (energyBy shift n s6 s12) d (scaleOf d (neg f2 ⊗ slope))
+    neg f2 ⊗ (n .depth ⊗ (neg f6 ⊗ (s6 ⊗ s6) ⊕ f3 ⊗ s6) ⊗ inverse)
+
+unfoldable pub nearBy : Bool → Numbers → Vec3 → Float → Pull
+nearBy shift n d r2 = Add (energyBy shift n r2) d (scaleOf d (slopeBy n r2))

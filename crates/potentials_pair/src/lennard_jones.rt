@@ -1,7 +1,7 @@
 // Lennard-Jones over a difference and the numbers of two species.
 ghost use mathlib.Core.Path.{_≡_};
 ghost use Rattle.potentials_pair.specs.Lj.{sigmaOf, mixOf};
-ghost use Rattle.potentials_pair.specs.Once.{numbersOf, energyBy, nearBy};
+ghost use Rattle.potentials_pair.specs.Once.{numbersOf, energyBy, slopeBy, nearBy};
 use crate::Lj;
 use crate::Mixed;
 use crate::Mixing;
@@ -42,28 +42,37 @@ pub fn numbers_of(lj: Lj, m: Mixed) -> Numbers
     }
 }
 
-fn energy(shift: bool, n: Numbers, s6: f64, s12: f64) -> f64
-    ensures { λ r. ⌜ r ≡ energyBy shift n s6 s12 ⌝ }
+// The energy of a pair that is not skipped, r2 its squared distance.
+pub fn energy(shift: bool, n: Numbers, r2: f64) -> f64
+    ensures { λ r. ⌜ r ≡ energyBy shift n r2 ⌝ }
 {
-    let e = n.depth * (s12 - s6);
+    let s2 = n.square * (1.0 / r2);
+    let s6 = s2 * s2 * s2;
+    let e = n.depth * (s6 * s6 - s6);
     if shift {
         return e - n.shift;
     }
     e
 }
 
-// A pair that is not skipped, r2 the square of d. Of `numbers_of` it is `ljNear` (proofs/Once.antt).
-pub fn near(shift: bool, n: Numbers, d: Vec3, r2: f64) -> Pull
-    ensures { λ r. ⌜ r ≡ nearBy shift n d r2 ⌝ }
+// How long its force is beside the difference.
+pub fn slope(n: Numbers, r2: f64) -> f64
+    ensures { λ r. ⌜ r ≡ slopeBy n r2 ⌝ }
 {
     let inv_r2 = 1.0 / r2;
     let s2 = n.square * inv_r2;
     let s6 = s2 * s2 * s2;
-    let s12 = s6 * s6;
-    let de_dr2 = n.depth * (-6.0 * s12 + 3.0 * s6) * inv_r2;
+    let de_dr2 = n.depth * (-6.0 * (s6 * s6) + 3.0 * s6) * inv_r2;
+    -2.0 * de_dr2
+}
+
+// Both, d the difference. Of `numbers_of` it is `ljNear` (proofs/Once.antt).
+pub fn near(shift: bool, n: Numbers, d: Vec3, r2: f64) -> Pull
+    ensures { λ r. ⌜ r ≡ nearBy shift n d r2 ⌝ }
+{
     Pull::Add {
-        energy: energy(shift, n, s6, s12),
+        energy: energy(shift, n, r2),
         d: d,
-        f: cell::vectors::scale(d, -2.0 * de_dr2),
+        f: cell::vectors::scale(d, slope(n, r2)),
     }
 }

@@ -1,11 +1,34 @@
-use Rattle.potentials.proofs.Turns.{over-rows}
+use Rattle.potentials.proofs.Table.{begun}
 use borrow.Author.Needs.{needs}
-use mathlib.Core.Path.{_∙_}
 use Rattle.potentials.proofs.lennard_jones.over.Statement.{statement}
 use Rattle.potentials.proofs.lennard_jones.over.Tie as tie
 
-returns : tie.Need-returns
-returns c = c .before .before .run .ensures ∙ over-rows _ _ _ _ _ _ _ (c .before .before .before .before .before .before .before .before .before .before .before .before .args .table .now)
+by-blocks-requires : tie.Need-by-blocks-requires
+by-blocks-requires c κs = ((record { atoms256 = c .before .before .before .before .before .before .before .before .before .before .before .before .before .before .before .before .before .before .blank-atoms .ensures; apart384 = c .before .before .before .before .before .before .before .before .before .before .before .before .before .before .before .before .before .blank-apart .ensures; near128 = c .before .before .before .before .before .before .before .before .before .before .before .before .before .before .before .before .blank-one .ensures }, record { ds128 = c .before .before .before .before .before .before .before .before .before .before .before .before .before .before .before .blank-one2 .ensures; ss128 = c .before .before .before .before .before .before .before .before .before .before .before .before .before .before .blank-one3 .ensures; hs128 = c .before .before .before .before .before .before .before .before .before .before .before .before .before .blank-one4 .ensures }, c .before .before .before .before .before .before .before .before .before .before .before .before .blank-two .ensures), begun _ _ _ (c .before .before .before .before .before .before .before .before .before .before .before .before .before .before .before .before .before .before .before .numbers-for .ensures))
 
 pub over-spec : {M : Type 1} → statement M
-over-spec = tie.close (tie.spec (λ c κs. search needs) (λ c. search needs) returns)
+over-spec =
+    tie.close
+    (tie.spec
+    (λ c κs. search needs)
+    (λ c κs. search needs)
+    (λ c κs. search needs)
+    (λ c κs. search needs)
+    (λ c κs. search needs)
+    (λ c κs. search needs)
+    (λ c κs. search needs)
+    (λ c κs. search needs)
+    (λ c. search needs)
+    (λ c. search needs)
+    (λ c. search needs)
+    (λ c. search needs)
+    (λ c. search needs)
+    (λ c. search needs)
+    (λ c. search needs)
+    (λ c. search needs)
+    (λ c. search needs)
+    (λ c. search needs)
+    (λ c. search needs)
+    by-blocks-requires
+    (λ c. search needs)
+    (λ c. search needs))

@@ -4,7 +4,7 @@ use Rattle.potentials_pair.proofs.lennard_jones.near.Statement.{stateme
 use Rattle.potentials_pair.proofs.lennard_jones.near.Tie as tie
 
 returns : tie.Need-returns
-returns c = unfold nearBy in rw (c .before .energy .ensures, c .scale .ensures)
+returns c = unfold nearBy in rw (c .before .before .energy .ensures, c .scale .ensures, c .before .slope .ensures)
 
 pub near-spec : {M : Type 1} → statement M
-near-spec = tie.close (tie.spec (λ c κs. search needs) (λ c κs. search needs) returns)
+near-spec = tie.close (tie.spec (λ c κs. search needs) (λ c κs. search needs) (λ c κs. search needs) returns)
