@@ -1,9 +1,9 @@
--- The tests of the calls by their cases, as the code takes them, and a search over the numbers below n. Assumes nothing.
+-- The tests of the calls by their cases, as the code takes them, a search over the numbers below n, and a walk over all of them. Assumes nothing.
 use Prim.Native.Nat.{ℕ, _+_, _-_, _*_, _/_, _%_, _≤_, _<_}
 use native.Mathlib.Nat.{sub-zero}
 use native.Mathlib.Omega.{arith}
 use mathlib.Core.Path.{_≡_, refl, sym, ap, _∙_}
-use mathlib.Core.Bool.{Bool, true, false, cond, not, _&&_, _||_}
+use mathlib.Core.Bool.{Bool, true, false, cond, not, _&&_, _||_, and-assoc, and-true}
 use mathlib.Core.List.{List, []}
 use lib.ListN.{length, take}
 use lib.Seq.{take-all, length-take-le}
@@ -59,6 +59,26 @@ module _ (p : ℕ → Bool) (n : ℕ) where
     pub searching-end : n ≤ i → false ≡ some p (upTo n)
     unfolding some
     searching-end l = rw (numbers-end n i l) at (u .same)
+
+-- ---- a walk over all of them: what it has found and what is left decide
+pub record Looking (p : ℕ → Bool) (n : ℕ) (ok : Bool) (i : ℕ) : Type 0 where
+  pub within : i ≤ n
+  pub same : every p (upTo n) ≡ (ok && every p (numbers i (n - i)))
+
+module _ (p : ℕ → Bool) (n : ℕ) where
+  pub looking-begin : Looking p n true 0
+  looking-begin = record { within = omega arith; same = rw sub-zero refl }
+
+  module _ {ok : Bool} {i : ℕ} (u : Looking p n ok i) where
+    pub looking-turn : i < n → {b : Bool} → b ≡ p i → Looking p n (ok && b) (i + 1)
+    unfolding every
+    looking-turn l {b} e =
+        let q : every p (numbers i (n - i)) ≡ (p i && every p (numbers (i + 1) (n - (i + 1)))) = rw (numbers-next n i l) refl in
+        record { within = omega arith; same = u .same ∙ rw (q, ← e) (sym (and-assoc ok b (every p (numbers (i + 1) (n - (i + 1)))))) }
+
+    pub looking-end : n ≤ i → ok ≡ every p (upTo n)
+    unfolding every
+    looking-end l = sym (u .same ∙ rw (numbers-end n i l) (and-true ok))
 
 -- ---- 3 and 4 of a list that may be kept
 module _ (s : State) (n : ℕ) (pairs : List ℕ) (refs : List Float) {a : Bool} (ia : a ≡ referencesOk s n refs) where

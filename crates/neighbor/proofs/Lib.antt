@@ -1,3 +1,4 @@
+pub mod Strays
 pub mod Asking
 pub mod Updates
 pub mod Demands

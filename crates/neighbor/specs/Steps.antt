@@ -1,11 +1,22 @@
 -- What the private functions say of themselves: nobody has to believe it. Definitions only.
-use mathlib.Core.Bool.{Bool}
+use mathlib.Core.Bool.{Bool, not, _&&_}
 use lib.Ieee.{Float, lt}
+use Rattle.float.specs.Arith.{_⊖_}
+use Rattle.float.specs.Def.{absOf}
 use Rattle.cell.specs.declared.Vec3.{Vec3}
 use Rattle.cell.specs.Vec.{subOf, norm2Of}
 use Rattle.cell_prepared.specs.declared.Prepared.{Prepared}
 use Rattle.cell_prepared.specs.Facts.{imageIn}
+use Rattle.neighbor_listing.specs.Sides.{isFinite}
 
 -- whether an atom at a, referred to b, has moved further than the limit
 unfoldable pub strayed : Prepared → Float → Vec3 → Vec3 → Bool
 strayed p limit a b = lt limit (norm2Of (imageIn p (subOf a b) .diff))
+
+-- a box of finite lengths l, and two places in it that are less than a length apart on each axis
+abbrev pub inBox : Vec3 → Vec3 → Vec3 → Bool
+inBox l a b = isFinite l && lt (absOf (a .x ⊖ b .x)) (l .x) && lt (absOf (a .y ⊖ b .y)) (l .y) && lt (absOf (a .z ⊖ b .z)) (l .z)
+
+-- such places, and the atom has not strayed
+abbrev pub still : Prepared → Float → Vec3 → Vec3 → Bool
+still p limit a b = inBox (p .short) a b && not (strayed p limit a b)

@@ -12,10 +12,11 @@ ghost use Prim.Native.Nat.{_/_, _≤_, _<_};
 ghost use lib.ListN.{length};
 ghost use Rattle.cell.specs.Vec.{positionAt};
 ghost use Rattle.float.specs.Arith.{at};
-ghost use Rattle.lists.specs.Lists.{some, upTo};
+ghost use Rattle.lists.specs.Lists.{some, every, upTo};
 ghost use Rattle.lists.specs.Loops.{partAt};
 ghost use Rattle.neighbor.specs.Rebuild.{needsOf, outdatedOf};
-ghost use Rattle.neighbor.specs.Steps.{strayed};
+ghost use Rattle.neighbor.specs.Steps.{strayed, inBox, still};
+ghost use Rattle.neighbor_listing.specs.Sides.{isFinite};
 
 fn spot_at(xs: &[f64], i: usize) -> Vec3
     requires { ⌜ i < length (now xs) / 3 ⌝ }
@@ -28,8 +29,8 @@ fn spot_at(xs: &[f64], i: usize) -> Vec3
     }
 }
 
-// Whether a displacement exceeds the limit.
-fn is_far(p: Prepared, limit: f64, a: Vec3, b: Vec3) -> bool
+// Whether a displacement exceeds the limit, by its image.
+fn is_far_long(p: Prepared, limit: f64, a: Vec3, b: Vec3) -> bool
     ensures { λ r. ⌜ r ≡ strayed p limit a b ⌝ }
 {
     let image = cell_prepared::image_in(p, vectors::sub(a, b));
@@ -37,7 +38,39 @@ fn is_far(p: Prepared, limit: f64, a: Vec3, b: Vec3) -> bool
     limit < vectors::norm2(d)
 }
 
-fn some_far(p: Prepared, limit: f64, xs: &[f64], refs: &[f64]) -> bool
+fn is_finite(l: Vec3) -> bool
+    ensures { λ r. ⌜ r ≡ isFinite l ⌝ }
+{
+    (l.x < 1e300) & (l.y < 1e300) & (l.z < 1e300)
+}
+
+fn in_box(l: Vec3, a: Vec3, b: Vec3) -> bool
+    ensures { λ r. ⌜ r ≡ inBox l a b ⌝ }
+{
+    is_finite(l)
+        & cell_square::in_length(l.x, a.x, b.x)
+        & cell_square::in_length(l.y, a.y, b.y)
+        & cell_square::in_length(l.z, a.z, b.z)
+}
+
+// The same; in a box by the squares alone, and no call, where the atom is less than a length from its reference on each axis.
+fn is_far(p: Prepared, limit: f64, a: Vec3, b: Vec3) -> bool
+    ensures { λ r. ⌜ r ≡ strayed p limit a b ⌝ }
+{
+    let l = p.short;
+    if in_box(l, a, b) {
+        let d = Vec3 {
+            x: cell_square::side(l.x, a.x, b.x),
+            y: cell_square::side(l.y, a.y, b.y),
+            z: cell_square::side(l.z, a.z, b.z),
+        };
+        return limit < vectors::norm2(d);
+    }
+    is_far_long(p, limit, a, b)
+}
+
+// One atom after the other, up to the first that has strayed.
+fn some_far_long(p: Prepared, limit: f64, xs: &[f64], refs: &[f64]) -> bool
     requires { ⌜ length (now xs) ≤ length (now refs) ⌝ }
     ensures { λ r. ⌜ r ≡ some (λ k. strayed p limit (positionAt (now (xs .entry)) k) (positionAt (now (refs .entry)) k)) (upTo (length (now (xs .entry)) / 3)) ⌝ }
 {
@@ -50,6 +83,50 @@ fn some_far(p: Prepared, limit: f64, xs: &[f64], refs: &[f64]) -> bool
         i += 1;
     }
     false
+}
+
+// Whether an atom is in a box and has not strayed, by the squares alone: no branch.
+fn is_still(p: Prepared, limit: f64, a: Vec3, b: Vec3) -> bool
+    ensures { λ r. ⌜ r ≡ still p limit a b ⌝ }
+{
+    let l = p.short;
+    let d = Vec3 {
+        x: cell_square::side(l.x, a.x, b.x),
+        y: cell_square::side(l.y, a.y, b.y),
+        z: cell_square::side(l.z, a.z, b.z),
+    };
+    let far = limit < vectors::norm2(d);
+    in_box(l, a, b) & !far
+}
+
+// Every atom is looked at, so that the loop has no branch and takes two in an instruction.
+fn all_still(p: Prepared, limit: f64, xs: &[f64], refs: &[f64]) -> bool
+    requires { ⌜ length (now xs) ≤ length (now refs) ⌝ }
+    ensures { λ r. ⌜ r ≡ every (λ k. still p limit (positionAt (now (xs .entry)) k) (positionAt (now (refs .entry)) k)) (upTo (length (now (xs .entry)) / 3)) ⌝ }
+{
+    let n = xs.len() / 3;
+    let mut ok = true;
+    let mut i = 0;
+    while i < n {
+        ok = ok & is_still(p, limit, spot_at(xs, i), spot_at(refs, i));
+        i += 1;
+    }
+    ok
+}
+
+// First the walk without a branch, where there is a box; the other where an atom has strayed, or is a length or more from its reference.
+fn some_far(p: Prepared, limit: f64, xs: &[f64], refs: &[f64]) -> bool
+    requires { ⌜ length (now xs) ≤ length (now refs) ⌝ }
+    ensures { λ r. ⌜ r ≡ some (λ k. strayed p limit (positionAt (now (xs .entry)) k) (positionAt (now (refs .entry)) k)) (upTo (length (now (xs .entry)) / 3)) ⌝ }
+{
+    let l = p.short;
+    if l.x <= 0.0 {
+        return some_far_long(p, limit, xs, refs);
+    }
+    if all_still(p, limit, xs, refs) {
+        return false;
+    }
+    some_far_long(p, limit, xs, refs)
 }
 
 // `needs_rebuild` after its tests.

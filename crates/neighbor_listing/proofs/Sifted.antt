@@ -35,14 +35,14 @@ pub record Sifting (q : ℕ → Bool) (part start now : List ℕ) (count k : ℕ
 pub sifting-begin : {q : ℕ → Bool} (part start : List ℕ) → Sifting q part start start 0 0
 sifting-begin part start = record { within = omega arith; few = omega arith; same = refl; are = refl }
 
-kept-next : (q : ℕ → Bool) (part now : List ℕ) (count k : ℕ) → k < length part → count < length now → (b : Bool) → b ≡ q (getD part k 0)
+pub kept-next : (q : ℕ → Bool) (part now : List ℕ) (count k : ℕ) → k < length part → count < length now → (b : Bool) → b ≡ q (getD part k 0)
     → take (count + cond b 1 0) (set now count (getD part k 0)) ++ keep q (drop (k + 1) part) ≡ take count now ++ keep q (drop k part)
 unfolding keep
 kept-next q part now count k h l true e =
     rw (add-one count, take-suc-set now count (getD part k 0) l, drop-next 0 part k h, ← e) (append-snoc (take count now) (getD part k 0) (keep q (drop (k + 1) part)))
 kept-next q part now count k h l false e = rw (add-zero count, take-set-le count now count (getD part k 0) (omega arith), drop-next 0 part k h, ← e)
 
-most-one : (b : Bool) → cond b 1 0 ≤ 1
+pub most-one : (b : Bool) → cond b 1 0 ≤ 1
 most-one true = omega arith
 most-one false = omega arith
 

@@ -3,6 +3,7 @@
 mod firsts;
 mod loops;
 mod running;
+mod side;
 mod sight;
 mod sweep;
 

@@ -1,6 +1,7 @@
-// The candidate pairs: an atom with a part of a bin, at most 32 at a time. Their near ones are gathered without a branch; of these, what is not
-// excluded is stored where there is room.
+// The candidate pairs: an atom with the atoms of a bin, which lie side by side where they are at most 64; else, and where a difference goes the long way,
+// with a part of a bin, at most 32 at a time. The near ones are gathered without a branch; of these, what is not excluded is stored where there is room.
 use crate::firsts::first_of;
+use crate::side;
 use crate::sight::Sight;
 use crate::sight::sees;
 use crate::sight::spot_at;
@@ -8,11 +9,12 @@ use bins::Tally;
 use cell::Vec3;
 ghost use mathlib.Core.Path.{_≡_};
 ghost use Prim.Native.Nat.{_+_, _/_, _≤_, _<_, min, max};
-ghost use lib.ListN.{length};
+ghost use lib.ListN.{length, drop};
 ghost use Rattle.cell.specs.Vec.{positionAt};
 ghost use Rattle.lists.specs.Lists.{ordered, withEach, inside, across};
 ghost use Rattle.bins.specs.Listing.{considerOf, listOf, Ready, Below};
 ghost use mathlib.Core.Bool.{cond};
+ghost use Rattle.neighbor_listing.specs.Sides.{SideRooms, LaidOut};
 ghost use Rattle.neighbor_listing.specs.Steps.{chosenBy, nearTo, Gathered, Lists};
 
 fn lower(i: u32, j: u32) -> u32
@@ -157,8 +159,198 @@ fn consider_part(
     now
 }
 
-// Each atom of a bin with each of another.
-pub(crate) fn consider_cross(
+// An atom with each of a part from `from` on, which lies side by side.
+fn consider_side(
+    s: Sight,
+    xs: &[f64],
+    table: &[u32],
+    firsts: &[u32],
+    pairs: &mut [u32],
+    t: Tally,
+    i: u32,
+    from: usize,
+    part: &[u32],
+    bx: &[f64],
+    by: &[f64],
+    bz: &[f64],
+    flags: &mut [usize],
+    room: &mut [u32],
+) -> Tally
+    requires { ⌜ (i < length (now xs) / 3) × Below (length (now xs) / 3) (now part) × (from ≤ length (now part)) × (length (now part) ≤ 64) × LaidOut (now xs) (now part) (now bx) (now by) (now bz) (length (now part)) × (length (now flags) ≡ 64) × (length (now room) ≡ 64) × Ready t (length (withEach i (drop from (now part)))) ⌝ }
+    ensures { λ r. ⌜ Lists s (now (xs .entry)) (now (firsts .entry)) (now (table .entry)) t (now (pairs .entry)) (withEach i (drop from (now (part .entry)))) r (now (pairs .exit)) ⌝ }
+{
+    let a = spot_at(xs, i as usize);
+    if !side::flag(s, i, a, from, part, bx, by, bz, flags) {
+        return consider_part(s, xs, table, firsts, pairs, t, i, &part[from..]);
+    }
+    let count = side::gather(from, part, flags, room);
+    let near = settle_all(table, firsts, pairs, t, i, &room[..count]);
+    Tally {
+        count: near.count,
+        checks: t.checks + (part.len() - from),
+    }
+}
+
+// Each atom of a bin with each of another, which lies side by side.
+fn cross_side(
+    s: Sight,
+    xs: &[f64],
+    table: &[u32],
+    firsts: &[u32],
+    pairs: &mut [u32],
+    t: Tally,
+    home: &[u32],
+    other: &[u32],
+    bx: &[f64],
+    by: &[f64],
+    bz: &[f64],
+    flags: &mut [usize],
+    room: &mut [u32],
+) -> Tally
+    requires { ⌜ Below (length (now xs) / 3) (now home) × Below (length (now xs) / 3) (now other) × (length (now other) ≤ 64) × LaidOut (now xs) (now other) (now bx) (now by) (now bz) (length (now other)) × (length (now flags) ≡ 64) × (length (now room) ≡ 64) × Ready t (length (across (now home) (now other))) ⌝ }
+    ensures { λ r. ⌜ Lists s (now (xs .entry)) (now (firsts .entry)) (now (table .entry)) t (now (pairs .entry)) (across (now (home .entry)) (now (other .entry))) r (now (pairs .exit)) ⌝ }
+{
+    let mut now = t;
+    let mut k = 0;
+    while k < home.len() {
+        let i = home[k];
+        now = consider_side(
+            s,
+            xs,
+            table,
+            firsts,
+            pairs,
+            now,
+            i,
+            0,
+            other,
+            bx,
+            by,
+            bz,
+            flags,
+            room,
+        );
+        k += 1;
+    }
+    now
+}
+
+// Each pair of a bin, which lies side by side, the earlier atom first.
+fn home_side(
+    s: Sight,
+    xs: &[f64],
+    table: &[u32],
+    firsts: &[u32],
+    pairs: &mut [u32],
+    t: Tally,
+    home: &[u32],
+    bx: &[f64],
+    by: &[f64],
+    bz: &[f64],
+    flags: &mut [usize],
+    room: &mut [u32],
+) -> Tally
+    requires { ⌜ Below (length (now xs) / 3) (now home) × (length (now home) ≤ 64) × LaidOut (now xs) (now home) (now bx) (now by) (now bz) (length (now home)) × (length (now flags) ≡ 64) × (length (now room) ≡ 64) × Ready t (length (inside (now home))) ⌝ }
+    ensures { λ r. ⌜ Lists s (now (xs .entry)) (now (firsts .entry)) (now (table .entry)) t (now (pairs .entry)) (inside (now (home .entry))) r (now (pairs .exit)) ⌝ }
+{
+    let mut now = t;
+    let mut k = 0;
+    while k < home.len() {
+        let i = home[k];
+        now = consider_side(
+            s,
+            xs,
+            table,
+            firsts,
+            pairs,
+            now,
+            i,
+            k + 1,
+            home,
+            bx,
+            by,
+            bz,
+            flags,
+            room,
+        );
+        k += 1;
+    }
+    now
+}
+
+// .. in rooms of their own.
+fn cross_few(
+    s: Sight,
+    xs: &[f64],
+    table: &[u32],
+    firsts: &[u32],
+    pairs: &mut [u32],
+    t: Tally,
+    home: &[u32],
+    other: &[u32],
+) -> Tally
+    requires { ⌜ Below (length (now xs) / 3) (now home) × Below (length (now xs) / 3) (now other) × (length (now other) ≤ 64) × Ready t (length (across (now home) (now other))) ⌝ }
+    ensures { λ r. ⌜ Lists s (now (xs .entry)) (now (firsts .entry)) (now (table .entry)) t (now (pairs .entry)) (across (now (home .entry)) (now (other .entry))) r (now (pairs .exit)) ⌝ }
+{
+    let mut bx = side::blank_places();
+    let mut by = side::blank_places();
+    let mut bz = side::blank_places();
+    let mut flags = side::blank_flags();
+    let mut room = side::blank_room();
+    side::lay_out(xs, other, &mut bx, &mut by, &mut bz);
+    cross_side(
+        s,
+        xs,
+        table,
+        firsts,
+        pairs,
+        t,
+        home,
+        other,
+        &bx,
+        &by,
+        &bz,
+        &mut flags,
+        &mut room,
+    )
+}
+
+fn home_few(
+    s: Sight,
+    xs: &[f64],
+    table: &[u32],
+    firsts: &[u32],
+    pairs: &mut [u32],
+    t: Tally,
+    home: &[u32],
+) -> Tally
+    requires { ⌜ Below (length (now xs) / 3) (now home) × (length (now home) ≤ 64) × Ready t (length (inside (now home))) ⌝ }
+    ensures { λ r. ⌜ Lists s (now (xs .entry)) (now (firsts .entry)) (now (table .entry)) t (now (pairs .entry)) (inside (now (home .entry))) r (now (pairs .exit)) ⌝ }
+{
+    let mut bx = side::blank_places();
+    let mut by = side::blank_places();
+    let mut bz = side::blank_places();
+    let mut flags = side::blank_flags();
+    let mut room = side::blank_room();
+    side::lay_out(xs, home, &mut bx, &mut by, &mut bz);
+    home_side(
+        s,
+        xs,
+        table,
+        firsts,
+        pairs,
+        t,
+        home,
+        &bx,
+        &by,
+        &bz,
+        &mut flags,
+        &mut room,
+    )
+}
+
+// Each atom of a bin with each of another, however many they are.
+fn cross_many(
     s: Sight,
     xs: &[f64],
     table: &[u32],
@@ -181,8 +373,8 @@ pub(crate) fn consider_cross(
     now
 }
 
-// Each pair of a bin, the earlier atom first.
-pub(crate) fn consider_home(
+// Each pair of a bin, the earlier atom first, however many they are.
+fn home_many(
     s: Sight,
     xs: &[f64],
     table: &[u32],
@@ -202,4 +394,43 @@ pub(crate) fn consider_home(
         k += 1;
     }
     now
+}
+
+// Each atom of a bin with each of another.
+pub(crate) fn consider_cross(
+    s: Sight,
+    xs: &[f64],
+    table: &[u32],
+    firsts: &[u32],
+    pairs: &mut [u32],
+    t: Tally,
+    home: &[u32],
+    other: &[u32],
+) -> Tally
+    requires { ⌜ Below (length (now xs) / 3) (now home) × Below (length (now xs) / 3) (now other) × Ready t (length (across (now home) (now other))) ⌝ }
+    ensures { λ r. ⌜ Lists s (now (xs .entry)) (now (firsts .entry)) (now (table .entry)) t (now (pairs .entry)) (across (now (home .entry)) (now (other .entry))) r (now (pairs .exit)) ⌝ }
+{
+    if other.len() <= 64 {
+        return cross_few(s, xs, table, firsts, pairs, t, home, other);
+    }
+    cross_many(s, xs, table, firsts, pairs, t, home, other)
+}
+
+// Each pair of a bin, the earlier atom first.
+pub(crate) fn consider_home(
+    s: Sight,
+    xs: &[f64],
+    table: &[u32],
+    firsts: &[u32],
+    pairs: &mut [u32],
+    t: Tally,
+    home: &[u32],
+) -> Tally
+    requires { ⌜ Below (length (now xs) / 3) (now home) × Ready t (length (inside (now home))) ⌝ }
+    ensures { λ r. ⌜ Lists s (now (xs .entry)) (now (firsts .entry)) (now (table .entry)) t (now (pairs .entry)) (inside (now (home .entry))) r (now (pairs .exit)) ⌝ }
+{
+    if home.len() <= 64 {
+        return home_few(s, xs, table, firsts, pairs, t, home);
+    }
+    home_many(s, xs, table, firsts, pairs, t, home)
 }

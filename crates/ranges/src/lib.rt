@@ -17,28 +17,27 @@ pub fn is_between(low: f64, high: f64, x: f64) -> bool
     (low <= x) & (x <= high)
 }
 
+// Every element is looked at, so that the loop has no branch and takes two in an instruction.
 pub fn all_within(limit: f64, xs: &[f64]) -> bool
     ensures { λ r. ⌜ r ≡ every (within limit) (now (xs .entry)) ⌝ }
 {
+    let mut ok = true;
     let mut i = 0;
     while i < xs.len() {
-        if !is_within(limit, xs[i]) {
-            return false;
-        }
+        ok = ok & is_within(limit, xs[i]);
         i += 1;
     }
-    true
+    ok
 }
 
 pub fn all_between(low: f64, high: f64, xs: &[f64]) -> bool
     ensures { λ r. ⌜ r ≡ every (between low high) (now (xs .entry)) ⌝ }
 {
+    let mut ok = true;
     let mut i = 0;
     while i < xs.len() {
-        if !is_between(low, high, xs[i]) {
-            return false;
-        }
+        ok = ok & is_between(low, high, xs[i]);
         i += 1;
     }
-    true
+    ok
 }

@@ -1,42 +1,20 @@
-use Prim.Native.Nat.{_-_}
 use Rattle.cell.specs.Vec.{positionAt}
-use Rattle.neighbor.proofs.Asking.{Searching, searching-begin, searching-turn, searching-finds, searching-end}
-use Rattle.neighbor.specs.Steps.{strayed}
+use Rattle.neighbor.proofs.Strays.{none-strays}
 use borrow.Author.Needs.{needs}
-use mathlib.Core.Path.{sym, _∙_}
+use denote.Ref.{now}
 use Rattle.neighbor.proofs.rebuild.some_far.Statement.{statement}
 use Rattle.neighbor.proofs.rebuild.some_far.Tie as tie
 
-abbrev Inv-loop : tie.InvT-loop
-Inv-loop p limit xs refs n i₀ i = Searching (λ k. strayed p limit (positionAt xs k) (positionAt refs k)) n i
-
-abbrev μ-loop : tie.MeasureT-loop
-μ-loop p limit xs refs n i₀ i = n - i
-
-loop-holds : tie.Need-loop-holds Inv-loop μ-loop
-loop-holds c = searching-begin _ _
-
-returns : tie.Need-returns Inv-loop μ-loop
-returns c = searching-finds _ _ (c .before .before .before .before .before .loop .inv) (c .before .before .before .before .loop-test .taken) (rw (← c .before .before .before .spot-at .ensures, ← c .before .before .spot-at2 .ensures) (sym (c .before .is-far .ensures) ∙ c .if1 .taken))
-
-loop-again : tie.Need-loop-again Inv-loop μ-loop
-loop-again c = searching-turn _ _ (c .before .before .before .before .before .loop .inv) (c .before .before .before .before .loop-test .taken) (rw (← c .before .before .before .spot-at .ensures, ← c .before .before .spot-at2 .ensures) (sym (c .before .is-far .ensures) ∙ c .if1 .left))
-
-returns-2 : tie.Need-returns-2 Inv-loop μ-loop
-returns-2 c = searching-end _ _ (c .before .loop .inv) (c .loop-test .left)
+returns-2 : tie.Need-returns-2
+returns-2 c = none-strays (c .before .before .before .before .before .before .before .args .p) (c .before .before .before .before .before .before .before .args .limit) (positionAt (now (c .before .before .before .before .before .before .before .args .xs))) (positionAt (now (c .before .before .before .before .before .before .before .args .refs))) _ (c .before .all-still .ensures) (c .if2 .taken)
 
 pub some-far-spec : {M : Type 1} → statement M
 some-far-spec =
     tie.close
     (tie.spec
-    Inv-loop
-    μ-loop
-    loop-holds
     (λ c κs. search needs)
-    (λ c κs. search needs)
-    (λ c κs. search needs)
-    returns
     (λ c. search needs)
-    (λ c. search needs)
-    loop-again
-    returns-2)
+    (λ c κs. search needs)
+    returns-2
+    (λ c κs. search needs)
+    (λ c. search needs))

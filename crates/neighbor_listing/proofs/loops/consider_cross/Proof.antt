@@ -1,56 +1,31 @@
-use Prim.Native.Nat.{_-_, _≤_}
-use Rattle.bins.proofs.Runs.{Run, run-begin, run-across, run-across-end, ready-across}
-use Rattle.neighbor_listing.specs.Steps.{sceneBy}
-use Rattle.lists.specs.Lists.{across}
-use borrow.Author.Needs.{needs}
-use lib.ListN.{length, drop}
-use mathlib.Core.Path.{_≡_, refl, _∙_}
-use native.Mathlib.Omega.{arith}
 use Rattle.neighbor_listing.proofs.loops.consider_cross.Statement.{statement}
 use Rattle.neighbor_listing.proofs.loops.consider_cross.Tie as tie
 
-abbrev Inv-loop : tie.InvT-loop
-Inv-loop s xs table firsts pairs₀ home other now₀ k₀ pairs now k = (k ≤ length home) × (length pairs ≡ length pairs₀) × Run (sceneBy s xs firsts table) (record { tally = now₀; mem = pairs₀ }) (record { tally = now; mem = pairs }) (across home other) (across (drop k home) other)
+-- src/loops.rt:414:9
+cross-few-requires : tie.Need-cross-few-requires
+cross-few-requires c κs = (c .before .before .before .before .before .before .before .before .pre .0, c .before .before .before .before .before .before .before .before .pre .1, c .before .if1 .taken, c .before .before .before .before .before .before .before .before .pre .2)
 
-abbrev μ-loop : tie.MeasureT-loop
-μ-loop s xs table firsts pairs₀ home other now₀ k₀ pairs now k = length home - k
+-- src/loops.rt:414:9
+same-length : tie.Need-same-length
+same-length c = c .before .before .cross-few .kept .1 .1 .1 .1 .0
 
-loop-holds : tie.Need-loop-holds Inv-loop μ-loop
-loop-holds c = (omega arith, refl, run-begin _ (c .before .before .before .before .before .before .pre .2))
+-- src/loops.rt:414:9
+returns : tie.Need-returns
+returns c = c .before .before .cross-few .ensures
 
-shared-slice-read-i : tie.Need-shared-slice-read-i Inv-loop μ-loop
-shared-slice-read-i c = omega (arith, c .before .loop-test .taken)
+-- src/loops.rt:416:5
+cross-many-requires : tie.Need-cross-many-requires
+cross-many-requires c κs = c .before .before .before .before .before .before .before .before .pre
 
-consider-part-requires : tie.Need-consider-part-requires Inv-loop μ-loop
-consider-part-requires c κs = (c .before .before .before .before .before .before .before .before .before .before .pre .0 _ (c .before .before .loop-test .taken), c .before .before .before .before .before .before .before .before .before .before .pre .1, ready-across _ _ _ (c .before .before .loop-test .taken) (c .before .before .before .loop .inv .2 .ready))
+-- src/loops.rt:400:1
+same-length-2 : tie.Need-same-length-2
+same-length-2 c = c .before .before .cross-many .kept .1 .1 .1 .1 .0
 
-add-k : tie.Need-add-k Inv-loop μ-loop
-add-k c = omega (arith, c .before .before .before .before .before .loop-test .taken)
-
-loop-less : tie.Need-loop-less Inv-loop μ-loop
-loop-less c = omega (arith, c .before .before .before .before .before .loop-test .taken)
-
-loop-again : tie.Need-loop-again Inv-loop μ-loop
-loop-again c = (omega arith, c .before .before .consider-part .kept .1 .1 .1 .1 .0 ∙ c .before .before .before .before .before .before .loop .inv .1, run-across _ _ _ (c .before .before .before .before .before .loop-test .taken) _ (c .before .before .before .before .before .before .loop .inv .2) (c .before .before .consider-part .ensures))
-
-same-length : tie.Need-same-length Inv-loop μ-loop
-same-length c = c .before .loop .inv .1
-
-returns : tie.Need-returns Inv-loop μ-loop
-returns c = run-across-end _ _ _ (c .loop-test .left) (c .before .loop .inv .2)
+-- src/loops.rt:400:1
+returns-2 : tie.Need-returns-2
+returns-2 c = c .before .before .cross-many .ensures
 
 pub consider-cross-spec : {M : Type 1} → statement M
 consider-cross-spec =
     tie.close
-    (tie.spec
-    Inv-loop
-    μ-loop
-    loop-holds
-    (λ c. search needs)
-    shared-slice-read-i
-    consider-part-requires
-    add-k
-    loop-less
-    loop-again
-    same-length
-    returns)
+    (tie.spec cross-few-requires same-length returns cross-many-requires same-length-2 returns-2)

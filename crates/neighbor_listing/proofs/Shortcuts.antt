@@ -1,0 +1,206 @@
+-- What the loops over atoms side by side find of two atoms is what `seesOf` says of them, in a box and in a tilted cell. Assumes nothing.
+use Prim.Native.Nat.{ℕ, _*_, _≤_, _<_}
+use mathlib.Core.Path.{_≡_, refl, sym, ap, _∙_, subst}
+use mathlib.Core.Bool.{Bool, true, false, cond, not, _&&_, false≢true, true≢false}
+use native.Mathlib.Nat.{mul-one, zero-mul}
+use native.Mathlib.Omega.{arith}
+use borrow.Author.Tests.{not-true, ltb-false}
+use lib.Dec.{T, ltb, ltb→lt, not-T}
+use lib.IntN.{ℤ}
+use lib.Ieee.{Float, nan, inf, fin, binary64, up, down, lt, le, fits, ofBits}
+use lib.Ieee.Bits.{is-false}
+use lib.Ieee.Fits.{add-fits}
+use Rattle.float.specs.Arith.{_⊕_, _⊖_, _⊗_, bits}
+use Rattle.float.specs.Def.{absOf}
+use Rattle.float.proofs.Branches.{both-true, yes}
+use Rattle.cell_axis.specs.Image.{nearestOf, fractionOf, NearSays}
+use Rattle.cell_axis.proofs.Law.{bounded}
+use Rattle.cell_axis.proofs.Unit.{nearest-one}
+use Rattle.cell_square.specs.Square.{SideSays}
+use Rattle.cell_square.proofs.Law.{abs-turned}
+use Rattle.cell.specs.declared.Vec3.{Vec3}
+use Rattle.cell.specs.Vec.{subOf, dotOf, norm2Of}
+use Rattle.cell.specs.Matrix.{Matrix, matrixOf, timesOf}
+use Rattle.cell.specs.Cell.{roundAxisOf}
+use Rattle.cell.specs.General.{generalBy, imageBy, roundedBy}
+use Rattle.cell_prepared.specs.Facts.{huge, shortAxis, isShort, shortImage, diffIn, imageIn}
+use Rattle.neighbor_listing.specs.declared.sight.Sight.{Sight}
+use Rattle.neighbor_listing.specs.Steps.{seesOf}
+use Rattle.neighbor_listing.specs.Sides.{turned, seesApart, isFinite, boxHolds, BoxSays, fractionsOf, inUnit, isTilted, tiltedHolds, TiltedSays}
+
+abbrev one : Float
+one = bits 0x3ff0_0000_0000_0000
+
+-- ---- three tests in one
+pub record Three (a b c : Bool) : Type 0 where
+  pub x : a ≡ true
+  pub y : b ≡ true
+  pub z : c ≡ true
+
+three : (a b c : Bool) → a && b && c ≡ true → Three a b c
+three a b c h = let p = both-true (a && b) c h in let q = both-true a b (p .0) in record { x = q .0; y = q .1; z = p .1 }
+
+-- ---- a box
+short-is : (len x : Float) → lt len huge ≡ true → shortAxis len x ≡ nearestOf len x
+unfolding shortAxis
+short-is len x h = rw (bounded len huge h)
+
+abs-either : (rising : Bool) (a b : Float) → absOf (cond rising (a ⊖ b) (b ⊖ a)) ≡ absOf (a ⊖ b)
+abs-either true a b = refl
+abs-either false a b = sym (abs-turned a b)
+
+norm2-by : (u v : Vec3) → u .x ⊗ u .x ≡ v .x ⊗ v .x → u .y ⊗ u .y ≡ v .y ⊗ v .y → u .z ⊗ u .z ≡ v .z ⊗ v .z → norm2Of u ≡ norm2Of v
+unfolding norm2Of
+norm2-by u v p q r = λ i. p i ⊕ q i ⊕ r i
+
+module _ (s : Sight) (a b : Vec3) where
+  abbrev l : Vec3
+  l = s .prepared .short
+
+  short-either : (rising : Bool) → Three (lt (absOf (a .x ⊖ b .x)) (l .x)) (lt (absOf (a .y ⊖ b .y)) (l .y)) (lt (absOf (a .z ⊖ b .z)) (l .z)) → isShort l (turned rising a b) ≡ true
+  short-either rising t = rw (abs-either rising (a .x) (b .x), abs-either rising (a .y) (b .y), abs-either rising (a .z) (b .z), t .x, t .y, t .z)
+
+  image-short : (d : Vec3) → isShort l d ≡ true → imageIn (s .prepared) d .diff ≡ shortImage l d
+  unfolding imageIn diffIn
+  image-short d h = rw h
+
+  image-sees : (d : Vec3) → isShort l d ≡ true → le (norm2Of (shortImage l d)) (s .limit) ≡ seesApart s d
+  unfolding seesApart
+  image-sees d h = rw (image-short d h)
+
+  pub box-law : {x y z : Float} → SideSays (l .x) (a .x) (b .x) x → SideSays (l .y) (a .y) (b .y) y → SideSays (l .z) (a .z) (b .z) z → {r : Bool} → r ≡ le (norm2Of (record { x = x; y = y; z = z })) (s .limit) → BoxSays s a b r
+  box-law {x} {y} {z} nx ny nz {r} e = record { is = go }
+    where
+      squared : (len v : Float) → lt len huge ≡ true → nearestOf len v ⊗ nearestOf len v ≡ shortAxis len v ⊗ shortAxis len v
+      squared len v h = ap (λ (q : Float). q ⊗ q) (sym (short-is len v h))
+
+      go : (rising : Bool) → boxHolds s a b ≡ true → r ≡ seesApart s (turned rising a b)
+      go rising h =
+          let p3 = both-true (isFinite l && lt (absOf (a .x ⊖ b .x)) (l .x) && lt (absOf (a .y ⊖ b .y)) (l .y)) (lt (absOf (a .z ⊖ b .z)) (l .z)) h in
+          let p2 = both-true (isFinite l && lt (absOf (a .x ⊖ b .x)) (l .x)) (lt (absOf (a .y ⊖ b .y)) (l .y)) (p3 .0) in
+          let p1 = both-true (isFinite l) (lt (absOf (a .x ⊖ b .x)) (l .x)) (p2 .0) in
+          let f = three (lt (l .x) huge) (lt (l .y) huge) (lt (l .z) huge) (p1 .0) in
+          let d = turned rising a b in
+          e
+          ∙ ap (λ (q : Float). le q (s .limit))
+          (norm2-by (record { x = x; y = y; z = z }) (shortImage l d)
+          (nx .image rising (p1 .1) (bounded (l .x) huge (f .x)) ∙ squared (l .x) (d .x) (f .x))
+          (ny .image rising (p2 .1) (bounded (l .y) huge (f .y)) ∙ squared (l .y) (d .y) (f .y))
+          (nz .image rising (p3 .1) (bounded (l .z) huge (f .z)) ∙ squared (l .z) (d .z) (f .z)))
+          ∙ image-sees d (short-either rising (record { x = p1 .1; y = p2 .1; z = p3 .1 }))
+
+-- ---- a tilted cell
+not-above-zero : (n : ℕ) (d : ℤ) → lt (bits 0) (fin false n d) ≡ false → n * up d ≡ 0
+unfolding lt ofBits
+not-above-zero n d h = none (n * up d) (down d) (ltb-false (0 * 1 * down d) (n * up d * 1) h)
+  where
+    none : (a c : ℕ) → a * 1 ≤ 0 * 1 * c → a ≡ 0
+    none a c h = omega arith
+
+never-below : (x len : Float) → lt (bits 0) len ≡ false → lt (absOf x) len ≡ false
+never-below nan len h = unfold absOf in unfold lt in refl
+never-below (inf s) nan h = unfold absOf in unfold lt in refl
+never-below (inf s) (inf true) h = unfold absOf in unfold lt in refl
+never-below (inf s) (inf false) h = unfold absOf in unfold lt in refl
+never-below (inf s) (fin t n d) h = unfold absOf in unfold lt in refl
+never-below (fin s m e) nan h = unfold absOf in unfold lt in refl
+never-below (fin s m e) (inf true) h = unfold absOf in unfold lt in refl
+never-below (fin s m e) (inf false) h = absurd (true≢false (unfold ofBits in unfold lt in h))
+never-below (fin s m e) (fin true n d) h = unfold absOf in unfold lt in refl
+never-below (fin s m e) (fin false n d) h = unfold absOf in unfold lt in is-false (ltb (m * up e * down d) (n * up d * down e)) (not-T (ltb (m * up e * down d) (n * up d * down e)) (λ t. none (m * up e * down d) (n * up d) (down e) (not-above-zero n d h) (ltb→lt (m * up e * down d) (n * up d * down e) t)))
+  where
+    none : (a b c : ℕ) → b ≡ 0 → a < b * c → ⊥
+    none a b c e h = omega (arith, ap (λ (k : ℕ). k * c) e, zero-mul c)
+
+one-finite : lt one (inf false) ≡ true
+unfolding ofBits lt
+one-finite = refl
+
+unit-axis : (p : Bool) (x u : Float) → p ≡ true → T (fits binary64 x) → lt (absOf x) one ≡ true → NearSays (absOf x) one x u → u ≡ roundAxisOf p x
+unfolding roundAxisOf
+unit-axis p x u e F h n = rw e (n .formula refl h one-finite ∙ unfold ofBits in nearest-one x F)
+
+dot-fits : (a b : Vec3) → T (fits binary64 (dotOf a b))
+dot-fits a b = add-fits binary64 (a .x ⊗ b .x ⊕ a .y ⊗ b .y) (a .z ⊗ b .z)
+
+module _ (s : Sight) (d : Vec3) where
+  abbrev f : Vec3
+  f = fractionsOf s d
+
+  pub record Tilts : Type 0 where
+    pub low : lt (bits 0) (s .prepared .short .x) ≡ false
+    pub skewed : s .prepared .general .skewed ≡ true
+    pub regular : s .prepared .general .singular ≡ false
+    pub px : s .prepared .lattice .px ≡ true
+    pub py : s .prepared .lattice .py ≡ true
+    pub pz : s .prepared .lattice .pz ≡ true
+    pub units : Three (lt (absOf (f .x)) one) (lt (absOf (f .y)) one) (lt (absOf (f .z)) one)
+
+  tilts : tiltedHolds s d ≡ true → Tilts
+  tilts h =
+      let p = s .prepared in
+      let w = not (lt (bits 0) (p .short .x)) in
+      let q0 = both-true (isTilted s) (inUnit f) h in
+      let q1 = both-true (w && p .general .skewed && not (p .general .singular) && p .lattice .px && p .lattice .py) (p .lattice .pz) (q0 .0) in
+      let q2 = both-true (w && p .general .skewed && not (p .general .singular) && p .lattice .px) (p .lattice .py) (q1 .0) in
+      let q3 = both-true (w && p .general .skewed && not (p .general .singular)) (p .lattice .px) (q2 .0) in
+      let q4 = both-true (w && p .general .skewed) (not (p .general .singular)) (q3 .0) in
+      let q5 = both-true w (p .general .skewed) (q4 .0) in
+      record {
+        low = not-true (lt (bits 0) (p .short .x)) (q5 .0);
+        skewed = q5 .1;
+        regular = not-true (p .general .singular) (q4 .1);
+        px = q3 .1;
+        py = q2 .1;
+        pz = q1 .1;
+        units = three (lt (absOf (f .x)) one) (lt (absOf (f .y)) one) (lt (absOf (f .z)) one) (q0 .1);
+      }
+
+  image-tilted : Tilts → imageIn (s .prepared) d .diff ≡ timesOf (matrixOf (s .prepared .lattice)) (roundedBy (s .prepared .lattice .px) (s .prepared .lattice .py) (s .prepared .lattice .pz) (f .x) (f .y) (f .z))
+  unfolding imageIn diffIn imageBy generalBy
+  image-tilted t = rw (never-below (d .x) (s .prepared .short .x) (t .low), t .skewed, t .regular)
+
+  pub tilted-law : {u v w : Float} → NearSays (absOf (f .x)) one (f .x) u → NearSays (absOf (f .y)) one (f .y) v → NearSays (absOf (f .z)) one (f .z) w
+      → {r : Bool} → r ≡ le (norm2Of (timesOf (matrixOf (s .prepared .lattice)) (record { x = u; y = v; z = w }))) (s .limit) → TiltedSays s d r
+  tilted-law {u} {v} {w} nx ny nz {r} e = record { is = go }
+    where
+      rounded : Tilts → _≡_ {A = Vec3} (record { x = u; y = v; z = w }) (roundedBy (s .prepared .lattice .px) (s .prepared .lattice .py) (s .prepared .lattice .pz) (f .x) (f .y) (f .z))
+      rounded t =
+          λ i. record {
+            x = unit-axis (s .prepared .lattice .px) (f .x) u (t .px) (dot-fits (s .prepared .general .ix) d) (t .units .x) nx i;
+            y = unit-axis (s .prepared .lattice .py) (f .y) v (t .py) (dot-fits (s .prepared .general .iy) d) (t .units .y) ny i;
+            z = unit-axis (s .prepared .lattice .pz) (f .z) w (t .pz) (dot-fits (s .prepared .general .iz) d) (t .units .z) nz i;
+          }
+
+      go : tiltedHolds s d ≡ true → r ≡ seesApart s d
+      go h =
+          let t = tilts h in
+          e ∙ ap (λ (q : Vec3). le (norm2Of (timesOf (matrixOf (s .prepared .lattice)) q)) (s .limit)) (rounded t)
+          ∙ unfold seesApart in ap (λ (q : Vec3). le (norm2Of q) (s .limit)) (sym (image-tilted t))
+
+-- ---- as the code has them
+pub box-says : (s : Sight) (a b : Vec3) {x y z q : Float} → SideSays (s .prepared .short .x) (a .x) (b .x) x → SideSays (s .prepared .short .y) (a .y) (b .y) y → SideSays (s .prepared .short .z) (a .z) (b .z) z
+    → q ≡ norm2Of (record { x = x; y = y; z = z }) → BoxSays s a b (le q (s .limit))
+box-says s a b nx ny nz e = box-law s a b nx ny nz (ap (λ (z : Float). le z (s .limit)) e)
+
+pub tilted-says : (s : Sight) (d : Vec3) {g : Vec3} {u v w q : Float} {m : Matrix} {t : Vec3} → g ≡ fractionsOf s d
+    → NearSays (absOf (g .x)) one (g .x) u → NearSays (absOf (g .y)) one (g .y) v → NearSays (absOf (g .z)) one (g .z) w
+    → m ≡ matrixOf (s .prepared .lattice) → t ≡ timesOf m (record { x = u; y = v; z = w }) → q ≡ norm2Of t → TiltedSays s d (le q (s .limit))
+tilted-says s d {g} {u} {v} {w} {q} {m} {t} e nx ny nz em et eq =
+    tilted-law s d
+    (subst (λ (h : Vec3). NearSays (absOf (h .x)) one (h .x) u) e nx)
+    (subst (λ (h : Vec3). NearSays (absOf (h .y)) one (h .y) v) e ny)
+    (subst (λ (h : Vec3). NearSays (absOf (h .z)) one (h .z) w) e nz)
+    (ap (λ (z : Float). le z (s .limit)) (eq ∙ ap norm2Of (et ∙ ap (λ (k : Matrix). timesOf k (record { x = u; y = v; z = w })) em)))
+
+pub box-turn : {s : Sight} {a b : Vec3} {r h : Bool} → BoxSays s a b r → h ≡ boxHolds s a b → (rising : Bool) → h ≡ true → r ≡ seesApart s (turned rising a b)
+box-turn n e rising t = n .is rising (sym e ∙ t)
+
+pub tilted-turn : {s : Sight} {d : Vec3} {r h : Bool} → TiltedSays s d r → h ≡ tiltedHolds s d → (rising : Bool) (a b : Vec3) → d ≡ turned rising a b → h ≡ true → r ≡ seesApart s (turned rising a b)
+tilted-turn {s} n e rising a b ed t = n .is (sym e ∙ t) ∙ ap (λ (d : Vec3). seesApart s d) ed
+
+-- ---- the loops' test is the scene's
+pub turned-sees : (s : Sight) (rising : Bool) (a b : Vec3) → seesApart s (turned rising a b) ≡ seesOf s (cond rising a b) (cond rising b a)
+unfolding seesApart seesOf
+turned-sees s true a b = refl
+turned-sees s false a b = refl

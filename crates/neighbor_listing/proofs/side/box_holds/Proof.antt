@@ -1,0 +1,33 @@
+use borrow.Author.Needs.{needs}
+use Rattle.neighbor_listing.proofs.side.box_holds.Statement.{statement}
+use Rattle.neighbor_listing.proofs.side.box_holds.Tie as tie
+
+-- src/side.rt:95:5
+is-finite-requires : tie.Need-is-finite-requires
+is-finite-requires c κs = search needs
+
+-- src/side.rt:96:11
+in-length-requires : tie.Need-in-length-requires
+in-length-requires c κs = search needs
+
+-- src/side.rt:97:11
+in-length-requires-2 : tie.Need-in-length-requires-2
+in-length-requires-2 c κs = search needs
+
+-- src/side.rt:98:11
+in-length-requires-3 : tie.Need-in-length-requires-3
+in-length-requires-3 c κs = search needs
+
+-- src/side.rt:91:1
+returns : tie.Need-returns
+returns c = rw (c .before .before .before .is-finite .ensures, c .before .before .in-length .ensures, c .before .in-length2 .ensures, c .in-length3 .ensures)
+
+pub box-holds-spec : {M : Type 1} → statement M
+box-holds-spec =
+    tie.close
+    (tie.spec
+    is-finite-requires
+    in-length-requires
+    in-length-requires-2
+    in-length-requires-3
+    returns)
