@@ -124,7 +124,7 @@ def draw_ratios(text, picture):
         raise Unreadable("expected tables with the columns `unit` and `ratio`, found none")
     plt = _pyplot()
     heights = [len(rows) for _, rows in tables]
-    ratios = [r for _, rows in tables for _, r, _ in rows]
+    ratios = [x for _, rows in tables for _, r, asked in rows for x in (r, asked) if x is not None]
     size = (9, 1.2 + 0.27 * sum(heights) + 0.6 * len(tables))
     figure, axes = plt.subplots(len(tables), 1, figsize=size, squeeze=False, gridspec_kw={"height_ratios": heights}, layout="constrained")
     for (heading, rows), (a,) in zip(tables, axes):
@@ -138,8 +138,8 @@ def draw_ratios(text, picture):
         a.annotate("ratio", (1.015, len(rows) + 0.85), xycoords=("axes fraction", "data"), color=GREY, annotation_clip=False)
         a.axvline(1, color=GREY, lw=1)
         a.set_xscale("log")
+        a.set_xticks([0.05, 0.1, 0.2, 0.5, 1, 2, 3], ["0.05", "0.1", "0.2", "0.5", "1", "2", "3"])
         a.set_xlim(min(0.09, 0.8 * min(ratios)), max(4, 1.2 * max(ratios)))
-        a.set_xticks([0.1, 0.2, 0.5, 1, 2, 3], ["0.1", "0.2", "0.5", "1", "2", "3"])
         a.minorticks_off()
         a.set_yticks(list(places), [r[0] for r in rows])
         a.tick_params(axis="y", length=0)
