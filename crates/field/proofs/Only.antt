@@ -21,14 +21,13 @@ use Rattle.skin.proofs.Only.{within-skin-only}
 use Rattle.shells.proofs.Only.{add-shells-only}
 use Rattle.strike.proofs.Only.{strike-only, put-only}
 use Rattle.sheet.proofs.Only.{read-only}
-use Rattle.sheet_answer.proofs.Only.{solve-only}
+use Rattle.sheet_answer.proofs.Only.{solve-only, solve-either-only}
 use Rattle.clumps_label.proofs.Only.{label-only}
 use Rattle.clumps_answer.proofs.Only.{solve-clumps-only}
 use Rattle.sheet_written.proofs.Only.{write-only}
 use Rattle.sheet_rewritten.proofs.Only.{rewrite-only}
 use Rattle.sheet_either.proofs.Only.{read-either-only}
 use Rattle.sheet_moved.proofs.Only.{to-two-only, to-one-only}
-use Rattle.sheet_answer.proofs.TellingEither.{solve-either-only}
 use Rattle.field_structs.proofs.Only.{shown-only, shown-alone}
 use Rattle.field_structs.specs.Unique.{OneOutcome}
 use Rattle.field_structs.specs.declared.FlatPart.{FlatPart}

@@ -7,3 +7,4 @@ pub mod Taken
 pub mod Strikes
 pub mod Shown
 pub mod Unique
+pub mod Rules

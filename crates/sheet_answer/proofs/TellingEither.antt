@@ -12,7 +12,6 @@ use Rattle.answer.specs.Seen.{Seen, answered, refused, refusedBy, numberOf, pla
 use Rattle.answer.specs.declared.Whole.{Whole}
 use Rattle.answer.specs.declared.Refusal.{Refusal}
 use Rattle.answer.specs.declared.Refusal.the-variants.{Lengths}
-use Rattle.answer.proofs.Only.{whole-only}
 use Rattle.lists.proofs.Cases.{by-test, impossible}
 use Rattle.sheet_lines.specs.Grammar.{AllWhole, joinAll}
 use Rattle.sheet_lines_two.specs.Twos.{toldOf, twosOf}
@@ -153,9 +152,6 @@ either-fits s out r out′ says n a =
     let k : n ≡ length (printedEither s) = cc in
     fits-by s out out′ n (ltb-false (length out) 90133 e) k (ap (λ (o : Outcome). o .out) q))
     says
-
-pub solve-either-only : (s out : List ℕ) (r t : Whole) (u v : List ℕ) → SolveEitherSays s out r u → SolveEitherSays s out t v → (r ≡ t) × (u ≡ v)
-solve-either-only s out r t u v p q = (whole-only r t (ap (λ (o : Outcome). o .shown) (p ∙ sym q)), ap (λ (o : Outcome). o .out) (p ∙ sym q))
 
 -- ---- in another order
 either-two : (s : List ℕ) → formed.isTwo (twosOf s) ≡ true → eitherSound s ≡ untyped (sheetTwo s)

@@ -8,9 +8,11 @@ use sheet_moved::to_one;
 use sheet_moved::to_two;
 use sheet_printed::put_refusal;
 ghost use mathlib.Core.Path.{_≡_};
-ghost use lib.ListN.{take};
+ghost use Prim.Native.Nat.{_≤_};
+ghost use lib.ListN.{length, take};
 ghost use Rattle.sheet_answer.specs.Either.{solveEitherOf};
 ghost use Rattle.sheet_moved.specs.Moved.{toOneOf, toTwoOf};
+ghost use Rattle.sheet_moved.specs.Whole.{movedOne, movedTwo, laidWhole};
 
 // The answer of one sheet, or its refusal's line; `out` is room to write it in.
 pub fn print_either(sheet: &[u8], out: &mut [u8])
@@ -82,32 +84,50 @@ pub fn run_either(input: &mut [u8; 65537], out: &mut [u8; 90133]) -> usize
     read_and_print_either(input, out)
 }
 
+// With room for the longest sheet, every sheet's whole text.
+fn print_whole_two(sheet: &[u8], out: &mut [u8])
+    requires { ⌜ 51243 ≤ length (now out) ⌝ }
+    ensures { λ _. ⌜ now (out .exit) ≡ laidWhole (movedTwo (now (sheet .entry))) (now (out .entry)) .out ⌝ }
+{
+    print_two(sheet, out);
+}
+
 fn read_and_print_two(input: &mut [u8], out: &mut [u8]) -> usize
-    ensures { λ got. ⌜ now (out .exit) ≡ toTwoOf (take got (now (input .exit))) (now (out .entry)) .out ⌝ }
+    requires { ⌜ 51243 ≤ length (now out) ⌝ }
+    ensures { λ got. ⌜ now (out .exit) ≡ laidWhole (movedTwo (take got (now (input .exit)))) (now (out .entry)) .out ⌝ }
 {
     let got = io::read_full(STDIN_FILENO, input);
-    print_two(&input[..got], out);
+    print_whole_two(&input[..got], out);
     got
 }
 
 // Room for one byte more than a sheet may have, and for the longest form: a header, 1,024 atoms, 1,024 exclusions; how many bytes it read.
 pub fn run_two(input: &mut [u8; 65537], out: &mut [u8; 51243]) -> usize
-    ensures { λ got. ⌜ now (out .exit) ≡ toTwoOf (take got (now (input .exit))) (now (out .entry)) .out ⌝ }
+    ensures { λ got. ⌜ now (out .exit) ≡ laidWhole (movedTwo (take got (now (input .exit)))) (now (out .entry)) .out ⌝ }
 {
     read_and_print_two(input, out)
 }
 
+// With room for the longest sheet, every sheet's whole text.
+fn print_whole_one(sheet: &[u8], out: &mut [u8])
+    requires { ⌜ 43049 ≤ length (now out) ⌝ }
+    ensures { λ _. ⌜ now (out .exit) ≡ laidWhole (movedOne (now (sheet .entry))) (now (out .entry)) .out ⌝ }
+{
+    print_one(sheet, out);
+}
+
 fn read_and_print_one(input: &mut [u8], out: &mut [u8]) -> usize
-    ensures { λ got. ⌜ now (out .exit) ≡ toOneOf (take got (now (input .exit))) (now (out .entry)) .out ⌝ }
+    requires { ⌜ 43049 ≤ length (now out) ⌝ }
+    ensures { λ got. ⌜ now (out .exit) ≡ laidWhole (movedOne (take got (now (input .exit)))) (now (out .entry)) .out ⌝ }
 {
     let got = io::read_full(STDIN_FILENO, input);
-    print_one(&input[..got], out);
+    print_whole_one(&input[..got], out);
     got
 }
 
 // Room for one byte more than a sheet may have, and for the longest written form; how many bytes it read.
 pub fn run_one(input: &mut [u8; 65537], out: &mut [u8; 43049]) -> usize
-    ensures { λ got. ⌜ now (out .exit) ≡ toOneOf (take got (now (input .exit))) (now (out .entry)) .out ⌝ }
+    ensures { λ got. ⌜ now (out .exit) ≡ laidWhole (movedOne (take got (now (input .exit)))) (now (out .entry)) .out ⌝ }
 {
     read_and_print_one(input, out)
 }

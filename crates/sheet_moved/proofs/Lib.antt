@@ -1,3 +1,4 @@
 pub mod Moves
 pub mod Only
 pub mod ThereAndBack
+pub mod Whole

@@ -1,0 +1,12 @@
+use Rattle.sheet_moved.proofs.Whole.{one-whole}
+use Rattle.sheet_written.specs.Write.{Outcome}
+use borrow.Author.Needs.{needs}
+use mathlib.Core.Path.{ap, _∙_}
+use Rattle.sheet_console.proofs.forms.print_whole_one.Statement.{statement}
+use Rattle.sheet_console.proofs.forms.print_whole_one.Tie as tie
+
+returns : tie.Need-returns
+returns c = c .before .before .print-one .ensures ∙ ap (λ (o : Outcome). o .out) (one-whole (c .before .before .before .before .before .before .args .sheet .now) (c .before .before .before .before .before .before .args .out .now) (c .before .before .before .before .before .before .pre))
+
+pub print-whole-one-spec : {M : Type 1} → statement M
+print-whole-one-spec = tie.close (tie.spec (λ c κs. search needs) (λ c. search needs) returns)
