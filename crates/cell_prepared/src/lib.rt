@@ -76,7 +76,7 @@ fn short_image(s: Vec3, d: Vec3) -> Vec3
     }
 }
 
-// The difference alone. It is the image's, and so is `quick_diff`; the counts are asked beside it.
+// The difference alone. It is the image's; the counts are asked beside it.
 fn diff_in(p: Prepared, d: Vec3) -> Vec3
     ensures { λ r. ⌜ r ≡ diffIn p d ⌝ }
 {
@@ -89,10 +89,10 @@ fn diff_in(p: Prepared, d: Vec3) -> Vec3
     kernel::image_by(l, g, d)
 }
 
-// The same for an innermost loop. Small, so that it goes into the loop: what is short, or free because there is no cell, is done there, and only
-// the rest is a call, for which the facts are copied.
-fn quick_diff(p: Prepared, d: Vec3) -> Vec3
-    ensures { λ r. ⌜ r ≡ diffIn p d ⌝ }
+// The same for an innermost loop that carries on with the difference. Small, so that it goes into the loop: what is short, or free because there is no cell,
+// is done there, and only the rest is a call, for which the facts are copied.
+pub fn quick_diff(p: Prepared, d: Vec3) -> Vec3
+    ensures { λ r. ⌜ r ≡ imageIn p d .diff ⌝ }
 {
     let s = p.short;
     if is_short(s, d) {

@@ -7,7 +7,7 @@ use native.Mathlib.Omega.{arith}
 use mathlib.Core.Bool.{Bool, true, false, not, _&&_, _||_, cond, Bool·beq, false≢true, true≢false}
 use lib.IntN.{ℤ, pos, negsuc}
 use lib.Dec.{T, ltb, eqb, eqb→eq, ltb→lt, lt→ltb, nltb→le, not-T, eqb-refl}
-use lib.Ieee.{Float, nan, inf, fin, binary64, up, down, neg, add, sub, sum, rem, lt, le, eq, ne, round, fits, isNan, level}
+use lib.Ieee.{Float, nan, inf, fin, binary64, up, down, neg, add, sub, sum, rem, lt, le, eq, ne, round, fits, isNan, level, ofBits}
 use lib.Ieee.Fits.{and-l, and-r, and-i, up-pos, down-pos}
 use lib.Ieee.Compare.{differs-from-itself}
 use Rattle.float.specs.Def.{absOf, negative, maxOf, minOf, clampOf, remEuclidOf}
@@ -324,6 +324,14 @@ nan-told x h = sym (differs-from-itself x (yes h))
 
 pub number-told : (x : Float) → ne x x ≡ false → T (not (isNan x))
 number-told x h = subst (λ (b : Bool). T (not b)) (sym (no-nan x h)) tt
+
+-- 0 in place of a not-a-number
+pub numbered : (x : Float) {y : Float} → y ≡ cond (ne x x) (ofBits binary64 0) x → T (not (isNan y))
+numbered x {y} e = subst (λ (z : Float). T (not (isNan z))) (sym e) (go (ne x x) refl)
+  where
+    go : (b : Bool) → ne x x ≡ b → T (not (isNan (cond b (ofBits binary64 0) x)))
+    go true h = unfold ofBits in unfold isNan in tt
+    go false h = number-told x h
 
 pub max-nan-left : (x y : Float) → ne x x ≡ true → y ≡ maxOf x y
 unfolding maxOf

@@ -1,20 +1,23 @@
 -- The fields of the bits of a finite f64 above zero, and the root by them; and the other cases of `root`. Assumes nothing.
-use mathlib.Core.Path.{_≡_, refl, sym, ap, _∙_, subst}
+use mathlib.Core.Path.{_≡_, refl, sym, ap, ap₂, _∙_, subst}
 use mathlib.Core.Logic.{_⊎_, inl, inr}
 use Prim.Native.Nat.{ℕ, zero, suc, _+_, _-_, _*_, _/_, _%_, _^_, _≤_, _<_}
-use native.Mathlib.Nat.{lt-irrefl, mul-one, zero-mul, mul-pos, zero-lt-suc, mul-assoc, mul-right-comm, mod-lt, mul-div-cancel, eq-zero-or-pos}
+use native.Mathlib.Nat.{lt-irrefl, lt-of-lt-of-le, le-of-eq, mul-lt-mul-of-pos-right, zero-add, mul-one, zero-mul, mul-pos, zero-lt-suc, mul-assoc, mul-right-comm, mod-lt, mul-div-cancel, eq-zero-or-pos}
 use native.Mathlib.Omega.{arith}
 use mathlib.Core.Bool.{Bool, true, false, not, _&&_, _||_, cond, Bool·beq, false≢true, true≢false}
-use lib.IntN.{ℤ, pos}
+use lib.IntN.{ℤ, pos, negsuc}
 use lib.Dec.{T, leb, eqb, eqb→eq, ltb→lt, lt→ltb, eqb·suc-zero, not-T}
 use lib.Pow.{pow-pos, pow-add, field}
-use lib.Ieee.{Float, nan, inf, fin, binary64, up, down, odd, lt, eq, fits, isNan, toBits, ofFields}
+use lib.Ieee.{Float, nan, inf, fin, binary64, up, down, odd, sub, lt, eq, fits, isNan, toBits, ofFields}
 use lib.Ieee.Bits.{ofBits-toBits, is-false}
 use lib.Ieee.Fits.{down-pos, up-pos}
 use lib.Ieee.Exact.{HasValue, odd-sign}
 use lib.Ieee.Positive.{positive}
 use Rattle.float.specs.Def.{rootScaled, rootOf}
-use Rattle.float.proofs.Branches.{zero+, yes, no, zero-left}
+use Rattle.float.specs.Steps.{EvenOf, RootBits}
+use Rattle.float.proofs.Normal.{Norm, shift-is, shift-within, rescaled}
+use Rattle.float.proofs.Fraction.{lt-at}
+use Rattle.float.proofs.Branches.{zero+, both-true, yes, no, zero-left}
 use Rattle.float.proofs.Patterns.{ofBits-is, normal-is}
 
 -- ---- a value's fields
@@ -202,6 +205,105 @@ units-of x p g = elim (eq-zero-or-pos (fieldOf (toBits binary64 x))) [
 
     under : (f : ℕ) → f < 2047 → 0 < f → f - 1 < 2046
     under f h k = omega arith
+
+-- ---- a number with its leading digit: above 2 ^ -1022
+abbrev pub least : Float
+least = fin false 1 (negsuc 1021)
+
+pub normal-positive : (x : Float) → lt least x ≡ true → lt x (inf false) ≡ true → T (positive x)
+unfolding lt
+normal-positive nan h k = absurd (false≢true h)
+normal-positive (inf true) h k = absurd (false≢true h)
+normal-positive (inf false) h k = absurd (false≢true k)
+normal-positive (fin true m e) h k = absurd (false≢true h)
+normal-positive (fin false m e) h k = lt→ltb 0 m (go m (up e * 2 ^ 1022) (1 * 1 * down e) (subst (λ (z : ℕ). 1 * 1 * down e < z) (mul-assoc m (up e) (2 ^ 1022)) (ltb→lt (1 * 1 * down e) (m * up e * 2 ^ 1022) (yes h))))
+  where
+    go : (m u a : ℕ) → a < m * u → 0 < m
+    go zero u a h = absurd (none a (0 * u) h (zero-mul u))
+      where
+        none : (a b : ℕ) → a < b → b ≡ 0 → ⊥
+        none a b h k = omega arith
+    go (suc m) u a h = zero-lt-suc m
+
+sign-false : (x : Float) (s : Bool) (a c : ℕ) → T (positive x) → HasValue x s a c → HasValue x false a c
+sign-false nan s a c p v = absurd p
+sign-false (inf t) s a c p v = absurd p
+sign-false (fin true m e) s a c p v = absurd p
+sign-false (fin false m e) s a c p v = (refl, v .1)
+
+module _ (x : Float) (p : T (positive x)) (g : T (fits binary64 x)) where
+  pub normal-field : lt least x ≡ true → 0 < fieldOf (bits x p g)
+  normal-field h = elim (eq-zero-or-pos (fieldOf (bits x p g))) [
+    | inl z ↦ absurd (never z)
+    | inr l ↦ l
+  ]
+    where
+      small : digitsOf (bits x p g) * 2 ^ 0 * 2 ^ 1022 < 1 * 2 ^ 1074
+      small = lt-of-lt-of-le (mul-lt-mul-of-pos-right (subst (λ (z : ℕ). z < 2 ^ 52) (sym (mul-one (digitsOf (bits x p g)))) (mod-lt (bits x p g) (pow-pos 52))) (pow-pos 1022)) (le-of-eq refl)
+
+      none : (a b : ℕ) → a < b → b < a → ⊥
+      none a b h k = omega arith
+
+      never : fieldOf (bits x p g) ≡ 0 → ⊥
+      never z =
+          none (1 * 2 ^ 1074) (digitsOf (bits x p g) * 2 ^ 0 * 2 ^ 1022)
+          (ltb→lt (1 * 2 ^ 1074) (digitsOf (bits x p g) * 2 ^ 0 * 2 ^ 1022)
+          (yes (sym (lt-at least x 1 (2 ^ 1022) (digitsOf (bits x p g) * 2 ^ 0) (2 ^ 1074) (pow-pos 1022) (pow-pos 1074) (refl, refl) (sign-false x (leb (2 ^ 63) (bits x p g)) (digitsOf (bits x p g) * 2 ^ 0) (2 ^ 1074) p (low-val x p g z))) ∙ h)))
+          small
+
+  pub normal-even : 0 < fieldOf (bits x p g) → {v h : ℕ} → v ≡ ((digitsOf (bits x p g) + 2 ^ 52) * 2 ^ ((fieldOf (bits x p g) + 1021) % 2)) % 2 ^ 64 → h ≡ (fieldOf (bits x p g) + 1021) / 2 - 484 → EvenOf x v h
+  normal-even l {v} {h} ev eh =
+      let m = digitsOf (bits x p g) + 2 ^ 52 in
+      let f = fieldOf (bits x p g) in
+      let d = (f + 1021) % 2 in
+      let n = norm (digitsOf (bits x p g)) (mod-lt (bits x p g) (pow-pos 52)) in
+      let two = mod-lt (f + 1021) (zero-lt-suc 1) in
+      let whole : (m * 2 ^ d) % 2 ^ 64 ≡ m * 2 ^ d = subst (λ (k : ℕ). (m * 2 ^ k) % 2 ^ 64 ≡ m * 2 ^ k) (zero-add d) (shift-is m 0 d n two) in
+      let within : (2 ^ 52 ≤ (m * 2 ^ d) % 2 ^ 64) × ((m * 2 ^ d) % 2 ^ 64 < 2 ^ 54) =
+      subst (λ (k : ℕ). (2 ^ 52 ≤ (m * 2 ^ k) % 2 ^ 64) × ((m * 2 ^ k) % 2 ^ 64 < 2 ^ 54)) (zero-add d) (shift-within m 0 d n two) in
+      record {
+        low = subst (λ (z : ℕ). 2 ^ 52 ≤ z) (sym ev) (within .0);
+        high = subst (λ (z : ℕ). z < 2 ^ 54) (sym ev) (within .1);
+        few = subst (λ (z : ℕ). z ≤ 1049) (sym eh) (few f (field-lt x p g));
+        same =
+            ap rootScaled (ap₂ (λ (a b : ℕ). a * 4 ^ (b + 36)) (ev ∙ whole) eh ∙ rescaled m d ((f + 1021) / 2 - 484) (f - 1) (sums f l))
+            ∙ high-root x p g (λ z. some f l z);
+      }
+    where
+      norm : (t : ℕ) → t < 2 ^ 52 → Norm (t + 2 ^ 52) 0
+      norm t h = record { low = omega arith; high = omega arith; shift = omega arith }
+
+      few : (f : ℕ) → f < 2047 → (f + 1021) / 2 - 484 ≤ 1049
+      few f h = omega arith
+
+      sums : (f : ℕ) → 0 < f → (f + 1021) % 2 + 2 * ((f + 1021) / 2 - 484) ≡ f - 1 + 54
+      sums f h = omega arith
+
+      some : (f : ℕ) → 0 < f → f ≡ 0 → ⊥
+      some f h e = omega arith
+
+finite-apart : (x y : Float) → lt least x ≡ true → lt (sub binary64 x y) (inf false) ≡ true → (lt x (inf false) ≡ true) × T (not (isNan y))
+unfolding lt sub isNan
+finite-apart nan y h k = absurd (false≢true h)
+finite-apart (inf true) y h k = absurd (false≢true h)
+finite-apart (inf false) nan h k = absurd (false≢true k)
+finite-apart (inf false) (inf true) h k = absurd (false≢true k)
+finite-apart (inf false) (inf false) h k = absurd (false≢true k)
+finite-apart (inf false) (fin t n d) h k = absurd (false≢true k)
+finite-apart (fin s m e) nan h k = absurd (false≢true k)
+finite-apart (fin s m e) (inf t) h k = (refl, tt)
+finite-apart (fin s m e) (fin t n d) h k = (refl, tt)
+
+pub normal-told : (x y : Float) → T (fits binary64 x) → lt least x && lt (sub binary64 x y) (inf false) ≡ true → (T (positive x) × (0 < fieldOf (toBits binary64 x))) × T (not (isNan y))
+normal-told x y g h =
+    let both = both-true (lt least x) (lt (sub binary64 x y) (inf false)) h in
+    let ends = finite-apart x y (both .0) (both .1) in
+    let p = normal-positive x (both .0) (ends .0) in
+    ((p, normal-field x p g (both .0)), ends .1)
+
+-- ---- bits, or 0
+pub no-bits : (y : Float) → RootBits y 0
+no-bits y = record { few = omega arith; right = λ h. absurd (omega arith) }
 
 -- ---- the other cases
 pub positive-of : (x : Float) → lt zero+ x ≡ true → lt x (inf false) ≡ true → T (positive x)

@@ -5,7 +5,7 @@ use mathlib.Core.Bool.{false, cond}
 use mathlib.Core.List.{List}
 use lib.ListN.{getD}
 use lib.IntN.{pos, negsuc}
-use lib.Ieee.{Float, fin, binary64, neg, add, lt, eq}
+use lib.Ieee.{Float, fin, binary64, neg, add, lt, eq, ofBits}
 use Rattle.float.specs.Def.{wholeRoot, rootScaled, rootOf}
 
 -- The whole root of n is r or one of the next k - 1 numbers; with k = 1 it is r.
@@ -43,6 +43,11 @@ pub record EvenOf (x : Float) (v h : ℕ) : Type 0 where
 -- r is 0, or the whole number nearest to the root of v * 2 ^ 52: half of the whole root of v * 2 ^ 54, rounded up.
 pub record Confirmed (v r : ℕ) : Type 0 where
   pub nearest : 0 < r → (wholeRoot 54 (v * 2 ^ 54) + 1) / 2 ≡ r
+
+-- b is 0, or the bits of the root y
+pub record RootBits (y : Float) (b : ℕ) : Type 0 where
+  pub few : b ≤ 2047 * 2 ^ 52
+  pub right : 0 < b → ofBits binary64 b ≡ y
 
 -- r with x's sign, for an r that is not negative, and x itself where x is a zero
 unfoldable pub signOf : Float → Float → Float

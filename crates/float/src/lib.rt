@@ -1,13 +1,14 @@
 // What Rust's library gives on an `f64`, and IEEE 754's square root. Each contract is one equation with a definition of specs/Def.antt.
 ghost use mathlib.Core.Path.{_≡_};
-ghost use Prim.Native.Nat.{_+_, _*_, _/_, _^_, _≤_, _<_};
+ghost use Prim.Native.Nat.{_+_, _*_, _/_, _%_, _^_, _≤_, _<_};
 ghost use lib.Dec.{T};
 ghost use lib.Ieee.Positive.{positive};
-ghost use mathlib.Core.Bool.{true, false, cond};
+ghost use mathlib.Core.Bool.{true, false, not, cond};
 ghost use lib.IntN.{pos};
-ghost use lib.Ieee.{fin, inf, lt, binary64, toUnsigned, toSigned, ofBits, toBits};
+ghost use lib.Ieee.{fin, inf, lt, isNan, binary64, toUnsigned, toSigned, ofBits, toBits};
 ghost use Rattle.float.specs.Def.{absOf, negative, maxOf, minOf, clampOf, remEuclidOf, truncOf, floorOf, roundOf, wholeRoot, rootScaled, rootOf};
-ghost use Rattle.float.specs.Steps.{signOf, halfUp, Within, Digits, Evened, EvenOf};
+ghost use Rattle.float.specs.Estimate.{estimateOf};
+ghost use Rattle.float.specs.Steps.{signOf, halfUp, Within, Digits, Evened, EvenOf, RootBits};
 
 mod quick;
 mod roots;
@@ -308,39 +309,80 @@ pub fn root(x: f64) -> f64
     }
 }
 
-// The root of v * 4^(h + 36) / 4^600 from a guess at its digits.
-fn quick_even(v: u64, h: u64, s: u64) -> f64
+// The bits of the root of v * 4^(h + 36) / 4^600 from a guess at its digits, or 0.
+fn quick_even(v: u64, h: u64, s: u64) -> u64
     requires { ⌜ (2 ^ 52 ≤ v) × (v < 2 ^ 54) × (h ≤ 1049) ⌝ }
     requires { ⌜ (2 ^ 52 ≤ s) × (s < 2 ^ 53) ⌝ }
-    ensures { λ r. ⌜ r ≡ rootScaled (v * 4 ^ (h + 36)) ⌝ }
+    ensures { λ r. ⌜ RootBits (rootScaled (v * 4 ^ (h + 36))) r ⌝ }
 {
     let r = quick::confirmed(v, s);
     if 0 < r {
-        f64::from_bits((h + 484) * 4503599627370496 + r)
+        (h + 484) * 4503599627370496 + r
     } else {
-        root_even(v, h)
+        0
     }
 }
 
-fn quick_finite(x: f64) -> f64
-    requires { ⌜ T (positive x) ⌝ }
-    ensures { λ r. ⌜ r ≡ rootOf x ⌝ }
+// A number with its leading digit so, by its bits, without a count of zeros. h + 484 is p / 2 again, which the bits of the root have.
+fn normal_of(x: f64) -> Even
+    requires { ⌜ T (positive x) × (0 < toBits binary64 x / 2 ^ 52 % 2048) ⌝ }
+    ensures { λ r. ⌜ EvenOf x (r .v) (r .h) ⌝ }
 {
-    let e = even_of(x);
-    quick_even(e.v, e.h, quick::guess(x))
+    let bits = f64::to_bits(x);
+    let p = bits / 4503599627370496 % 2048 + 1021;
+    let m = bits % 4503599627370496 + 4503599627370496;
+    Even {
+        v: m << (p % 2),
+        h: p / 2 - 484,
+    }
 }
 
-// The same root for inner loops: estimated, and confirmed in whole numbers.
+fn normal_bits(x: f64, guess: f64) -> u64
+    requires { ⌜ T (positive x) × (0 < toBits binary64 x / 2 ^ 52 % 2048) ⌝ }
+    requires { ⌜ T (not (isNan guess)) ⌝ }
+    ensures { λ r. ⌜ RootBits (rootOf x) r ⌝ }
+{
+    let e = normal_of(x);
+    quick_even(e.v, e.h, quick::significand(guess))
+}
+
+// The bits of the root of x, or 0 where the guess is not confirmed or x is not above 2^-1022 and finite. One difference tells that x is finite and that
+// the guess is a number.
+fn quick_bits(x: f64, guess: f64) -> u64
+    ensures { λ r. ⌜ RootBits (rootOf x) r ⌝ }
+{
+    if (x > 2.2250738585072014e-308) & (x - guess < 1.0 / 0.0) {
+        normal_bits(x, guess)
+    } else {
+        0
+    }
+}
+
+// An estimate of the root, of which nothing is proved, for a loop before that of the roots: no branch and no call is in it, so that two go in one instruction.
+pub fn root_estimate(x: f64) -> f64
+    ensures { λ r. ⌜ r ≡ estimateOf x ⌝ }
+{
+    quick::estimate(pick(x != x, 0.0, x))
+}
+
+// The same root from any guess at its digits: a good one is confirmed in whole numbers, after a bad one the digits are found.
+// Small, so that it goes into its loop.
+pub fn root_from(x: f64, guess: f64) -> f64
+    ensures { λ r. ⌜ r ≡ rootOf x ⌝ }
+{
+    let bits = quick_bits(x, guess);
+    if 0 < bits {
+        f64::from_bits(bits)
+    } else {
+        root(x)
+    }
+}
+
+// The same root for a loop that has no other for the estimates.
 pub fn quick_root(x: f64) -> f64
     ensures { λ r. ⌜ r ≡ rootOf x ⌝ }
 {
-    if x > 0.0 {
-        if x < 1.0 / 0.0 { quick_finite(x) } else { x }
-    } else if x == 0.0 {
-        x
-    } else {
-        0.0 / 0.0
-    }
+    root_from(x, root_estimate(x))
 }
 
 pub fn infinity() -> f64

@@ -3,12 +3,16 @@
 use crate::choose;
 ghost use Prim.Native.Nat.{_^_, _≤_, _<_};
 ghost use lib.Dec.{T};
-ghost use lib.Ieee.Positive.{positive};
+ghost use lib.Ieee.{isNan};
+ghost use mathlib.Core.Bool.{not};
+ghost use mathlib.Core.Path.{_≡_};
+ghost use Rattle.float.specs.Estimate.{newtonOf};
 ghost use Rattle.float.specs.Steps.{Confirmed};
 
 // An estimate of the root of x: three of Newton's steps for 1 / root from its bits, and one for the root.
-fn estimate(x: f64) -> f64
-    requires { ⌜ T (positive x) ⌝ }
+pub(crate) fn estimate(x: f64) -> f64
+    requires { ⌜ T (not (isNan x)) ⌝ }
+    ensures { λ r. ⌜ r ≡ newtonOf x ⌝ }
 {
     let half = 0.5 * x;
     let a = f64::from_bits(6910469410427058089 - f64::to_bits(x) / 2 % 4611686018427387904);
@@ -19,12 +23,12 @@ fn estimate(x: f64) -> f64
     s + 0.5 * d * (x - s * s)
 }
 
-// The significand of the estimate, with its leading digit.
-pub(crate) fn guess(x: f64) -> u64
-    requires { ⌜ T (positive x) ⌝ }
+// The significand of a guess, with its leading digit.
+pub(crate) fn significand(guess: f64) -> u64
+    requires { ⌜ T (not (isNan guess)) ⌝ }
     ensures { λ r. ⌜ (2 ^ 52 ≤ r) × (r < 2 ^ 53) ⌝ }
 {
-    crate::to_bits(estimate(x)) % 4503599627370496 + 4503599627370496
+    f64::to_bits(guess) % 4503599627370496 + 4503599627370496
 }
 
 // The whole number nearest to the root of v * 2^52, if it is s or next to s, and 0 if not. With s = a * 2^26 + b the square of s is p * 2^52 + q. `left` is

@@ -1,5 +1,6 @@
 pub mod Desks
 pub mod Blocks
+pub mod Bonded
 pub mod Folds
 pub mod Kernels
 pub mod Near

@@ -1,17 +1,17 @@
 -- What a pair's place adds, Coulomb's and a bond's: the pair's own step, or nothing where it is skipped. Assumes nothing.
-use mathlib.Core.Path.{_≡_, refl, ap, _∙_}
+use mathlib.Core.Path.{_≡_, refl}
 use mathlib.Core.Bool.{Bool, true, false, cond, _||_}
 use mathlib.Core.List.{List}
 use Prim.Native.Nat.{ℕ, _+_, _*_, _/_, _<_}
-use lib.Ieee.{Float, lt}
+use lib.Ieee.{Float}
 use lib.ListN.{length, getD}
-use Rattle.float.specs.Literals.{f0, tiny}
+use Rattle.float.specs.Literals.{f0}
 use Rattle.float.specs.Arith.{_⊗_, at}
 use Rattle.lists.specs.Atoms.{atomsOf}
 use Rattle.lists.proofs.Rows.{rows-at}
 use Rattle.ranges.specs.Rows.{isAbsent}
 use Rattle.cell.specs.declared.Vec3.{Vec3}
-use Rattle.cell.specs.Vec.{scaleOf, norm2Of, normOf, positionAt}
+use Rattle.cell.specs.Vec.{scaleOf, norm2Of, positionAt}
 use Rattle.cell_prepared.specs.declared.Prepared.{Prepared}
 use Rattle.cell_prepared.specs.Facts.{imageIn}
 use Rattle.virial.specs.declared.Sum.{Sum}
@@ -20,11 +20,10 @@ use Rattle.potentials_pair.specs.declared.Pull.{Pull}
 use Rattle.potentials_pair.specs.declared.Pull.the-variants.{Skip}
 use Rattle.potentials_pair.specs.Pull.{Total, held, after, skips}
 use Rattle.potentials_pair.specs.Coulomb.{neutral, coulombNear, coulombPull}
-use Rattle.potentials_pair.specs.Bond.{bondNear, bondPull, bondEnergy, bondSlope}
 use Rattle.potentials.specs.declared.Bond.{Bond}
 use Rattle.potentials.specs.Terms.{step, displaced, coulombPair, bondPair, bondStep}
 use Rattle.potentials.specs.Steps.{coulombStep}
-use Rattle.potentials.specs.Blocks.{blockStep, scaledPull}
+use Rattle.potentials.specs.Blocks.{blockStep, scaledPull, bondAt}
 
 pub skip-one : (n : Bool) (t : Total) (p : ℕ × ℕ) (x : Pull) → after t p (cond n Skip x) ≡ cond n t (after t p x)
 skip-one true t p x = refl
@@ -51,14 +50,8 @@ module _ (bond : Bond) (p : Prepared) (table : List ℕ) (lengths ks xs : List F
   bond-absent h t = unfold bondStep in unfold step in rw (rows-at table b l, ← ei, ← ej, h)
 
   pub bond-there : isAbsent (atomsOf xs) (i, j) ≡ false → {r0 k : Float} → r0 ≡ getD lengths b (bond .r0) → k ≡ getD ks b (bond .k) → {d : Vec3} → d ≡ displaced (λ d. imageIn p d) xs (i, j)
-      → {r : Float} → r ≡ normOf d → {e g : Float} → e ≡ bondEnergy k r0 r → g ≡ bondSlope k r0 r
-      → (t : Total) → bondStep (λ d. imageIn p d) bond table lengths ks xs t b ≡ cond (lt r tiny) t (after t (i, j) (scaledPull e d g))
-  bond-there h {r0} {k} e0 ek {d} ed {r} er {e} {g} ee eg t =
-      unfold bondStep in unfold step in unfold bondPair in unfold bondPull in
-      rw (rows-at table b l, ← ei, ← ej, h, ← e0, ← ek, ← ed, ← er, ee, eg) (skip-one (lt r tiny) t (i, j) (bondNear k r0 d r) ∙ ap (λ (x : Pull). cond (lt r tiny) t (after t (i, j) x)) near)
-    where
-      near : bondNear k r0 d r ≡ scaledPull (bondEnergy k r0 r) d (bondSlope k r0 r)
-      near = unfold bondNear in unfold scaledPull in unfold bondEnergy in unfold bondSlope in refl
+      → (t : Total) → bondStep (λ d. imageIn p d) bond table lengths ks xs t b ≡ after t (i, j) (bondAt k d r0)
+  bond-there h e0 ek ed t = unfold bondStep in unfold step in unfold bondPair in unfold bondAt in rw (rows-at table b l, ← ei, ← ej, h, ← e0, ← ek, ← ed)
 
 -- ---- a place added
 pub apart-at : (apart : List Float) (m : ℕ) → record { x = at apart (3 * m); y = at apart (3 * m + 1); z = at apart (3 * m + 2) } ≡ positionAt apart m

@@ -1,20 +1,22 @@
 -- A block of pairs in local arrays: two atoms a place, three floats of how they lie to each other, and two floats more. Nobody has to believe it. Definitions only.
 use mathlib.Core.Path.{_≡_}
-use mathlib.Core.Bool.{Bool}
+use mathlib.Core.Bool.{Bool, cond}
 use mathlib.Core.List.{List, foldl}
 use Prim.Native.Nat.{ℕ, _+_, _*_, _<_, _≤_}
-use lib.Ieee.{Float}
+use lib.Ieee.{Float, lt}
 use lib.ListN.{length, getD, set, drop}
 use Rattle.float.specs.Arith.{_⊗_, _⊘_, at}
 use Rattle.float.specs.Def.{rootOf}
+use Rattle.float.specs.Literals.{tiny}
 use Rattle.lists.specs.Lists.{upTo, rows}
 use Rattle.cell.specs.declared.Vec3.{Vec3}
-use Rattle.cell.specs.Vec.{scaleOf, positionAt}
+use Rattle.cell.specs.Vec.{scaleOf, normOf, positionAt}
 use Rattle.cell_prepared.specs.declared.Prepared.{Prepared}
 use Rattle.potentials_pair.specs.declared.Lj.{Lj}
 use Rattle.potentials_pair.specs.declared.Numbers.{Numbers}
 use Rattle.potentials_pair.specs.declared.Pull.{Pull}
 use Rattle.potentials_pair.specs.declared.Pull.the-variants.{Add}
+use Rattle.potentials_pair.specs.Bond.{bondPull, bondEnergy, bondSlope}
 use Rattle.potentials_pair.specs.Once.{energyBy, slopeBy, nearBy}
 use Rattle.potentials_pair.specs.Pull.{Total, after}
 use Rattle.potentials_pair.specs.Species.{Tables}
@@ -64,6 +66,29 @@ withPull e g pulls m = set (set pulls (2 * m) (e m)) (2 * m + 1) (g m)
 pub record Pulled (e g : ℕ → Float) (pulls : List Float) (n : ℕ) : Type 0 where
   pub energy : (m : ℕ) → m < n → at pulls (2 * m) ≡ e m
   pub slope : (m : ℕ) → m < n → at pulls (2 * m + 1) ≡ g m
+
+-- ---- a block of bonds: its two floats are a force constant and a length at rest
+
+unfoldable pub bondAt : Float → Vec3 → Float → Pull
+bondAt k d r0 = bondPull k r0 d
+
+unfoldable pub lengthOn : List Float → ℕ → Float
+lengthOn apart m = normOf (positionAt apart m)
+
+unfoldable pub bondEnergyOn : List Float → List Float → ℕ → Float
+bondEnergyOn apart two m = bondEnergy (at two (2 * m)) (at two (2 * m + 1)) (lengthOn apart m)
+
+unfoldable pub bondSlopeOn : List Float → List Float → ℕ → Float
+bondSlopeOn apart two m = bondSlope (at two (2 * m)) (at two (2 * m + 1)) (lengthOn apart m)
+
+-- the first n places have their lengths, energies and slopes
+pub record Bonded (apart two roots pulls : List Float) (n : ℕ) : Type 0 where
+  pub long : (m : ℕ) → m < n → at roots m ≡ lengthOn apart m
+  pub pulled : Pulled (bondEnergyOn apart two) (bondSlopeOn apart two) pulls n
+
+-- what place m adds by them
+unfoldable pub bondedStep : List ℕ → List Float → List Float → List Float → Total → ℕ → Total
+bondedStep atoms apart roots pulls t m = cond (lt (at roots m) tiny) t (blockStep scaledPull atoms apart pulls t m)
 
 -- ---- a block of Lennard-Jones has one float a place, the squared distance
 

@@ -109,14 +109,27 @@ fn sift(
     c
 }
 
-// Energy and slope of place m.
-fn pull_at(m: usize, two: &[f64], pulls: &mut [f64])
-    requires { ⌜ (m < 128) × (length (now two) ≡ 256) × (length (now pulls) ≡ 256) ⌝ }
+// An estimate of the distance at each of the first n places. Nothing is said of their values: no call is left in this loop and no branch, so that two go in
+// one instruction.
+fn estimate_all(n: usize, two: &[f64], guesses: &mut [f64])
+    requires { ⌜ (n ≤ 128) × (length (now two) ≡ 256) × (length (now guesses) ≡ 128) ⌝ }
+    ensures { λ _. ⌜ length (now (guesses .exit)) ≡ 128 ⌝ }
+{
+    let mut m = 0;
+    while m < n {
+        guesses[m] = float::root_estimate(two[2 * m + 1]);
+        m += 1;
+    }
+}
+
+// Energy and slope of place m, whatever the guess at its distance.
+fn pull_at(m: usize, two: &[f64], guesses: &[f64], pulls: &mut [f64])
+    requires { ⌜ (m < 128) × (length (now two) ≡ 256) × (length (now guesses) ≡ 128) × (length (now pulls) ≡ 256) ⌝ }
     ensures { λ _. ⌜ now (pulls .exit) ≡ withPull (coulombEnergy (now (two .entry))) (coulombSlope (now (two .entry))) (now (pulls .entry)) m ⌝ }
 {
     let qq = two[2 * m];
     let r2 = two[2 * m + 1];
-    let r = float::quick_root(r2);
+    let r = float::root_from(r2, guesses[m]);
     pulls[2 * m] = qq / r;
     pulls[2 * m + 1] = qq / (r2 * r);
 }
@@ -126,9 +139,11 @@ fn pull_all(n: usize, two: &[f64], pulls: &mut [f64])
     requires { ⌜ (n ≤ 128) × (length (now two) ≡ 256) × (length (now pulls) ≡ 256) ⌝ }
     ensures { λ _. ⌜ Pulled (coulombEnergy (now (two .entry))) (coulombSlope (now (two .entry))) (now (pulls .exit)) n ⌝ }
 {
+    let mut guesses = block::blank_one();
+    estimate_all(n, two, &mut guesses);
     let mut m = 0;
     while m < n {
-        pull_at(m, two, pulls);
+        pull_at(m, two, &guesses, pulls);
         m += 1;
     }
 }

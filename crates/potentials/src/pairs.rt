@@ -31,7 +31,7 @@ pub(crate) fn is_absent(n: usize, i: usize, j: usize) -> bool
     !((i < n) & (j < n))
 }
 
-fn spot_at(xs: &[f64], i: usize) -> Vec3
+pub(crate) fn spot_at(xs: &[f64], i: usize) -> Vec3
     requires { ⌜ i < atomsOf (now xs) ⌝ }
     ensures { λ r. ⌜ r ≡ positionAt (now (xs .entry)) i ⌝ }
 {
@@ -52,11 +52,11 @@ pub(crate) fn displacement(p: Prepared, xs: &[f64], i: usize, j: usize) -> Vec3
     cell_prepared::image_in(p, d).diff
 }
 
-// The same by `quick_image`, which goes into a loop over blocks.
+// The same by `quick_diff`, which goes into a loop over blocks.
 pub(crate) fn quick_displacement(p: Prepared, xs: &[f64], i: usize, j: usize) -> Vec3
     requires { ⌜ (i < atomsOf (now xs)) × (j < atomsOf (now xs)) ⌝ }
     ensures { λ r. ⌜ r ≡ displaced (λ d. imageIn p d) (now (xs .entry)) (i, j) ⌝ }
 {
     let d = cell::vectors::sub(spot_at(xs, i), spot_at(xs, j));
-    cell_prepared::quick_image(p, d).diff
+    cell_prepared::quick_diff(p, d)
 }

@@ -1,6 +1,7 @@
-use Rattle.float.proofs.Finite.{positive-no-nan}
 use Rattle.float.proofs.Patterns.{not-nan}
+use Rattle.float.specs.Estimate.{newtonOf}
 use borrow.Author.Needs.{needs}
+use mathlib.Core.Path.{refl}
 use native.Mathlib.Omega.{arith}
 use Rattle.float.proofs.quick.estimate.Statement.{statement}
 use Rattle.float.proofs.quick.estimate.Tie as tie
@@ -9,7 +10,7 @@ use Rattle.float.proofs.quick.estimate.Lts as lts
 
 -- src/quick.rt:14:50
 float-to-bits-a : tie.Need-float-to-bits-a
-float-to-bits-a c = positive-no-nan _ (c .pre)
+float-to-bits-a c = c .pre
 
 -- src/quick.rt:14:28
 sub-a : tie.Need-sub-a
@@ -21,7 +22,8 @@ float-from-bits-a c = not-nan _ (omega arith)
 
 -- src/quick.rt:10:1
 returns : tie.Need-returns
-returns c = search needs
+unfolding newtonOf
+returns c = refl
 
 pub estimate-spec : {M : Type 1} → statement M
 estimate-spec = tie.close (tie.spec float-to-bits-a sub-a float-from-bits-a returns)

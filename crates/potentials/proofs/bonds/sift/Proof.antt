@@ -3,7 +3,7 @@ use Rattle.cell_prepared.specs.Facts.{imageIn}
 use Rattle.lists.proofs.Rows.{length-rows}
 use Rattle.lists.specs.Lists.{upTo, rows}
 use Rattle.potentials.proofs.Blocks.{sifted-begin, sifted-number, sifted-end, block-kept}
-use Rattle.potentials.specs.Blocks.{blockStep, scaledPull, Sifted}
+use Rattle.potentials.specs.Blocks.{blockStep, bondAt, Sifted}
 use Rattle.potentials.specs.Terms.{bondStep}
 use lib.ListN.{length}
 use mathlib.Core.Path.{_≡_, refl, _∙_}
@@ -12,10 +12,10 @@ use Rattle.potentials.proofs.bonds.sift.Statement.{statement}
 use Rattle.potentials.proofs.bonds.sift.Tie as tie
 
 abbrev Inv-loop : tie.InvT-loop
-Inv-loop bond p table lengths ks xs from to atoms₀ apart₀ pulls₀ c₀ b₀ atoms apart pulls c b = (b ≤ to) × (length atoms ≡ length atoms₀) × (length apart ≡ length apart₀) × (length pulls ≡ length pulls₀) × Sifted (blockStep scaledPull atoms apart pulls) c (bondStep (λ d. imageIn p d) bond table lengths ks xs) (upTo (length (rows table))) from b
+Inv-loop bond p table lengths ks xs from to atoms₀ apart₀ two₀ c₀ b₀ atoms apart two c b = (b ≤ to) × (length atoms ≡ length atoms₀) × (length apart ≡ length apart₀) × (length two ≡ length two₀) × Sifted (blockStep bondAt atoms apart two) c (bondStep (λ d. imageIn p d) bond table lengths ks xs) (upTo (length (rows table))) from b
 
 abbrev μ-loop : tie.MeasureT-loop
-μ-loop bond p table lengths ks xs from to atoms₀ apart₀ pulls₀ c₀ b₀ atoms apart pulls c b = to - b
+μ-loop bond p table lengths ks xs from to atoms₀ apart₀ two₀ c₀ b₀ atoms apart two c b = to - b
 
 loop-holds : tie.Need-loop-holds Inv-loop μ-loop
 loop-holds c = (c .before .before .before .before .before .before .before .pre .0, refl, refl, refl, sifted-begin _ _ _)

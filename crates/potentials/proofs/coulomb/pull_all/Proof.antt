@@ -1,6 +1,7 @@
 use Prim.Native.Nat.{_≤_, _-_}
 use Rattle.potentials.proofs.Blocks.{pulled-none, pulled-turn, pulled-end}
 use Rattle.potentials.specs.Blocks.{coulombEnergy, coulombSlope, Pulled}
+use borrow.Author.Needs.{needs}
 use lib.ListN.{length}
 use mathlib.Core.Path.{_≡_, refl, _∙_}
 use native.Mathlib.Omega.{arith}
@@ -8,31 +9,28 @@ use Rattle.potentials.proofs.coulomb.pull_all.Statement.{statement}
 use Rattle.potentials.proofs.coulomb.pull_all.Tie as tie
 
 abbrev Inv-loop : tie.InvT-loop
-Inv-loop n two pulls₀ m₀ pulls m = (m ≤ n) × (length pulls ≡ length pulls₀) × Pulled (coulombEnergy two) (coulombSlope two) pulls m
+Inv-loop n two pulls₀ guesses m₀ pulls m = (m ≤ n) × (length pulls ≡ length pulls₀) × Pulled (coulombEnergy two) (coulombSlope two) pulls m
 
 abbrev μ-loop : tie.MeasureT-loop
-μ-loop n two pulls₀ m₀ pulls m = n - m
+μ-loop n two pulls₀ guesses m₀ pulls m = n - m
 
 loop-holds : tie.Need-loop-holds Inv-loop μ-loop
 loop-holds c = (omega arith, refl, pulled-none _ _ _)
 
-pull-at-requires : tie.Need-pull-at-requires Inv-loop μ-loop
-pull-at-requires c κs = (omega (arith, c .before .loop-test .taken, c .before .before .before .before .before .pre .0), c .before .before .before .before .before .pre .1, c .before .before .loop .inv .1 ∙ c .before .before .before .before .before .pre .2)
-
 add-m : tie.Need-add-m Inv-loop μ-loop
-add-m c = omega (arith, c .before .before .before .before .loop-test .taken, c .before .before .before .before .before .before .before .before .pre .0)
+add-m c = omega (arith, c .before .before .before .before .before .loop-test .taken, c .before .before .before .before .before .before .before .before .before .before .before .before .before .pre .0)
 
 loop-less : tie.Need-loop-less Inv-loop μ-loop
-loop-less c = omega (arith, c .before .before .before .before .loop-test .taken)
+loop-less c = omega (arith, c .before .before .before .before .before .loop-test .taken)
 
 loop-again : tie.Need-loop-again Inv-loop μ-loop
-loop-again c = (omega (arith, c .before .before .before .before .loop-test .taken), c .before .before .pull-at .kept .1 .1 .0 ∙ c .before .before .before .before .before .loop .inv .1, pulled-turn (coulombEnergy (c .before .before .before .before .before .before .before .before .args .two .now)) (coulombSlope (c .before .before .before .before .before .before .before .before .args .two .now)) (c .before .before .before .before .before .loop .pulls) (omega (arith, c .before .before .before .before .loop-test .taken, c .before .before .before .before .before .before .before .before .pre .0, c .before .before .before .before .before .before .before .before .pre .2, c .before .before .before .before .before .loop .inv .1)) (c .before .before .before .before .before .loop .inv .2) (c .before .before .pull-at .ensures))
+loop-again c = (omega (arith, c .before .before .before .before .before .loop-test .taken), c .before .before .pull-at .kept .1 .1 .1 .0 ∙ c .before .before .before .before .before .before .loop .inv .1, pulled-turn (coulombEnergy (c .before .before .before .before .before .before .before .before .before .before .before .before .before .args .two .now)) (coulombSlope (c .before .before .before .before .before .before .before .before .before .before .before .before .before .args .two .now)) (c .before .before .before .before .before .before .loop .pulls) (omega (arith, c .before .before .before .before .before .loop-test .taken, c .before .before .before .before .before .before .before .before .before .before .before .before .before .pre .0, c .before .before .before .before .before .before .before .before .before .before .before .before .before .pre .2, c .before .before .before .before .before .before .loop .inv .1)) (c .before .before .before .before .before .before .loop .inv .2) (c .before .before .pull-at .ensures))
 
 same-length : tie.Need-same-length Inv-loop μ-loop
 same-length c = c .before .loop .inv .1
 
 returns : tie.Need-returns Inv-loop μ-loop
-returns c = pulled-end (coulombEnergy (c .before .before .before .before .args .two .now)) (coulombSlope (c .before .before .before .before .args .two .now)) (c .before .loop .pulls) (c .loop-test .left) (c .before .loop .inv .2)
+returns c = pulled-end (coulombEnergy (c .before .before .before .before .before .before .before .before .args .two .now)) (coulombSlope (c .before .before .before .before .before .before .before .before .args .two .now)) (c .before .loop .pulls) (c .loop-test .left) (c .before .loop .inv .2)
 
 pub pull-all-spec : {M : Type 1} → statement M
 pull-all-spec =
@@ -40,8 +38,12 @@ pull-all-spec =
     (tie.spec
     Inv-loop
     μ-loop
+    (λ c κs. search needs)
+    (λ c. search needs)
+    (λ c κs. search needs)
     loop-holds
-    pull-at-requires
+    (λ c. search needs)
+    (λ c κs. search needs)
     add-m
     loop-less
     loop-again

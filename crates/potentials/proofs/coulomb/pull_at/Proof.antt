@@ -8,15 +8,17 @@ use Rattle.potentials.proofs.coulomb.pull_at.Statement.{statement}
 use Rattle.potentials.proofs.coulomb.pull_at.Tie as tie
 
 slice-write-pulls-2 : tie.Need-slice-write-pulls-2
-slice-write-pulls-2 c = omega (arith, length-set (c .before .before .before .before .before .args .pulls .now) (2 * c .before .before .before .before .before .args .m) (at (c .before .before .before .before .before .args .two .now) (2 * c .before .before .before .before .before .args .m) ⊘ c .quick-root .result), c .before .before .before .before .before .pre .2, c .before .before .before .before .before .pre .0)
+slice-write-pulls-2 c = omega (arith, length-set (c .before .before .before .before .before .before .before .args .pulls .now) (2 * c .before .before .before .before .before .before .before .args .m) (at (c .before .before .before .before .before .before .before .args .two .now) (2 * c .before .before .before .before .before .before .before .args .m) ⊘ c .root-from .result), c .before .before .before .before .before .before .before .pre .3, c .before .before .before .before .before .before .before .pre .0)
 
 returns : tie.Need-returns
-returns c = unfold coulombEnergy in unfold coulombSlope in rw (c .quick-root .ensures)
+returns c = unfold coulombEnergy in unfold coulombSlope in rw (c .root-from .ensures)
 
 pub pull-at-spec : {M : Type 1} → statement M
 pull-at-spec =
     tie.close
     (tie.spec
+    (λ c. search needs)
+    (λ c. search needs)
     (λ c. search needs)
     (λ c. search needs)
     (λ c. search needs)
