@@ -1,9 +1,12 @@
 -- One term after the other is the fold over the contributions. Assumes nothing.
-use mathlib.Core.Path.{_≡_, refl, _∙_}
+use mathlib.Core.Path.{_≡_, refl, ap, _∙_}
 use mathlib.Core.List.{List, [], _∷_, _++_, foldl-append}
-use Prim.Native.Nat.{ℕ}
+use Prim.Native.Nat.{ℕ, suc}
 use lib.Ieee.{Float}
 use lib.ListN.{length}
+use Rattle.lists.specs.Loops.{mapFrom}
+use Rattle.float.specs.Arith.{_⊕_}
+use Rattle.float.specs.Literals.{f0}
 use Rattle.virial.specs.declared.Sum.{Sum}
 use Rattle.virial.specs.Virial.{zeroSum, zeroForces, mergedSum, mergedForces}
 use Rattle.virial.proofs.Forces.{merged-length, zeros-length}
@@ -23,6 +26,34 @@ merged-one t e h = rw (← e) h
 pub merged-none : (t : Total) → t ≡ mergedInto t []
 unfolding mergedInto
 merged-none t = refl
+
+-- ---- two terms by one walk
+
+-- what a turn of `onto_zero` stores at k
+abbrev pub ontoZero : ℕ → Float → Float
+ontoZero k x = f0 ⊕ x
+
+pub onto-zeros : (n : ℕ) (l : List Float) → mapFrom ontoZero n l ≡ mergedForces (zeroForces (length l)) l
+unfolding mapFrom zeroForces mergedForces
+onto-zeros n [] = refl
+onto-zeros n (x ∷ l) = ap (λ (r : List Float). (f0 ⊕ x) ∷ r) (onto-zeros (suc n) l)
+
+-- the first one's own forces lie where the merged ones do
+pub merged-at-once : (sum lj coulomb : Sum) (room : ℕ) (forces scratch : List Float) {u v : Total} → held lj forces ≡ u → held coulomb scratch ≡ v → length forces ≡ room
+    → {after : List Float} → after ≡ mergedForces (zeroForces (length forces)) forces → {s : Sum} → s ≡ mergedSum sum lj → {r : Total} → r ≡ merged (held s after) (held coulomb scratch)
+    → r ≡ merged (merged (held sum (zeroForces room)) u) v
+merged-at-once sum lj coulomb room forces scratch eu ev n ef es er =
+    rw (← eu, ← ev)
+    (er ∙ ap (λ (t : Total). merged t (held coulomb scratch)) (merged-by sum lj (zeroForces room) forces (ef ∙ ap (λ (k : ℕ). mergedForces (zeroForces k) forces) n) es))
+
+pub merged-both : (t u v : Total) {r : Total} → r ≡ merged (merged t u) v → r ≡ mergedInto (mergedInto t (u ∷ [])) (v ∷ [])
+unfolding mergedInto
+merged-both t u v h = h
+
+-- two terms into zero forces
+pub merged-two : (sum : Sum) (room : ℕ) (a b : List Total) {forces : List Float} → forces ≡ zeroForces room → {w x : Total} → w ≡ mergedInto (held sum forces) a → x ≡ mergedInto w b
+    → x ≡ mergedInto (mergedInto (held sum (zeroForces room)) a) b
+merged-two sum room a b f p q = rw (← f, ← p) q
 
 joined : (t : Total) (a b : List Total) → mergedInto t (a ++ b) ≡ mergedInto (mergedInto t a) b
 unfolding mergedInto

@@ -135,7 +135,7 @@ fn pull_at(m: usize, two: &[f64], guesses: &[f64], pulls: &mut [f64])
 }
 
 // .. of the first n places.
-fn pull_all(n: usize, two: &[f64], pulls: &mut [f64])
+pub(crate) fn pull_all(n: usize, two: &[f64], pulls: &mut [f64])
     requires { ⌜ (n ≤ 128) × (length (now two) ≡ 256) × (length (now pulls) ≡ 256) ⌝ }
     ensures { λ _. ⌜ Pulled (coulombEnergy (now (two .entry))) (coulombSlope (now (two .entry))) (now (pulls .exit)) n ⌝ }
 {

@@ -9,6 +9,7 @@ ghost use Rattle.potentials_pair.specs.Pull.{held};
 ghost use Rattle.potentials.specs.Terms.{ljOver, coulombOver, bondsOver};
 ghost use Rattle.potentials.specs.Calls.{monatomicOf};
 use crate::Bond;
+use crate::BothSums;
 use cell::Cell;
 use potentials_pair::Lj;
 use potentials_pair::Mixing;
@@ -130,6 +131,49 @@ pub fn coulomb_all(
     let p = cell_prepared::prepare(cell);
     let sum = virial::kernel::zero();
     crate::coulomb::all(units.ke_coulomb, cutoff, p, charges, positions, forces, sum)
+}
+
+// `lj_pairs` into `forces` and `coulomb_pairs` into `others`, by one walk.
+pub fn both_pairs(
+    lj: Lj,
+    units: Units,
+    cutoff: f64,
+    cell: Cell,
+    own_ids: &[u32],
+    own_params: &[f64],
+    ids: &[u32],
+    params: &[f64],
+    species: &[u32],
+    charges: &[f64],
+    positions: &[f64],
+    pairs: &[u32],
+    forces: &mut [f64],
+    others: &mut [f64],
+) -> BothSums
+    ensures { λ r. ⌜ held (r .lj) (now (forces .exit)) ≡ ljOver (lookBy (tables (now («own_ids» .entry)) (now («own_params» .entry)) (now (ids .entry)) (now (params .entry))) lj) lj cell (now (species .entry)) (now (positions .entry)) (length (now (forces .entry))) (rows (now (pairs .entry))) ⌝ }
+    ensures { λ r. ⌜ held (r .coulomb) (now (others .exit)) ≡ coulombOver (units .«ke_coulomb») cutoff cell (now (charges .entry)) (now (positions .entry)) (length (now (others .entry))) (rows (now (pairs .entry))) ⌝ }
+{
+    virial::kernel::clear(forces);
+    virial::kernel::clear(others);
+    let p = cell_prepared::prepare(cell);
+    let sum = virial::kernel::zero();
+    crate::both::over(
+        lj,
+        units.ke_coulomb,
+        cutoff,
+        p,
+        own_ids,
+        own_params,
+        ids,
+        params,
+        species,
+        charges,
+        positions,
+        pairs,
+        forces,
+        others,
+        sum,
+    )
 }
 
 // `lengths` is the Rust's per_bond, `ks` its per_bond_k.

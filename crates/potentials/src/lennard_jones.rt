@@ -215,7 +215,7 @@ fn number_at(
 }
 
 // .. of the first n places.
-fn number_all(
+pub(crate) fn number_all(
     n: usize,
     lj: Lj,
     own_ids: &[u32],
@@ -284,7 +284,7 @@ fn pull_at(
 }
 
 // .. of the first n places. No call is left in it and no branch: two places go in one instruction.
-fn pull_all(
+pub(crate) fn pull_all(
     n: usize,
     shift: bool,
     near: &[f64],

@@ -7,12 +7,14 @@ use answer::Done;
 use answer::Refusal;
 use cell::Cell;
 use potentials_pair::Lj;
+use virial::Sum;
 use virial::Summed;
 use virial::Units;
 
 mod asked;
 mod block;
 mod bonds;
+mod both;
 mod coulomb;
 mod kept;
 pub mod kernel;
@@ -42,6 +44,12 @@ pub enum CoulombTerm {
 pub enum BondTerm {
     Absent,
     Present(Bond),
+}
+
+// What one walk over a list sums: each term from zero.
+pub struct BothSums {
+    pub lj: Sum,
+    pub coulomb: Sum,
 }
 
 pub enum LjAnswer {
