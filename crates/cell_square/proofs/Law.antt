@@ -25,7 +25,7 @@ use Rattle.cell_square.specs.Square.{square, smallerOf, SideSays}
 pub record Even (h : Float → Float) : Type 0 where
   pub is : (x : Float) → h (neg x) ≡ h x
 
-abs-neg : (x : Float) → absOf (neg x) ≡ absOf x
+pub abs-neg : (x : Float) → absOf (neg x) ≡ absOf x
 unfolding absOf neg
 abs-neg nan = refl
 abs-neg (inf s) = refl
@@ -34,7 +34,7 @@ abs-neg (fin s m e) = refl
 abs-even : Even absOf
 abs-even = record { is = abs-neg }
 
-square-neg : (x : Float) → square (neg x) ≡ square x
+pub square-neg : (x : Float) → square (neg x) ≡ square x
 unfolding neg mul
 square-neg nan = refl
 square-neg (inf true) = refl
@@ -134,7 +134,7 @@ not-above (fin false m e) h = less (m * up e * down e) (ltb→lt (m * up e * dow
     less : (a : ℕ) → a < a → ⊥
     less a l = omega arith
 
-under-zero : (m : ℕ) (e : ℤ) → le (fin true m e) zero+ ≡ true
+pub under-zero : (m : ℕ) (e : ℤ) → le (fin true m e) zero+ ≡ true
 unfolding absOf negative
 under-zero m e = go (le (fin true m e) zero+) refl
   where
@@ -325,7 +325,7 @@ module _ (m n : ℕ) (e d : ℤ) (G : T (fits binary64 (fin false m e))) (F : T 
       ∙ sym (even-sum square square-even binary64 false true (suc n * up d * down e) (m * up e * down d) (down d * down e))
   square-step false = even-turned square square-even binary64 false true (m * up e * down d) (suc n * up d * down e) (down e * down d) (down d * down e) (mul-comm (down e) (down d))
 
-  picked : (s : Bool) → suc n * up d * down e ≤ 2 * (m * up e * down d) → cond (le (fin s m e) zero+) len (neg len) ≡ fin (not s) (suc n) d
+  pub picked : (s : Bool) → suc n * up d * down e ≤ 2 * (m * up e * down d) → cond (le (fin s m e) zero+) len (neg len) ≡ fin (not s) (suc n) d
   unfolding neg
   picked true g = rw (under-zero m e)
   picked false g = positive m (not-null g)
@@ -364,7 +364,7 @@ inf-not-below nan h = false≢true h
 inf-not-below (inf u) h = false≢true h
 inf-not-below (fin u n d) h = false≢true h
 
-by-number : (l x y : Float) → T (fits binary64 l) → T (fits binary64 x) → lt (absOf x) l ≡ true → lt l y ≡ true → square (smallerOf l (absOf x)) ≡ square (add binary64 x (shiftOf (absOf x) l x))
+pub by-number : (l x y : Float) → T (fits binary64 l) → T (fits binary64 x) → lt (absOf x) l ≡ true → lt l y ≡ true → square (smallerOf l (absOf x)) ≡ square (add binary64 x (shiftOf (absOf x) l x))
 unfolding absOf
 by-number l nan y F G h k = absurd (false≢true (unfold lt in h))
 by-number l (inf s) y F G h k = absurd (inf-not-below l h)

@@ -1,1 +1,5 @@
 pub mod Law
+pub mod Keeps
+pub mod Between
+pub mod Least
+pub mod Opposite

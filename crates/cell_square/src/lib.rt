@@ -1,10 +1,11 @@
 // One axis of the minimum image in a box where only its square is asked: no test of a sign, and none of the half of a length. In a loop over places that
-// lie side by side the compiler makes each step one instruction for two of them.
+// lie side by side the compiler makes each step one instruction for two of them. And what one place's differences with many have in common, by their bounds.
 ghost use mathlib.Core.Path.{_≡_};
+ghost use mathlib.Core.Bool.{cond};
 ghost use lib.Ieee.{lt};
 ghost use Rattle.float.specs.Def.{absOf};
 ghost use Rattle.float.specs.Arith.{_⊖_};
-ghost use Rattle.cell_square.specs.Square.{SideSays};
+ghost use Rattle.cell_square.specs.Square.{SideSays, inHalf, steadyOf, stepOf, SteadySays, CalmSays, gapOf};
 
 // |x| as the larger of x and 0 - x: in a loop one instruction after the difference, where `float::abs` has five.
 fn magnitude(x: f64) -> f64
@@ -28,4 +29,65 @@ pub fn side(len: f64, a: f64, b: f64) -> f64
     let t = magnitude(a - b);
     let rest = len - t;
     if rest < t { rest } else { t }
+}
+
+fn in_half(len: f64, x: f64) -> bool
+    ensures { λ r. ⌜ r ≡ inHalf len x ⌝ }
+{
+    magnitude(x + x) < len
+}
+
+fn is_steady(len: f64, low: f64, high: f64) -> bool
+    ensures { λ r. ⌜ r ≡ steadyOf len low high ⌝ }
+{
+    let low_in = in_half(len, low);
+    let high_in = in_half(len, high);
+    (0.0 < len)
+        & (magnitude(low) < len)
+        & (magnitude(high) < len)
+        & ((low_in & high_in) | (!low_in & (0.0 < low)) | (!high_in & (high < 0.0)))
+}
+
+// Whether one step takes each difference of a and the places from lo up to hi to a number whose square is its image's: by the two ends, since rounding
+// keeps the order.
+pub fn steady(len: f64, a: f64, lo: f64, hi: f64) -> bool
+    ensures { λ r. ⌜ SteadySays len a lo hi r ⌝ }
+{
+    is_steady(len, a - hi, a - lo)
+}
+
+fn pick(test: bool, a: f64, b: f64) -> f64
+    ensures { λ r. ⌜ r ≡ cond test a b ⌝ }
+{
+    if test { a } else { b }
+}
+
+// That step: nothing, a length down, a length up.
+pub fn step(len: f64, a: f64, lo: f64, hi: f64) -> f64
+    ensures { λ r. ⌜ r ≡ stepOf len (a ⊖ hi) (a ⊖ lo) ⌝ }
+{
+    let low = a - hi;
+    let low_in = in_half(len, low);
+    let high_in = in_half(len, a - lo);
+    pick(
+        low_in & high_in,
+        0.0,
+        pick(!low_in & (0.0 < low), -len, len),
+    )
+}
+
+// Whether it is nothing, which is the common case and asks less.
+pub fn calm(len: f64, a: f64, lo: f64, hi: f64) -> bool
+    ensures { λ r. ⌜ CalmSays len a lo hi r ⌝ }
+{
+    (0.0 < len) & in_half(len, a - hi) & in_half(len, a - lo)
+}
+
+// How far from 0 all of them are then, but for the sign.
+pub fn gap(step: f64, a: f64, lo: f64, hi: f64) -> f64
+    ensures { λ r. ⌜ r ≡ gapOf step (a ⊖ hi) (a ⊖ lo) ⌝ }
+{
+    let least = (a - hi) + step;
+    let most = (a - lo) + step;
+    pick(0.0 < least, least, pick(most < 0.0, most, 0.0))
 }

@@ -1,15 +1,15 @@
 -- The loops over atoms side by side: their places, their flags, those whose flag is 1, and what these list. Assumes nothing.
-use Prim.Native.Nat.{ℕ, _+_, _-_, _≤_, _<_}
+use Prim.Native.Nat.{ℕ, suc, _+_, _-_, _≤_, _<_}
 use mathlib.Core.Path.{_≡_, refl, sym, ap, _∙_}
 use mathlib.Core.Logic.{_⊎_, inl, inr}
-use mathlib.Core.Bool.{Bool, true, cond, _&&_}
+use mathlib.Core.Bool.{Bool, true, false, cond, _&&_}
 use mathlib.Core.List.{List, [], _∷_, _++_}
 use native.Mathlib.Omega.{arith}
 use native.Mathlib.Nat.{eq-or-lt-of-le, le-of-suc-le-suc}
 use lib.Dec.{ltb}
-use lib.Ieee.{Float, nan}
+use lib.Ieee.{Float, nan, le}
 use lib.ListN.{length, getD, set, take, drop, length-set, length-drop}
-use lib.Seq.{getD-set-same, getD-set-other, length-take-le}
+use lib.Seq.{getD-set-same, getD-set-other, getD-drop, length-take-le}
 use Rattle.float.specs.Arith.{at}
 use Rattle.float.proofs.Branches.{both-true}
 use Rattle.lists.specs.Lists.{keep, withEach, inside}
@@ -22,7 +22,9 @@ use Rattle.bins.specs.Listing.{Scene, Listing, Ready, listOf}
 use Rattle.bins.proofs.Runs.{Run, run-inside, ready-inside}
 use Rattle.neighbor_listing.specs.declared.sight.Sight.{Sight}
 use Rattle.neighbor_listing.specs.Steps.{nearTo, sceneBy, chosenBy}
-use Rattle.neighbor_listing.specs.Sides.{SideRooms, spotIn, LaidOut, turned, boxHolds, BoxSays, tiltedHolds, TiltedSays, sighted, Flagged, Flags, Say, Bits, FlagsTaken}
+use Rattle.neighbor_listing.specs.declared.side.Bounds.{Bounds}
+use Rattle.neighbor_listing.specs.declared.side.Reach.{Reach}
+use Rattle.neighbor_listing.specs.Sides.{SideRooms, spotIn, LaidOut, Enclosed, isEnclosed, AllEnclosed, Bounded, steppedSees, Reaches, turned, seesApart, boxHolds, BoxSays, tiltedHolds, TiltedSays, sighted, Flagged, Flags, Say, Bits, FlagsTaken}
 use Rattle.neighbor_listing.proofs.Sifted.{kept-next, most-one, near-is, few-listed, ready-near}
 use Rattle.neighbor_listing.proofs.Shortcuts.{box-turn, tilted-turn, turned-sees}
 
@@ -71,6 +73,51 @@ module _ {xs bx by bz : List Float} {part : List ℕ} {k : ℕ} (u : LaidOut xs 
   pub laid-end : k ≤ length part → length part ≤ k → LaidOut xs part bx by bz (length part)
   laid-end l h = record { rooms = u .rooms; are = λ m p. u .are m (omega (arith, l, h, p)) }
 
+-- ---- the bounds: the first k places are within them
+enclosed-is : (w : Bounds) (b : Vec3) → isEnclosed w b ≡ true → Enclosed w b
+enclosed-is w b h =
+    let A = le (w .lo .x) (b .x) in
+    let B = le (b .x) (w .hi .x) in
+    let C = le (w .lo .y) (b .y) in
+    let D = le (b .y) (w .hi .y) in
+    let E = le (w .lo .z) (b .z) in
+    let F = le (b .z) (w .hi .z) in
+    let p5 = both-true (A && B && C && D && E) F h in
+    let p4 = both-true (A && B && C && D) E (p5 .0) in
+    let p3 = both-true (A && B && C) D (p4 .0) in
+    let p2 = both-true (A && B) C (p3 .0) in
+    let p1 = both-true A B (p2 .0) in
+    record { x-low = p1 .0; x-high = p1 .1; y-low = p2 .1; y-high = p3 .1; z-low = p4 .1; z-high = p5 .1 }
+
+pub enclosed-begin : {bx by bz : List Float} {w : Bounds} → AllEnclosed bx by bz 0 w true
+enclosed-begin = record { are = λ e m h. absurd (none m h) }
+  where
+    none : (m : ℕ) → m < 0 → ⊥
+    none m h = omega arith
+
+module _ {bx by bz : List Float} {k : ℕ} {w : Bounds} {ok : Bool} (u : AllEnclosed bx by bz k w ok) where
+  pub enclosed-turn : {r : Bool} → r ≡ isEnclosed w (spotIn bx by bz k) → AllEnclosed bx by bz (k + 1) w (ok && r)
+  enclosed-turn {r} e =
+      record {
+        are =
+            λ t m h.
+            let p = both-true ok r t in
+            elim (last-or-before m k h) [ inl z ↦ rw z (enclosed-is w (spotIn bx by bz k) (sym e ∙ p .1)) | inr z ↦ u .are (p .0) m z ];
+      }
+
+  pub enclosed-end : (n : ℕ) → n ≤ k → AllEnclosed bx by bz n w ok
+  enclosed-end n h = record { are = λ t m q. u .are t m (omega (arith, h, q)) }
+
+-- .. as the code puts them together
+pub bounds-are : {bx by bz : List Float} {k : ℕ} {w : Bounds} {r : Bool} → AllEnclosed bx by bz k w r → Bounded bx by bz k (record { lo = w .lo; hi = w .hi; sound = r })
+bounds-are u =
+    record {
+      are =
+          λ t m h.
+          let v = u .are t m h in
+          record { x-low = v .x-low; x-high = v .x-high; y-low = v .y-low; y-high = v .y-high; z-low = v .z-low; z-high = v .z-high };
+    }
+
 -- ---- the flags: those from `from` up to k are set
 pub record Flagging (s : Sight) (i : ℕ) (a : Vec3) (part : List ℕ) (bx by bz : List Float) (start now : List ℕ) (from k : ℕ) (ok : Bool) : Type 0 where
   pub begun : from ≤ k
@@ -103,9 +150,14 @@ module _ {s : Sight} {i : ℕ} {a : Vec3} {part : List ℕ} {bx by bz : List Flo
         → Flagging s i a part bx by bz start (set now k v) from (k + 1) (ok && holds)
     box-flagged h l n e f = flagging-turn h l (box-turn n e (ltb i (getD part k 0))) f
 
-    pub tilted-flagged : k < length part → k < length now → {d : Vec3} → d ≡ turned (ltb i (getD part k 0)) a (spotIn bx by bz k) → {r holds : Bool} {v : ℕ} → TiltedSays s d r → holds ≡ tiltedHolds s d → v ≡ cond r 1 0
+    pub tilted-flagged : k < length part → k < length now → {d : Vec3} → d ≡ turned true a (spotIn bx by bz k) → {r holds : Bool} {v : ℕ} → TiltedSays s d r → holds ≡ tiltedHolds s d → v ≡ cond r 1 0
         → Flagging s i a part bx by bz start (set now k v) from (k + 1) (ok && holds)
     tilted-flagged h l g n e f = flagging-turn h l (tilted-turn n e (ltb i (getD part k 0)) a (spotIn bx by bz k) g) f
+
+    -- one step for all of them
+    pub stepped-flagged : k < length part → k < length now → {r : Reach} → Reaches s a bx by bz (length part) r → r .single ≡ true → {q : Bool} {v : ℕ} → q ≡ steppedSees s a (r .step) (spotIn bx by bz k) → v ≡ cond q 1 0
+        → Flagging s i a part bx by bz start (set now k v) from (k + 1) (ok && true)
+    stepped-flagged h l n t {q} {v} e f = flagging-turn h l {r = q} {holds = true} {v = v} (λ z. e ∙ n .sees t k h (ltb i (getD part k 0))) f
 
     pub flagging-end : length part ≤ k → Flags s i a part bx by bz from (length part) now ok
     flagging-end h = record { hold = λ e. record { are = λ m f q. u .hold e .are m f (omega (arith, u .within, h, q)) } }
@@ -161,6 +213,30 @@ module _ (s : Sight) (xs : List Float) (i : ℕ) (part : List ℕ) {bx by bz : L
         → record { tally = record { count = q .count; checks = t .checks + (length part - from) }; mem = new } ≡ listOf (sceneBy s xs firsts table) (record { tally = t; mem = old }) (withEach i (drop from part))
     side-listed firsts table t q old new e = rw (← length-drop from part) (few-listed s xs firsts table i (drop from part) (take count room) t q old new kept-near e)
 
+-- ---- none of them is near
+keep-none : (q : ℕ → Bool) (l : List ℕ) → ((m : ℕ) → m < length l → q (getD l m 0) ≡ false) → keep q l ≡ []
+unfolding keep
+keep-none q [] h = refl
+keep-none q (a ∷ l) h = rw (h 0 (omega arith)) (keep-none q l (λ m p. h (suc m) (omega (arith, p))))
+
+module _ (s : Sight) (xs : List Float) (i : ℕ) (part : List ℕ) {bx by bz : List Float} (from : ℕ) {a : Vec3} (ea : a ≡ positionAt xs i) (u : LaidOut xs part bx by bz (length part))
+    (w : (m : ℕ) → m < length part → (rising : Bool) → seesApart s (turned rising a (spotIn bx by bz m)) ≡ false)
+  where
+    none-near : keep (nearTo s xs i) (drop from part) ≡ []
+    none-near =
+        keep-none (nearTo s xs i) (drop from part)
+        (λ m h.
+        let l : from + m < length part = omega (arith, length-drop from part, h) in
+        let j = getD part (from + m) 0 in
+        ap (nearTo s xs i) (getD-drop from part m 0)
+        ∙ sym (near-is s xs i j (ltb i j) refl ea (u .are (from + m) l) (turned-sees s (ltb i j) a (spotIn bx by bz (from + m))))
+        ∙ w (from + m) l (ltb i j))
+
+    pub none-listed : (firsts table : List ℕ) (t : Tally) (old : List ℕ)
+        → record { tally = record { count = t .count; checks = t .checks + (length part - from) }; mem = old } ≡ listOf (sceneBy s xs firsts table) (record { tally = t; mem = old }) (withEach i (drop from part))
+    unfolding withEach
+    none-listed firsts table t old = rw (← length-drop from part) (few-listed s xs firsts table i (drop from part) [] t t old old (sym none-near) refl)
+
 -- the front of a room of 64
 module _ {part flags room : List ℕ} {from count : ℕ} (g : FlagsTaken part from flags count room) (h : length part ≤ 64) (l : length room ≡ 64) where
   pub taken-within : count ≤ length room
@@ -169,6 +245,10 @@ module _ {part flags room : List ℕ} {from count : ℕ} (g : FlagsTaken part fr
   pub taken-count : count ≡ length (take count room)
   taken-count = sym (length-take-le count room taken-within)
 
+-- from a memory that is as it was
+pub kept-memory : (e : Scene) (t : Tally) (c : List (ℕ × ℕ)) {old mid : List ℕ} {r : Listing} → mid ≡ old → r ≡ listOf e (record { tally = t; mem = mid }) c → r ≡ listOf e (record { tally = t; mem = old }) c
+kept-memory e t c k q = q ∙ ap (λ (m : List ℕ). listOf e (record { tally = t; mem = m }) c) k
+
 -- ---- a part from `from` on, which a slice has as the front of its rest
 module _ (i : ℕ) (part : List ℕ) (from : ℕ) where
   pub rest-ready : {t : Tally} → Ready t (length (withEach i (drop from part))) → Ready t (length (withEach i (take (length part - from) (drop from part))))
@@ -176,6 +256,11 @@ module _ (i : ℕ) (part : List ℕ) (from : ℕ) where
 
   pub rest-listed : (e : Scene) (s : Listing) {r : Listing} → r ≡ listOf e s (withEach i (take (length part - from) (drop from part))) → r ≡ listOf e s (withEach i (drop from part))
   rest-listed e s q = rw (rest-of part from) at q
+
+  -- .. from a memory that is as it was
+  pub kept-listed : (e : Scene) (t : Tally) {old mid : List ℕ} {r : Listing} → mid ≡ old → r ≡ listOf e (record { tally = t; mem = mid }) (withEach i (take (length part - from) (drop from part)))
+      → r ≡ listOf e (record { tally = t; mem = old }) (withEach i (drop from part))
+  kept-listed e t {old} {mid} k q = kept-memory e t (withEach i (drop from part)) k (rest-listed e (record { tally = t; mem = mid }) q)
 
   -- the checks have room for it
   pub rest-fits : {t : Tally} → Ready t (length (withEach i (drop from part))) → t .checks + (length part - from) < 4294967296

@@ -3,6 +3,7 @@ use Prim.Native.Nat.{ℕ, _*_, _≤_, _<_}
 use mathlib.Core.Path.{_≡_, refl, sym, ap, _∙_, subst}
 use mathlib.Core.Bool.{Bool, true, false, cond, not, _&&_, false≢true, true≢false}
 use native.Mathlib.Nat.{mul-one, zero-mul}
+use mathlib.Core.List.{List}
 use native.Mathlib.Omega.{arith}
 use borrow.Author.Tests.{not-true, ltb-false}
 use lib.Dec.{T, ltb, ltb→lt, not-T}
@@ -10,23 +11,27 @@ use lib.IntN.{ℤ}
 use lib.Ieee.{Float, nan, inf, fin, binary64, up, down, lt, le, fits, ofBits}
 use lib.Ieee.Bits.{is-false}
 use lib.Ieee.Fits.{add-fits}
-use Rattle.float.specs.Arith.{_⊕_, _⊖_, _⊗_, bits}
+use Rattle.float.specs.Arith.{_⊕_, _⊖_, _⊗_, bits, at, row}
 use Rattle.float.specs.Def.{absOf}
 use Rattle.float.proofs.Branches.{both-true, yes}
-use Rattle.cell_axis.specs.Image.{nearestOf, fractionOf, NearSays}
-use Rattle.cell_axis.proofs.Law.{bounded}
+use Rattle.cell_axis.specs.Image.{nearestOf, fractionOf, nearAxisOf, NearSays}
+use Rattle.cell_axis.proofs.Law.{bounded, near-apart}
 use Rattle.cell_axis.proofs.Unit.{nearest-one}
-use Rattle.cell_square.specs.Square.{SideSays}
+use Rattle.cell_square.specs.Square.{SideSays, Stepped, SteadySays, CalmSays}
 use Rattle.cell_square.proofs.Law.{abs-turned}
+use Rattle.cell_square.proofs.Least.{gap-law, sums-keep}
+use Rattle.cell_square.proofs.Opposite.{Opposite, opposite-sub, opposite-three, opposite-abs, opposite-square, near-opposite}
 use Rattle.cell.specs.declared.Vec3.{Vec3}
 use Rattle.cell.specs.Vec.{subOf, dotOf, norm2Of}
-use Rattle.cell.specs.Matrix.{Matrix, matrixOf, timesOf}
+use Rattle.cell.specs.Matrix.{Matrix, matrixOf, timesRow, timesOf}
 use Rattle.cell.specs.Cell.{roundAxisOf}
 use Rattle.cell.specs.General.{generalBy, imageBy, roundedBy}
 use Rattle.cell_prepared.specs.Facts.{huge, shortAxis, isShort, shortImage, diffIn, imageIn}
 use Rattle.neighbor_listing.specs.declared.sight.Sight.{Sight}
 use Rattle.neighbor_listing.specs.Steps.{seesOf}
-use Rattle.neighbor_listing.specs.Sides.{turned, seesApart, isFinite, boxHolds, BoxSays, fractionsOf, inUnit, isTilted, tiltedHolds, TiltedSays}
+use Rattle.neighbor_listing.specs.declared.side.Bounds.{Bounds}
+use Rattle.neighbor_listing.specs.declared.side.Reach.{Reach}
+use Rattle.neighbor_listing.specs.Sides.{spotIn, turned, seesApart, isFinite, boxHolds, BoxSays, Enclosed, Bounded, steppedSees, stepIn, gapIn, isBeyond, SingleSays, StillSays, ReachSays, Reaches, fractionsOf, inUnit, isTilted, tiltedHolds, TiltedSays}
 
 abbrev one : Float
 one = bits 0x3ff0_0000_0000_0000
@@ -68,12 +73,24 @@ module _ (s : Sight) (a b : Vec3) where
   unfolding seesApart
   image-sees d h = rw (image-short d h)
 
+  squared : (len v : Float) → lt len huge ≡ true → nearestOf len v ⊗ nearestOf len v ≡ shortAxis len v ⊗ shortAxis len v
+  squared len v h = ap (λ (q : Float). q ⊗ q) (sym (short-is len v h))
+
+  -- one step on each axis
+  pub stepped-law : (p : Vec3) → Stepped (l .x) (a .x) (b .x) (p .x) → Stepped (l .y) (a .y) (b .y) (p .y) → Stepped (l .z) (a .z) (b .z) (p .z) → isFinite l ≡ true → (rising : Bool) → steppedSees s a p b ≡ seesApart s (turned rising a b)
+  stepped-law p nx ny nz h rising =
+      let f = three (lt (l .x) huge) (lt (l .y) huge) (lt (l .z) huge) h in
+      let d = turned rising a b in
+      ap (λ (q : Float). le q (s .limit))
+      (norm2-by (record { x = a .x ⊖ b .x ⊕ p .x; y = a .y ⊖ b .y ⊕ p .y; z = a .z ⊖ b .z ⊕ p .z }) (shortImage l d)
+      (nx .image rising ∙ squared (l .x) (d .x) (f .x))
+      (ny .image rising ∙ squared (l .y) (d .y) (f .y))
+      (nz .image rising ∙ squared (l .z) (d .z) (f .z)))
+      ∙ image-sees d (short-either rising (record { x = nx .short; y = ny .short; z = nz .short }))
+
   pub box-law : {x y z : Float} → SideSays (l .x) (a .x) (b .x) x → SideSays (l .y) (a .y) (b .y) y → SideSays (l .z) (a .z) (b .z) z → {r : Bool} → r ≡ le (norm2Of (record { x = x; y = y; z = z })) (s .limit) → BoxSays s a b r
   box-law {x} {y} {z} nx ny nz {r} e = record { is = go }
     where
-      squared : (len v : Float) → lt len huge ≡ true → nearestOf len v ⊗ nearestOf len v ≡ shortAxis len v ⊗ shortAxis len v
-      squared len v h = ap (λ (q : Float). q ⊗ q) (sym (short-is len v h))
-
       go : (rising : Bool) → boxHolds s a b ≡ true → r ≡ seesApart s (turned rising a b)
       go rising h =
           let p3 = both-true (isFinite l && lt (absOf (a .x ⊖ b .x)) (l .x) && lt (absOf (a .y ⊖ b .y)) (l .y)) (lt (absOf (a .z ⊖ b .z)) (l .z)) h in
@@ -88,6 +105,83 @@ module _ (s : Sight) (a b : Vec3) where
           (ny .image rising (p2 .1) (bounded (l .y) huge (f .y)) ∙ squared (l .y) (d .y) (f .y))
           (nz .image rising (p3 .1) (bounded (l .z) huge (f .z)) ∙ squared (l .z) (d .z) (f .z)))
           ∙ image-sees d (short-either rising (record { x = p1 .1; y = p2 .1; z = p3 .1 }))
+
+-- ---- of every place within the bounds
+module _ (s : Sight) (a : Vec3) (w : Bounds) where
+  abbrev L : Vec3
+  L = s .prepared .short
+
+  pub single-says : {f x y z : Bool} → f ≡ isFinite L → SteadySays (L .x) (a .x) (w .lo .x) (w .hi .x) x → SteadySays (L .y) (a .y) (w .lo .y) (w .hi .y) y → SteadySays (L .z) (a .z) (w .lo .z) (w .hi .z) z
+      → SingleSays s a w (w .sound && f && x && y && z)
+  unfolding norm2Of
+  single-says {f} {x} {y} {z} ef nx ny nz =
+      record { none = out; sound = λ t. both-true (w .sound) f (both-true (w .sound && f) x (both-true (w .sound && f && x) y (both-true (w .sound && f && x && y) z t .0) .0) .0) .0; sees = go }
+    where
+      go : w .sound && f && x && y && z ≡ true → (b : Vec3) → Enclosed w b → (rising : Bool) → steppedSees s a (stepIn s a w) b ≡ seesApart s (turned rising a b)
+      go t b v rising =
+          let p3 = both-true (w .sound && f && x && y) z t in
+          let p2 = both-true (w .sound && f && x) y (p3 .0) in
+          let p1 = both-true (w .sound && f) x (p2 .0) in
+          let h : isFinite L ≡ true = sym ef ∙ both-true (w .sound) f (p1 .0) .1 in
+          let g = three (lt (L .x) huge) (lt (L .y) huge) (lt (L .z) huge) h in
+          stepped-law s a b (stepIn s a w)
+          (nx .each (p1 .1) (bounded (L .x) huge (g .x)) (b .x) (v .x-low) (v .x-high))
+          (ny .each (p2 .1) (bounded (L .y) huge (g .y)) (b .y) (v .y-low) (v .y-high))
+          (nz .each (p3 .1) (bounded (L .z) huge (g .z)) (b .z) (v .z-low) (v .z-high))
+          h rising
+
+      out : w .sound && f && x && y && z ≡ true → isBeyond s (stepIn s a w) a w ≡ true → (b : Vec3) → Enclosed w b → (rising : Bool) → seesApart s (turned rising a b) ≡ false
+      out t o b v rising =
+          let p3 = both-true (w .sound && f && x && y) z t in
+          let p2 = both-true (w .sound && f && x) y (p3 .0) in
+          let p1 = both-true (w .sound && f) x (p2 .0) in
+          let g = three (lt (L .x) huge) (lt (L .y) huge) (lt (L .z) huge) (sym ef ∙ both-true (w .sound) f (p1 .0) .1) in
+          sym (go t b v rising)
+          ∙ sums-keep (s .limit)
+          (gap-law (L .x) (a .x) (b .x) (w .lo .x) (w .hi .x) (bounded (L .x) huge (g .x)) (v .x-low) (v .x-high) (sym (nx .is) ∙ p1 .1))
+          (gap-law (L .y) (a .y) (b .y) (w .lo .y) (w .hi .y) (bounded (L .y) huge (g .y)) (v .y-low) (v .y-high) (sym (ny .is) ∙ p2 .1))
+          (gap-law (L .z) (a .z) (b .z) (w .lo .z) (w .hi .z) (bounded (L .z) huge (g .z)) (v .z-low) (v .z-high) (sym (nz .is) ∙ p3 .1))
+          (not-true (le (norm2Of (gapIn (stepIn s a w) a w)) (s .limit)) o)
+
+  -- the common case: the steps are nothing
+  pub still-says : {f x y z : Bool} → f ≡ isFinite L → CalmSays (L .x) (a .x) (w .lo .x) (w .hi .x) x → CalmSays (L .y) (a .y) (w .lo .y) (w .hi .y) y → CalmSays (L .z) (a .z) (w .lo .z) (w .hi .z) z
+      → StillSays s a w (w .sound && f && x && y && z)
+  still-says {f} {x} {y} {z} ef nx ny nz = record { single = go; step = steps }
+    where
+      steps : w .sound && f && x && y && z ≡ true → record { x = bits 0; y = bits 0; z = bits 0 } ≡ stepIn s a w
+      steps t =
+          let p3 = both-true (w .sound && f && x && y) z t in
+          let p2 = both-true (w .sound && f && x) y (p3 .0) in
+          let p1 = both-true (w .sound && f) x (p2 .0) in
+          sym (λ i. record { x = nx .step (p1 .1) i; y = ny .step (p2 .1) i; z = nz .step (p3 .1) i })
+
+      go : w .sound && f && x && y && z ≡ true → SingleSays s a w true
+      go t =
+          let p3 = both-true (w .sound && f && x && y) z t in
+          let p2 = both-true (w .sound && f && x) y (p3 .0) in
+          let p1 = both-true (w .sound && f) x (p2 .0) in
+          let p0 = both-true (w .sound) f (p1 .0) in
+          let g = three (lt (L .x) huge) (lt (L .y) huge) (lt (L .z) huge) (sym ef ∙ p0 .1) in
+          subst (λ (q : Bool). SingleSays s a w q) (rw (p0 .0, p0 .1) (refl {A = Bool} {a = true}))
+          (single-says ef (nx .steady (p1 .1) (bounded (L .x) huge (g .x))) (ny .steady (p2 .1) (bounded (L .y) huge (g .y))) (nz .steady (p3 .1) (bounded (L .z) huge (g .z))))
+
+  pub reach-says : {x o : Bool} {p : Vec3} → SingleSays s a w x → p ≡ stepIn s a w → o ≡ isBeyond s p a w → ReachSays s a w (record { single = x; step = p; beyond = x && o })
+  reach-says {x} {o} {p} n e h =
+      record {
+        sound = n .sound;
+        sees = λ t b v rising. ap (λ (q : Vec3). steppedSees s a q b) e ∙ n .sees t b v rising;
+        only = λ t. both-true x o t .0;
+        none = λ t b v rising. let q = both-true x o t in n .none (q .0) (sym (h ∙ ap (λ (z : Vec3). isBeyond s z a w) e) ∙ q .1) b v rising;
+      }
+
+  pub reach-none : (p : Vec3) → ReachSays s a w (record { single = false; step = p; beyond = false })
+  reach-none p = record { sound = λ t. absurd (false≢true t); sees = λ t b v rising. absurd (false≢true t); only = λ t. absurd (false≢true t); none = λ t b v rising. absurd (false≢true t) }
+
+  pub none-reached : {bx by bz : List Float} {k : ℕ} {r : Reach} → Bounded bx by bz k w → ReachSays s a w r → r .beyond ≡ true → (m : ℕ) → m < k → (rising : Bool) → seesApart s (turned rising a (spotIn bx by bz m)) ≡ false
+  none-reached {bx} {by} {bz} u n t m h rising = n .none t (spotIn bx by bz m) (u .are (n .sound (n .only t)) m h) rising
+
+  pub reaches : {bx by bz : List Float} {k : ℕ} {r : Reach} → Bounded bx by bz k w → ReachSays s a w r → Reaches s a bx by bz k r
+  reaches {bx} {by} {bz} u n = record { sees = λ t m h rising. n .sees t (spotIn bx by bz m) (u .are (n .sound t) m h) rising }
 
 -- ---- a tilted cell
 not-above-zero : (n : ℕ) (d : ℤ) → lt (bits 0) (fin false n d) ≡ false → n * up d ≡ 0
@@ -178,6 +272,63 @@ module _ (s : Sight) (d : Vec3) where
           e ∙ ap (λ (q : Vec3). le (norm2Of (timesOf (matrixOf (s .prepared .lattice)) q)) (s .limit)) (rounded t)
           ∙ unfold seesApart in ap (λ (q : Vec3). le (norm2Of q) (s .limit)) (sym (image-tilted t))
 
+-- ---- in a tilted cell: a difference is seen where the other way round is
+one-fits : T (fits binary64 one)
+unfolding ofBits fits
+one-fits = tt
+
+nears : (x : Float) → T (fits binary64 x) → NearSays (absOf x) one x (nearAxisOf (absOf x) one x)
+nears x F = record { is = refl; formula = λ A h k. near-apart one x (inf false) (absOf x) (nearAxisOf (absOf x) one x) one-fits F A h k refl }
+
+module _ (s : Sight) (a b : Vec3) where
+  abbrev forth : Vec3
+  forth = fractionsOf s (turned true a b)
+
+  abbrev back : Vec3
+  back = fractionsOf s (turned false a b)
+
+  fraction-opposite : (v : Vec3) → Opposite (dotOf v (turned true a b)) (dotOf v (turned false a b))
+  fraction-opposite v =
+      opposite-three (v .x) (v .y) (v .z) (a .x ⊖ b .x) (a .y ⊖ b .y) (a .z ⊖ b .z) (b .x ⊖ a .x) (b .y ⊖ a .y) (b .z ⊖ a .z)
+      (opposite-sub (a .x) (b .x)) (opposite-sub (a .y) (b .y)) (opposite-sub (a .z) (b .z))
+
+  turned-holds : tiltedHolds s (turned true a b) ≡ true → tiltedHolds s (turned false a b) ≡ true
+  turned-holds h =
+      (λ i. isTilted s
+      && (lt (opposite-abs (forth .x) (back .x) (fraction-opposite (s .prepared .general .ix)) i) one
+      && lt (opposite-abs (forth .y) (back .y) (fraction-opposite (s .prepared .general .iy)) i) one
+      && lt (opposite-abs (forth .z) (back .z) (fraction-opposite (s .prepared .general .iz)) i) one))
+      ∙ h
+
+  abbrev nearsOf : Vec3 → Vec3
+  nearsOf f = record { x = nearAxisOf (absOf (f .x)) one (f .x); y = nearAxisOf (absOf (f .y)) one (f .y); z = nearAxisOf (absOf (f .z)) one (f .z) }
+
+  times-square : (m : Matrix) (u v : Vec3) → Opposite (u .x) (v .x) → Opposite (u .y) (v .y) → Opposite (u .z) (v .z) → norm2Of (timesOf m u) ≡ norm2Of (timesOf m v)
+  unfolding timesOf
+  times-square m u v p q r = norm2-by (timesOf m u) (timesOf m v) (square-of (row m 0)) (square-of (row m 1)) (square-of (row m 2))
+    where
+      square-of : (l : List Float) → timesRow l u ⊗ timesRow l u ≡ timesRow l v ⊗ timesRow l v
+      square-of l = opposite-square (timesRow l u) (timesRow l v) (opposite-three (at l 0) (at l 1) (at l 2) (u .x) (u .y) (u .z) (v .x) (v .y) (v .z) p q r)
+
+  tilted-seen : (d : Vec3) → tiltedHolds s d ≡ true → le (norm2Of (timesOf (matrixOf (s .prepared .lattice)) (nearsOf (fractionsOf s d)))) (s .limit) ≡ seesApart s d
+  tilted-seen d h =
+      tilted-law s d
+      (nears (fractionsOf s d .x) (dot-fits (s .prepared .general .ix) d))
+      (nears (fractionsOf s d .y) (dot-fits (s .prepared .general .iy) d))
+      (nears (fractionsOf s d .z) (dot-fits (s .prepared .general .iz) d))
+      refl .is h
+
+  pub tilted-back : tiltedHolds s (turned true a b) ≡ true → seesApart s (turned true a b) ≡ seesApart s (turned false a b)
+  tilted-back h =
+      let t = tilts s (turned true a b) h .units in
+      sym (tilted-seen (turned true a b) h)
+      ∙ ap (λ (q : Float). le q (s .limit))
+      (times-square (matrixOf (s .prepared .lattice)) (nearsOf forth) (nearsOf back)
+      (near-opposite (forth .x) (back .x) (dot-fits (s .prepared .general .ix) (turned true a b)) (t .x) (fraction-opposite (s .prepared .general .ix)))
+      (near-opposite (forth .y) (back .y) (dot-fits (s .prepared .general .iy) (turned true a b)) (t .y) (fraction-opposite (s .prepared .general .iy)))
+      (near-opposite (forth .z) (back .z) (dot-fits (s .prepared .general .iz) (turned true a b)) (t .z) (fraction-opposite (s .prepared .general .iz))))
+      ∙ tilted-seen (turned false a b) (turned-holds h)
+
 -- ---- as the code has them
 pub box-says : (s : Sight) (a b : Vec3) {x y z q : Float} → SideSays (s .prepared .short .x) (a .x) (b .x) x → SideSays (s .prepared .short .y) (a .y) (b .y) y → SideSays (s .prepared .short .z) (a .z) (b .z) z
     → q ≡ norm2Of (record { x = x; y = y; z = z }) → BoxSays s a b (le q (s .limit))
@@ -196,8 +347,12 @@ tilted-says s d {g} {u} {v} {w} {q} {m} {t} e nx ny nz em et eq =
 pub box-turn : {s : Sight} {a b : Vec3} {r h : Bool} → BoxSays s a b r → h ≡ boxHolds s a b → (rising : Bool) → h ≡ true → r ≡ seesApart s (turned rising a b)
 box-turn n e rising t = n .is rising (sym e ∙ t)
 
-pub tilted-turn : {s : Sight} {d : Vec3} {r h : Bool} → TiltedSays s d r → h ≡ tiltedHolds s d → (rising : Bool) (a b : Vec3) → d ≡ turned rising a b → h ≡ true → r ≡ seesApart s (turned rising a b)
-tilted-turn {s} n e rising a b ed t = n .is (sym e ∙ t) ∙ ap (λ (d : Vec3). seesApart s d) ed
+pub tilted-turn : {s : Sight} {d : Vec3} {r h : Bool} → TiltedSays s d r → h ≡ tiltedHolds s d → (rising : Bool) (a b : Vec3) → d ≡ turned true a b → h ≡ true → r ≡ seesApart s (turned rising a b)
+tilted-turn {s} n e rising a b ed t = n .is (sym e ∙ t) ∙ ap (λ (d : Vec3). seesApart s d) ed ∙ go rising
+  where
+    go : (rising : Bool) → seesApart s (turned true a b) ≡ seesApart s (turned rising a b)
+    go true = refl
+    go false = tilted-back s a b (sym (ap (λ (d : Vec3). tiltedHolds s d) ed) ∙ sym e ∙ t)
 
 -- ---- the loops' test is the scene's
 pub turned-sees : (s : Sight) (rising : Bool) (a b : Vec3) → seesApart s (turned rising a b) ≡ seesOf s (cond rising a b) (cond rising b a)

@@ -1,18 +1,21 @@
 -- The atoms of a bin side by side in local arrays, and which of them an atom is near. Nobody has to believe it. Definitions only.
 use Prim.Native.Nat.{ℕ, _+_, _≤_, _<_}
 use mathlib.Core.Path.{_≡_}
-use mathlib.Core.Bool.{Bool, true, cond, not, _&&_}
+use mathlib.Core.Bool.{Bool, true, false, cond, not, _&&_}
 use mathlib.Core.List.{List}
 use lib.Dec.{ltb}
 use lib.ListN.{length, getD, take, drop}
 use lib.Ieee.{Float, lt, le}
-use Rattle.float.specs.Arith.{_⊖_, at, bits}
+use Rattle.float.specs.Arith.{_⊕_, _⊖_, at, bits}
 use Rattle.float.specs.Def.{absOf}
 use Rattle.lists.specs.Lists.{keep}
 use Rattle.cell.specs.declared.Vec3.{Vec3}
 use Rattle.cell.specs.Vec.{dotOf, norm2Of, positionAt}
 use Rattle.cell_prepared.specs.Facts.{huge, imageIn}
+use Rattle.cell_square.specs.Square.{stepOf, gapOf}
 use Rattle.neighbor_listing.specs.declared.sight.Sight.{Sight}
+use Rattle.neighbor_listing.specs.declared.side.Bounds.{Bounds}
+use Rattle.neighbor_listing.specs.declared.side.Reach.{Reach}
 
 -- three rooms of 64
 pub record SideRooms (bx by bz : List Float) : Type 0 where
@@ -73,6 +76,70 @@ tiltedHolds s d = isTilted s && inUnit (fractionsOf s d)
 
 pub record TiltedSays (s : Sight) (d : Vec3) (r : Bool) : Type 0 where
   pub is : tiltedHolds s d ≡ true → r ≡ seesApart s d
+
+-- ---- a part's bounds
+pub record Enclosed (w : Bounds) (b : Vec3) : Type 0 where
+  pub x-low : le (w .lo .x) (b .x) ≡ true
+  pub x-high : le (b .x) (w .hi .x) ≡ true
+  pub y-low : le (w .lo .y) (b .y) ≡ true
+  pub y-high : le (b .y) (w .hi .y) ≡ true
+  pub z-low : le (w .lo .z) (b .z) ≡ true
+  pub z-high : le (b .z) (w .hi .z) ≡ true
+
+pub record AllEnclosed (bx by bz : List Float) (k : ℕ) (w : Bounds) (r : Bool) : Type 0 where
+  pub are : r ≡ true → (m : ℕ) → m < k → Enclosed w (spotIn bx by bz m)
+
+-- the first k places are in them, where they are sound
+pub record Bounded (bx by bz : List Float) (k : ℕ) (w : Bounds) : Type 0 where
+  pub are : w .sound ≡ true → (m : ℕ) → m < k → Enclosed w (spotIn bx by bz m)
+
+abbrev pub isEnclosed : Bounds → Vec3 → Bool
+isEnclosed w b = le (w .lo .x) (b .x) && le (b .x) (w .hi .x) && le (w .lo .y) (b .y) && le (b .y) (w .hi .y) && le (w .lo .z) (b .z) && le (b .z) (w .hi .z)
+
+-- whether a place is seen from a, by a step on each axis
+abbrev pub steppedSees : Sight → Vec3 → Vec3 → Vec3 → Bool
+steppedSees s a p b = le (norm2Of (record { x = a .x ⊖ b .x ⊕ p .x; y = a .y ⊖ b .y ⊕ p .y; z = a .z ⊖ b .z ⊕ p .z })) (s .limit)
+
+-- the step of the differences of a and what is within the bounds
+abbrev pub stepIn : Sight → Vec3 → Bounds → Vec3
+stepIn s a w =
+    record {
+      x = stepOf (s .prepared .short .x) (a .x ⊖ w .hi .x) (a .x ⊖ w .lo .x);
+      y = stepOf (s .prepared .short .y) (a .y ⊖ w .hi .y) (a .y ⊖ w .lo .y);
+      z = stepOf (s .prepared .short .z) (a .z ⊖ w .hi .z) (a .z ⊖ w .lo .z);
+    }
+
+-- how far the places within the bounds are from a at least, but for the signs
+abbrev pub gapIn : Vec3 → Vec3 → Bounds → Vec3
+gapIn p a w =
+    record {
+      x = gapOf (p .x) (a .x ⊖ w .hi .x) (a .x ⊖ w .lo .x);
+      y = gapOf (p .y) (a .y ⊖ w .hi .y) (a .y ⊖ w .lo .y);
+      z = gapOf (p .z) (a .z ⊖ w .hi .z) (a .z ⊖ w .lo .z);
+    }
+
+abbrev pub isBeyond : Sight → Vec3 → Vec3 → Bounds → Bool
+isBeyond s p a w = not (le (norm2Of (gapIn p a w)) (s .limit))
+
+-- whichever atom is the low one, of every place within the bounds
+pub record SingleSays (s : Sight) (a : Vec3) (w : Bounds) (r : Bool) : Type 0 where
+  pub sound : r ≡ true → w .sound ≡ true
+  pub sees : r ≡ true → (b : Vec3) → Enclosed w b → (rising : Bool) → steppedSees s a (stepIn s a w) b ≡ seesApart s (turned rising a b)
+  pub none : r ≡ true → isBeyond s (stepIn s a w) a w ≡ true → (b : Vec3) → Enclosed w b → (rising : Bool) → seesApart s (turned rising a b) ≡ false
+
+pub record StillSays (s : Sight) (a : Vec3) (w : Bounds) (r : Bool) : Type 0 where
+  pub single : r ≡ true → SingleSays s a w true
+  pub step : r ≡ true → record { x = bits 0; y = bits 0; z = bits 0 } ≡ stepIn s a w
+
+pub record ReachSays (s : Sight) (a : Vec3) (w : Bounds) (r : Reach) : Type 0 where
+  pub sound : r .single ≡ true → w .sound ≡ true
+  pub sees : r .single ≡ true → (b : Vec3) → Enclosed w b → (rising : Bool) → steppedSees s a (r .step) b ≡ seesApart s (turned rising a b)
+  pub only : r .beyond ≡ true → r .single ≡ true
+  pub none : r .beyond ≡ true → (b : Vec3) → Enclosed w b → (rising : Bool) → seesApart s (turned rising a b) ≡ false
+
+-- .. and so of the first k places
+pub record Reaches (s : Sight) (a : Vec3) (bx by bz : List Float) (k : ℕ) (r : Reach) : Type 0 where
+  pub sees : r .single ≡ true → (m : ℕ) → m < k → (rising : Bool) → steppedSees s a (r .step) (spotIn bx by bz m) ≡ seesApart s (turned rising a (spotIn bx by bz m))
 
 -- whether atom i at a sees atom j at b: low less high
 abbrev pub sighted : Sight → ℕ → Vec3 → ℕ → Vec3 → Bool

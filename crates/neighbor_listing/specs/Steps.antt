@@ -23,6 +23,7 @@ use Rattle.candidates.specs.Checks.{lazy}
 use Rattle.exclusions.specs.Table.{rowAt, lookedFrom}
 use Rattle.neighbor_grid.specs.Grid.{gridOf, cellAt, plainOf}
 use Rattle.neighbor_grid.specs.Layout.{touchingRows}
+use Rattle.neighbor_listing.specs.declared.loops.Tried.{Tried}
 use Rattle.neighbor_listing.specs.declared.sight.Sight.{Sight}
 
 -- whether a low atom at a and a high one at b are near
@@ -66,6 +67,11 @@ pub record Gathered (q : ℕ → Bool) (part : List ℕ) (r : ℕ) (mem : List �
 -- from a tally t and a memory, the candidates lead to the tally r and the new memory
 abbrev pub Lists : Sight → List Float → List ℕ → List ℕ → Tally → List ℕ → List (ℕ × ℕ) → Tally → List ℕ → Type 0
 Lists s xs firsts table t old cands r new = record { tally = r; mem = new } ≡ listOf (sceneBy s xs firsts table) (record { tally = t; mem = old }) cands
+
+-- so it is where it is done, and else the memory is as it was
+pub record TriedSays (s : Sight) (xs : List Float) (firsts table : List ℕ) (t : Tally) (old : List ℕ) (cands : List (ℕ × ℕ)) (r : Tried) (new : List ℕ) : Type 0 where
+  pub lists : r .done ≡ true → Lists s xs firsts table t old cands (r .tally) new
+  pub kept : r .done ≡ false → new ≡ old
 
 -- the atoms of a cell, as the tables hand them out
 abbrev pub atomsBy : Grid → List ℕ → List ℕ → Cell → List ℕ

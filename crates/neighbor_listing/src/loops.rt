@@ -2,6 +2,7 @@
 // with a part of a bin, at most 32 at a time. The near ones are gathered without a branch; of these, what is not excluded is stored where there is room.
 use crate::firsts::first_of;
 use crate::side;
+use crate::side::Bounds;
 use crate::sight::Sight;
 use crate::sight::sees;
 use crate::sight::spot_at;
@@ -14,8 +15,8 @@ ghost use Rattle.cell.specs.Vec.{positionAt};
 ghost use Rattle.lists.specs.Lists.{ordered, withEach, inside, across};
 ghost use Rattle.bins.specs.Listing.{considerOf, listOf, Ready, Below};
 ghost use mathlib.Core.Bool.{cond};
-ghost use Rattle.neighbor_listing.specs.Sides.{SideRooms, LaidOut};
-ghost use Rattle.neighbor_listing.specs.Steps.{chosenBy, nearTo, Gathered, Lists};
+ghost use Rattle.neighbor_listing.specs.Sides.{SideRooms, LaidOut, Bounded};
+ghost use Rattle.neighbor_listing.specs.Steps.{chosenBy, nearTo, Gathered, Lists, TriedSays};
 
 fn lower(i: u32, j: u32) -> u32
     ensures { λ r. ⌜ r ≡ min i j ⌝ }
@@ -159,7 +160,63 @@ fn consider_part(
     now
 }
 
-// An atom with each of a part from `from` on, which lies side by side.
+// What was made of an atom with a part: its tally, or nothing, where a difference goes the long way.
+struct Tried {
+    done: bool,
+    tally: Tally,
+}
+
+// An atom with each of a part from `from` on, which lies side by side. Where the bounds are out of sight none is near.
+fn try_side(
+    s: Sight,
+    xs: &[f64],
+    table: &[u32],
+    firsts: &[u32],
+    pairs: &mut [u32],
+    t: Tally,
+    i: u32,
+    from: usize,
+    part: &[u32],
+    bx: &[f64],
+    by: &[f64],
+    bz: &[f64],
+    flags: &mut [usize],
+    room: &mut [u32],
+    w: Bounds,
+) -> Tried
+    requires { ⌜ (i < length (now xs) / 3) × Below (length (now xs) / 3) (now part) × (from ≤ length (now part)) × (length (now part) ≤ 64) × LaidOut (now xs) (now part) (now bx) (now by) (now bz) (length (now part)) × (length (now flags) ≡ 64) × (length (now room) ≡ 64) × Ready t (length (withEach i (drop from (now part)))) × Bounded (now bx) (now by) (now bz) (length (now part)) w ⌝ }
+    ensures { λ r. ⌜ TriedSays s (now (xs .entry)) (now (firsts .entry)) (now (table .entry)) t (now (pairs .entry)) (withEach i (drop from (now (part .entry)))) r (now (pairs .exit)) ⌝ }
+{
+    let a = spot_at(xs, i as usize);
+    let r = side::reach_of(s, a, w);
+    if r.beyond {
+        return Tried {
+            done: true,
+            tally: Tally {
+                count: t.count,
+                checks: t.checks + (part.len() - from),
+            },
+        };
+    }
+    if !side::flag(s, i, a, from, part, bx, by, bz, flags, r) {
+        return Tried {
+            done: false,
+            tally: t,
+        };
+    }
+    let count = side::gather(from, part, flags, room);
+    let near = settle_all(table, firsts, pairs, t, i, &room[..count]);
+    Tried {
+        done: true,
+        tally: Tally {
+            count: near.count,
+            checks: t.checks + (part.len() - from),
+        },
+    }
+}
+
+// .. or by the long way. Apart from `try_side`, which hands the cell's facts to no call: so it copies none of them. It has two callers, and so stays
+// a function of its own.
 fn consider_side(
     s: Sight,
     xs: &[f64],
@@ -175,20 +232,75 @@ fn consider_side(
     bz: &[f64],
     flags: &mut [usize],
     room: &mut [u32],
+    w: Bounds,
 ) -> Tally
-    requires { ⌜ (i < length (now xs) / 3) × Below (length (now xs) / 3) (now part) × (from ≤ length (now part)) × (length (now part) ≤ 64) × LaidOut (now xs) (now part) (now bx) (now by) (now bz) (length (now part)) × (length (now flags) ≡ 64) × (length (now room) ≡ 64) × Ready t (length (withEach i (drop from (now part)))) ⌝ }
+    requires { ⌜ (i < length (now xs) / 3) × Below (length (now xs) / 3) (now part) × (from ≤ length (now part)) × (length (now part) ≤ 64) × LaidOut (now xs) (now part) (now bx) (now by) (now bz) (length (now part)) × (length (now flags) ≡ 64) × (length (now room) ≡ 64) × Ready t (length (withEach i (drop from (now part)))) × Bounded (now bx) (now by) (now bz) (length (now part)) w ⌝ }
     ensures { λ r. ⌜ Lists s (now (xs .entry)) (now (firsts .entry)) (now (table .entry)) t (now (pairs .entry)) (withEach i (drop from (now (part .entry)))) r (now (pairs .exit)) ⌝ }
 {
-    let a = spot_at(xs, i as usize);
-    if !side::flag(s, i, a, from, part, bx, by, bz, flags) {
-        return consider_part(s, xs, table, firsts, pairs, t, i, &part[from..]);
+    let o = try_side(
+        s,
+        xs,
+        table,
+        firsts,
+        pairs,
+        t,
+        i,
+        from,
+        part,
+        bx,
+        by,
+        bz,
+        flags,
+        room,
+        w,
+    );
+    if o.done {
+        return o.tally;
     }
-    let count = side::gather(from, part, flags, room);
-    let near = settle_all(table, firsts, pairs, t, i, &room[..count]);
-    Tally {
-        count: near.count,
-        checks: t.checks + (part.len() - from),
+    consider_part(s, xs, table, firsts, pairs, t, i, &part[from..])
+}
+
+// .. with each of a whole part.
+fn consider_whole(
+    s: Sight,
+    xs: &[f64],
+    table: &[u32],
+    firsts: &[u32],
+    pairs: &mut [u32],
+    t: Tally,
+    i: u32,
+    part: &[u32],
+    bx: &[f64],
+    by: &[f64],
+    bz: &[f64],
+    flags: &mut [usize],
+    room: &mut [u32],
+    w: Bounds,
+) -> Tally
+    requires { ⌜ (i < length (now xs) / 3) × Below (length (now xs) / 3) (now part) × (length (now part) ≤ 64) × LaidOut (now xs) (now part) (now bx) (now by) (now bz) (length (now part)) × (length (now flags) ≡ 64) × (length (now room) ≡ 64) × Ready t (length (withEach i (now part))) × Bounded (now bx) (now by) (now bz) (length (now part)) w ⌝ }
+    ensures { λ r. ⌜ Lists s (now (xs .entry)) (now (firsts .entry)) (now (table .entry)) t (now (pairs .entry)) (withEach i (now (part .entry))) r (now (pairs .exit)) ⌝ }
+{
+    let o = try_side(
+        s,
+        xs,
+        table,
+        firsts,
+        pairs,
+        t,
+        i,
+        0,
+        part,
+        bx,
+        by,
+        bz,
+        flags,
+        room,
+        w,
+    );
+    if o.done {
+        return o.tally;
     }
+    consider_part(s, xs, table, firsts, pairs, t, i, part)
 }
 
 // Each atom of a bin with each of another, which lies side by side.
@@ -206,15 +318,16 @@ fn cross_side(
     bz: &[f64],
     flags: &mut [usize],
     room: &mut [u32],
+    w: Bounds,
 ) -> Tally
-    requires { ⌜ Below (length (now xs) / 3) (now home) × Below (length (now xs) / 3) (now other) × (length (now other) ≤ 64) × LaidOut (now xs) (now other) (now bx) (now by) (now bz) (length (now other)) × (length (now flags) ≡ 64) × (length (now room) ≡ 64) × Ready t (length (across (now home) (now other))) ⌝ }
+    requires { ⌜ Below (length (now xs) / 3) (now home) × Below (length (now xs) / 3) (now other) × (length (now other) ≤ 64) × LaidOut (now xs) (now other) (now bx) (now by) (now bz) (length (now other)) × (length (now flags) ≡ 64) × (length (now room) ≡ 64) × Ready t (length (across (now home) (now other))) × Bounded (now bx) (now by) (now bz) (length (now other)) w ⌝ }
     ensures { λ r. ⌜ Lists s (now (xs .entry)) (now (firsts .entry)) (now (table .entry)) t (now (pairs .entry)) (across (now (home .entry)) (now (other .entry))) r (now (pairs .exit)) ⌝ }
 {
     let mut now = t;
     let mut k = 0;
     while k < home.len() {
         let i = home[k];
-        now = consider_side(
+        now = consider_whole(
             s,
             xs,
             table,
@@ -222,13 +335,13 @@ fn cross_side(
             pairs,
             now,
             i,
-            0,
             other,
             bx,
             by,
             bz,
             flags,
             room,
+            w,
         );
         k += 1;
     }
@@ -249,8 +362,9 @@ fn home_side(
     bz: &[f64],
     flags: &mut [usize],
     room: &mut [u32],
+    w: Bounds,
 ) -> Tally
-    requires { ⌜ Below (length (now xs) / 3) (now home) × (length (now home) ≤ 64) × LaidOut (now xs) (now home) (now bx) (now by) (now bz) (length (now home)) × (length (now flags) ≡ 64) × (length (now room) ≡ 64) × Ready t (length (inside (now home))) ⌝ }
+    requires { ⌜ Below (length (now xs) / 3) (now home) × (length (now home) ≤ 64) × LaidOut (now xs) (now home) (now bx) (now by) (now bz) (length (now home)) × (length (now flags) ≡ 64) × (length (now room) ≡ 64) × Ready t (length (inside (now home))) × Bounded (now bx) (now by) (now bz) (length (now home)) w ⌝ }
     ensures { λ r. ⌜ Lists s (now (xs .entry)) (now (firsts .entry)) (now (table .entry)) t (now (pairs .entry)) (inside (now (home .entry))) r (now (pairs .exit)) ⌝ }
 {
     let mut now = t;
@@ -272,6 +386,7 @@ fn home_side(
             bz,
             flags,
             room,
+            w,
         );
         k += 1;
     }
@@ -298,6 +413,7 @@ fn cross_few(
     let mut flags = side::blank_flags();
     let mut room = side::blank_room();
     side::lay_out(xs, other, &mut bx, &mut by, &mut bz);
+    let w = side::bounds_of(other.len(), &bx, &by, &bz);
     cross_side(
         s,
         xs,
@@ -312,6 +428,7 @@ fn cross_few(
         &bz,
         &mut flags,
         &mut room,
+        w,
     )
 }
 
@@ -333,6 +450,7 @@ fn home_few(
     let mut flags = side::blank_flags();
     let mut room = side::blank_room();
     side::lay_out(xs, home, &mut bx, &mut by, &mut bz);
+    let w = side::bounds_of(home.len(), &bx, &by, &bz);
     home_side(
         s,
         xs,
@@ -346,6 +464,7 @@ fn home_few(
         &bz,
         &mut flags,
         &mut room,
+        w,
     )
 }
 

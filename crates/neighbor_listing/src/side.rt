@@ -1,16 +1,32 @@
 // The atoms of a bin side by side, at most 64. An atom is held against them in a loop that has no call and no branch, so that two go in an instruction;
-// it is right where every difference goes a short way, and says whether that is so.
+// it is right where every difference goes a short way, and says whether that is so. In a box the bounds of their places say it once for all of them,
+// and the way, and whether any can be in sight: rounding keeps the order.
 use crate::sight::Sight;
 use crate::sight::spot_at;
 use cell::Vec3;
 use cell::matrices;
 use cell::vectors;
 ghost use mathlib.Core.Path.{_≡_};
-ghost use mathlib.Core.Bool.{cond};
+ghost use mathlib.Core.Bool.{cond, true};
 ghost use Prim.Native.Nat.{_/_, _≤_, _<_};
 ghost use lib.ListN.{length};
 ghost use Rattle.bins.specs.Listing.{Below};
-ghost use Rattle.neighbor_listing.specs.Sides.{SideRooms, LaidOut, turned, BoxSays, isFinite, boxHolds, TiltedSays, fractionsOf, inUnit, isTilted, tiltedHolds, Flags, Bits, FlagsTaken};
+ghost use Rattle.neighbor_listing.specs.Sides.{SideRooms, LaidOut, BoxSays, isFinite, boxHolds, TiltedSays, fractionsOf, inUnit, isTilted, tiltedHolds, isEnclosed, AllEnclosed, Bounded, stepIn, gapIn, isBeyond, SingleSays, StillSays, steppedSees, ReachSays, Reaches, Flagged, Flags, Bits, FlagsTaken};
+
+// The least and the greatest coordinates of a part's places, and whether each lies between them: not where one is not a number.
+pub struct Bounds {
+    pub lo: Vec3,
+    pub hi: Vec3,
+    pub sound: bool,
+}
+
+// What the bounds say of all their places: whether one step on each axis takes the differences with an atom to their images, that step, and whether
+// all of them are out of sight then.
+pub struct Reach {
+    pub single: bool,
+    pub step: Vec3,
+    pub beyond: bool,
+}
 
 // SideRooms of 64; in functions of their own, so that no proof writes out their numbers.
 pub(crate) fn blank_places() -> [f64; 64]
@@ -52,14 +68,96 @@ fn pick(test: bool, a: f64, b: f64) -> f64
     if test { a } else { b }
 }
 
-// a - b, or b - a, by selects.
-fn apart_by(rising: bool, a: Vec3, b: Vec3) -> Vec3
-    ensures { λ r. ⌜ r ≡ turned rising a b ⌝ }
-{
+fn least(a: Vec3, b: Vec3) -> Vec3 {
     Vec3 {
-        x: pick(rising, a.x - b.x, b.x - a.x),
-        y: pick(rising, a.y - b.y, b.y - a.y),
-        z: pick(rising, a.z - b.z, b.z - a.z),
+        x: pick(b.x < a.x, b.x, a.x),
+        y: pick(b.y < a.y, b.y, a.y),
+        z: pick(b.z < a.z, b.z, a.z),
+    }
+}
+
+fn greatest(a: Vec3, b: Vec3) -> Vec3 {
+    Vec3 {
+        x: pick(a.x < b.x, b.x, a.x),
+        y: pick(a.y < b.y, b.y, a.y),
+        z: pick(a.z < b.z, b.z, a.z),
+    }
+}
+
+// The bounds of n places. Nothing is said of them here: `all_enclosed` asks.
+fn ends_of(n: usize, bx: &[f64], by: &[f64], bz: &[f64]) -> Bounds
+    requires { ⌜ (n ≤ 64) × SideRooms (now bx) (now by) (now bz) ⌝ }
+{
+    let far = 1.0 / 0.0;
+    let mut lo = Vec3 {
+        x: far,
+        y: far,
+        z: far,
+    };
+    let mut hi = Vec3 {
+        x: -far,
+        y: -far,
+        z: -far,
+    };
+    let mut k = 0;
+    while k < n {
+        let b = Vec3 {
+            x: bx[k],
+            y: by[k],
+            z: bz[k],
+        };
+        lo = least(lo, b);
+        hi = greatest(hi, b);
+        k += 1;
+    }
+    Bounds {
+        lo: lo,
+        hi: hi,
+        sound: true,
+    }
+}
+
+fn is_enclosed(w: Bounds, b: Vec3) -> bool
+    ensures { λ r. ⌜ r ≡ isEnclosed w b ⌝ }
+{
+    (w.lo.x <= b.x)
+        & (b.x <= w.hi.x)
+        & (w.lo.y <= b.y)
+        & (b.y <= w.hi.y)
+        & (w.lo.z <= b.z)
+        & (b.z <= w.hi.z)
+}
+
+fn all_enclosed(w: Bounds, n: usize, bx: &[f64], by: &[f64], bz: &[f64]) -> bool
+    requires { ⌜ (n ≤ 64) × SideRooms (now bx) (now by) (now bz) ⌝ }
+    ensures { λ r. ⌜ AllEnclosed (now (bx .entry)) (now (by .entry)) (now (bz .entry)) n w r ⌝ }
+{
+    let mut ok = true;
+    let mut k = 0;
+    while k < n {
+        let b = Vec3 {
+            x: bx[k],
+            y: by[k],
+            z: bz[k],
+        };
+        ok = ok & is_enclosed(w, b);
+        k += 1;
+    }
+    ok
+}
+
+pub(crate) fn bounds_of(n: usize, bx: &[f64], by: &[f64], bz: &[f64]) -> Bounds
+    requires { ⌜ (n ≤ 64) × SideRooms (now bx) (now by) (now bz) ⌝ }
+    ensures { λ r. ⌜ Bounded (now (bx .entry)) (now (by .entry)) (now (bz .entry)) n r ⌝ }
+{
+    let w = ends_of(n, bx, by, bz);
+    let sound = all_enclosed(w, n, bx, by, bz);
+    let lo = w.lo;
+    let hi = w.hi;
+    Bounds {
+        lo: lo,
+        hi: hi,
+        sound: sound,
     }
 }
 
@@ -96,6 +194,99 @@ fn box_holds(s: Sight, a: Vec3, b: Vec3) -> bool
         & cell_square::in_length(l.x, a.x, b.x)
         & cell_square::in_length(l.y, a.y, b.y)
         & cell_square::in_length(l.z, a.z, b.z)
+}
+
+// In a box, for all places within the bounds at once: by the two ends of the differences on each axis.
+fn is_single(s: Sight, a: Vec3, w: Bounds) -> bool
+    ensures { λ r. ⌜ SingleSays s a w r ⌝ }
+{
+    let l = s.prepared.short;
+    w.sound
+        & is_finite(l)
+        & cell_square::steady(l.x, a.x, w.lo.x, w.hi.x)
+        & cell_square::steady(l.y, a.y, w.lo.y, w.hi.y)
+        & cell_square::steady(l.z, a.z, w.lo.z, w.hi.z)
+}
+
+// .. of which the step is nothing.
+fn is_still(s: Sight, a: Vec3, w: Bounds) -> bool
+    ensures { λ r. ⌜ StillSays s a w r ⌝ }
+{
+    let l = s.prepared.short;
+    w.sound
+        & is_finite(l)
+        & cell_square::calm(l.x, a.x, w.lo.x, w.hi.x)
+        & cell_square::calm(l.y, a.y, w.lo.y, w.hi.y)
+        & cell_square::calm(l.z, a.z, w.lo.z, w.hi.z)
+}
+
+fn step_of(s: Sight, a: Vec3, w: Bounds) -> Vec3
+    ensures { λ r. ⌜ r ≡ stepIn s a w ⌝ }
+{
+    let l = s.prepared.short;
+    Vec3 {
+        x: cell_square::step(l.x, a.x, w.lo.x, w.hi.x),
+        y: cell_square::step(l.y, a.y, w.lo.y, w.hi.y),
+        z: cell_square::step(l.z, a.z, w.lo.z, w.hi.z),
+    }
+}
+
+fn gap_of(p: Vec3, a: Vec3, w: Bounds) -> Vec3
+    ensures { λ r. ⌜ r ≡ gapIn p a w ⌝ }
+{
+    Vec3 {
+        x: cell_square::gap(p.x, a.x, w.lo.x, w.hi.x),
+        y: cell_square::gap(p.y, a.y, w.lo.y, w.hi.y),
+        z: cell_square::gap(p.z, a.z, w.lo.z, w.hi.z),
+    }
+}
+
+fn is_beyond(s: Sight, p: Vec3, a: Vec3, w: Bounds) -> bool
+    ensures { λ r. ⌜ r ≡ isBeyond s p a w ⌝ }
+{
+    !(vectors::norm2(gap_of(p, a, w)) <= s.limit)
+}
+
+pub(crate) fn reach_of(s: Sight, a: Vec3, w: Bounds) -> Reach
+    ensures { λ r. ⌜ ReachSays s a w r ⌝ }
+{
+    if s.prepared.general.skewed {
+        return Reach {
+            single: false,
+            step: a,
+            beyond: false,
+        };
+    }
+    if is_still(s, a, w) {
+        let none = Vec3 {
+            x: 0.0,
+            y: 0.0,
+            z: 0.0,
+        };
+        return Reach {
+            single: true,
+            step: none,
+            beyond: is_beyond(s, none, a, w),
+        };
+    }
+    let single = is_single(s, a, w);
+    let step = step_of(s, a, w);
+    Reach {
+        single: single,
+        step: step,
+        beyond: single & is_beyond(s, step, a, w),
+    }
+}
+
+fn stepped_sees(s: Sight, a: Vec3, p: Vec3, b: Vec3) -> bool
+    ensures { λ r. ⌜ r ≡ steppedSees s a p b ⌝ }
+{
+    let d = Vec3 {
+        x: (a.x - b.x) + p.x,
+        y: (a.y - b.y) + p.y,
+        z: (a.z - b.z) + p.z,
+    };
+    vectors::norm2(d) <= s.limit
 }
 
 // In a tilted cell: where each fraction is below 1.
@@ -144,7 +335,34 @@ fn tilted_sees(s: Sight, d: Vec3) -> bool
     vectors::norm2(matrices::times(matrices::matrix(l), near)) <= s.limit
 }
 
-// Which of a part's atoms, from `from` on, atom i sees, which is at a.
+// Which of a part's atoms, from `from` on, atom i sees, which is at a. By one step for all of them there is nothing else to ask.
+fn flag_stepped(
+    s: Sight,
+    i: u32,
+    a: Vec3,
+    r: Reach,
+    from: usize,
+    part: &[u32],
+    bx: &[f64],
+    by: &[f64],
+    bz: &[f64],
+    flags: &mut [usize],
+)
+    requires { ⌜ (from ≤ length (now part)) × (length (now part) ≤ 64) × SideRooms (now bx) (now by) (now bz) × (length (now flags) ≡ 64) × Reaches s a (now bx) (now by) (now bz) (length (now part)) r × (r .single ≡ true) ⌝ }
+    ensures { λ _. ⌜ Flagged s i a (now (part .entry)) (now (bx .entry)) (now (by .entry)) (now (bz .entry)) from (length (now (part .entry))) (now (flags .exit)) ⌝ }
+{
+    let mut k = from;
+    while k < part.len() {
+        let b = Vec3 {
+            x: bx[k],
+            y: by[k],
+            z: bz[k],
+        };
+        flags[k] = one(stepped_sees(s, a, r.step, b));
+        k += 1;
+    }
+}
+
 fn flag_box(
     s: Sight,
     i: u32,
@@ -174,6 +392,7 @@ fn flag_box(
     ok
 }
 
+// a - b for all of them: b - a is seen where it is.
 fn flag_tilted(
     s: Sight,
     i: u32,
@@ -191,12 +410,11 @@ fn flag_tilted(
     let mut ok = true;
     let mut k = from;
     while k < part.len() {
-        let b = Vec3 {
-            x: bx[k],
-            y: by[k],
-            z: bz[k],
+        let d = Vec3 {
+            x: a.x - bx[k],
+            y: a.y - by[k],
+            z: a.z - bz[k],
         };
-        let d = apart_by(i < part[k], a, b);
         flags[k] = one(tilted_sees(s, d));
         ok = ok & tilted_holds(s, d);
         k += 1;
@@ -214,10 +432,15 @@ pub(crate) fn flag(
     by: &[f64],
     bz: &[f64],
     flags: &mut [usize],
+    r: Reach,
 ) -> bool
-    requires { ⌜ (from ≤ length (now part)) × (length (now part) ≤ 64) × SideRooms (now bx) (now by) (now bz) × (length (now flags) ≡ 64) ⌝ }
-    ensures { λ r. ⌜ Flags s i a (now (part .entry)) (now (bx .entry)) (now (by .entry)) (now (bz .entry)) from (length (now (part .entry))) (now (flags .exit)) r ⌝ }
+    requires { ⌜ (from ≤ length (now part)) × (length (now part) ≤ 64) × SideRooms (now bx) (now by) (now bz) × (length (now flags) ≡ 64) × Reaches s a (now bx) (now by) (now bz) (length (now part)) r ⌝ }
+    ensures { λ o. ⌜ Flags s i a (now (part .entry)) (now (bx .entry)) (now (by .entry)) (now (bz .entry)) from (length (now (part .entry))) (now (flags .exit)) o ⌝ }
 {
+    if r.single {
+        flag_stepped(s, i, a, r, from, part, bx, by, bz, flags);
+        return true;
+    }
     if s.prepared.general.skewed {
         return flag_tilted(s, i, a, from, part, bx, by, bz, flags);
     }

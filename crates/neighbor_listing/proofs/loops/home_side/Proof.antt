@@ -12,56 +12,41 @@ use Rattle.neighbor_listing.proofs.loops.home_side.Statement.{statement
 use Rattle.neighbor_listing.proofs.loops.home_side.Tie as tie
 
 abbrev Inv-loop : tie.InvT-loop
-Inv-loop s xs table firsts pairs₀ home bx by bz flags₀ room₀ now₀ k₀ pairs flags room now k = (k ≤ length home) × (length pairs ≡ length pairs₀) × (length flags ≡ 64) × (length room ≡ 64) × Run (sceneBy s xs firsts table) (record { tally = now₀; mem = pairs₀ }) (record { tally = now; mem = pairs }) (inside home) (inside (drop k home))
+Inv-loop s xs table firsts pairs₀ home bx by bz flags₀ room₀ w now₀ k₀ pairs flags room now k = (k ≤ length home) × (length pairs ≡ length pairs₀) × (length flags ≡ 64) × (length room ≡ 64) × Run (sceneBy s xs firsts table) (record { tally = now₀; mem = pairs₀ }) (record { tally = now; mem = pairs }) (inside home) (inside (drop k home))
 
 abbrev μ-loop : tie.MeasureT-loop
-μ-loop s xs table firsts pairs₀ home bx by bz flags₀ room₀ now₀ k₀ pairs flags room now k = length home - k
+μ-loop s xs table firsts pairs₀ home bx by bz flags₀ room₀ w now₀ k₀ pairs flags room now k = length home - k
 
--- src/loops.rt:258:5
 loop-holds : tie.Need-loop-holds Inv-loop μ-loop
 loop-holds c = (omega arith, refl, c .before .before .before .before .before .before .before .before .before .before .pre .3, c .before .before .before .before .before .before .before .before .before .before .pre .4, run-begin _ (c .before .before .before .before .before .before .before .before .before .before .pre .5))
 
--- src/loops.rt:259:17
-mul-i : tie.Need-mul-i Inv-loop μ-loop
-mul-i c = search needs
-
--- src/loops.rt:259:17
 shared-slice-read-i : tie.Need-shared-slice-read-i Inv-loop μ-loop
 shared-slice-read-i c = omega (arith, c .before .loop-test .taken)
 
--- src/loops.rt:268:13
 add-consider-side : tie.Need-add-consider-side Inv-loop μ-loop
 add-consider-side c = omega (arith, c .before .before .loop-test .taken, c .before .before .before .before .before .before .before .before .before .before .before .before .before .before .pre .1)
 
--- src/loops.rt:260:9
 consider-side-requires : tie.Need-consider-side-requires Inv-loop μ-loop
-consider-side-requires c κs = (c .before .before .before .before .before .before .before .before .before .before .before .before .before .before .before .before .pre .0 _ (c .before .before .before .before .loop-test .taken), c .before .before .before .before .before .before .before .before .before .before .before .before .before .before .before .before .pre .0, omega (arith, c .before .before .before .before .loop-test .taken), c .before .before .before .before .before .before .before .before .before .before .before .before .before .before .before .before .pre .1, c .before .before .before .before .before .before .before .before .before .before .before .before .before .before .before .before .pre .2, c .before .before .before .before .before .loop .inv .2, c .before .before .before .before .before .loop .inv .3, inside-ready _ _ (c .before .before .before .before .loop-test .taken) (c .before .before .before .before .before .loop .inv .4 .ready))
+consider-side-requires c κs = (c .before .before .before .before .before .before .before .before .before .before .before .before .before .before .before .before .pre .0 _ (c .before .before .before .before .loop-test .taken), c .before .before .before .before .before .before .before .before .before .before .before .before .before .before .before .before .pre .0, omega (arith, c .before .before .before .before .loop-test .taken), c .before .before .before .before .before .before .before .before .before .before .before .before .before .before .before .before .pre .1, c .before .before .before .before .before .before .before .before .before .before .before .before .before .before .before .before .pre .2, c .before .before .before .before .before .loop .inv .2, c .before .before .before .before .before .loop .inv .3, inside-ready _ _ (c .before .before .before .before .loop-test .taken) (c .before .before .before .before .before .loop .inv .4 .ready), c .before .before .before .before .before .before .before .before .before .before .before .before .before .before .before .before .pre .6)
 
--- src/loops.rt:276:9
 add-k : tie.Need-add-k Inv-loop μ-loop
 add-k c = omega (arith, c .before .before .before .before .before .before .before .before .before .before .before .loop-test .taken, c .before .before .before .before .before .before .before .before .before .before .before .before .before .before .before .before .before .before .before .before .before .before .before .pre .1)
 
--- src/loops.rt:258:5
 loop-less : tie.Need-loop-less Inv-loop μ-loop
 loop-less c = omega (arith, c .before .before .before .before .before .before .before .before .before .before .before .loop-test .taken)
 
--- src/loops.rt:258:5
 loop-again : tie.Need-loop-again Inv-loop μ-loop
 loop-again c = (omega (arith, c .before .before .before .before .before .before .before .before .before .before .before .loop-test .taken), c .before .before .before .before .before .before .consider-side .kept .1 .1 .1 .1 .0 ∙ c .before .before .before .before .before .before .before .before .before .before .before .before .loop .inv .1, c .before .before .before .before .before .before .consider-side .kept .1 .1 .1 .1 .1 .1 .1 .1 .1 .1 .1 .1 .0 ∙ c .before .before .before .before .before .before .before .before .before .before .before .before .loop .inv .2, c .before .before .before .before .before .before .consider-side .kept .1 .1 .1 .1 .1 .1 .1 .1 .1 .1 .1 .1 .1 .0 ∙ c .before .before .before .before .before .before .before .before .before .before .before .before .loop .inv .3, inside-run _ _ (c .before .before .before .before .before .before .before .before .before .before .before .loop-test .taken) _ (c .before .before .before .before .before .before .before .before .before .before .before .before .loop .inv .4) (c .before .before .before .before .before .before .consider-side .ensures))
 
--- src/loops.rt:239:1
 same-length : tie.Need-same-length Inv-loop μ-loop
 same-length c = c .before .loop .inv .1
 
--- src/loops.rt:239:1
 same-length-2 : tie.Need-same-length-2 Inv-loop μ-loop
 same-length-2 c = c .before .loop .inv .2 ∙ sym (c .before .before .before .before .before .before .before .before .before .before .before .before .pre .3)
 
--- src/loops.rt:239:1
 same-length-3 : tie.Need-same-length-3 Inv-loop μ-loop
 same-length-3 c = c .before .loop .inv .3 ∙ sym (c .before .before .before .before .before .before .before .before .before .before .before .before .pre .4)
 
--- src/loops.rt:239:1
 returns : tie.Need-returns Inv-loop μ-loop
 returns c = run-inside-end _ [] _ (c .loop-test .left) (c .before .loop .inv .4)
 
@@ -72,7 +57,7 @@ home-side-spec =
     Inv-loop
     μ-loop
     loop-holds
-    mul-i
+    (λ c. search needs)
     shared-slice-read-i
     add-consider-side
     consider-side-requires

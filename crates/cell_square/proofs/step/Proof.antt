@@ -1,0 +1,17 @@
+use Rattle.cell_square.specs.Square.{stepOf}
+use borrow.Author.Needs.{needs}
+use Rattle.cell_square.proofs.step.Statement.{statement}
+use Rattle.cell_square.proofs.step.Tie as tie
+
+returns : tie.Need-returns
+returns c = unfold stepOf in rw (c .pick2 .ensures, c .before .pick .ensures, c .before .before .before .in-half .ensures, c .before .before .in-half2 .ensures)
+
+pub step-spec : {M : Type 1} → statement M
+step-spec =
+    tie.close
+    (tie.spec
+    (λ c κs. search needs)
+    (λ c κs. search needs)
+    (λ c κs. search needs)
+    (λ c κs. search needs)
+    returns)
