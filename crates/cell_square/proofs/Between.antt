@@ -18,7 +18,7 @@ use Rattle.float.proofs.Branches.{yes, both-true, sign-fits}
 use Rattle.cell_axis.specs.Image.{shiftOf}
 use Rattle.cell_axis.proofs.Double.{double-below, double-reaches}
 use Rattle.cell_axis.proofs.Twice.{twice}
-use Rattle.cell_square.specs.Square.{square, smallerOf, inHalf, steadyOf, stepOf, Stepped, SteadySays, calmOf, CalmSays}
+use Rattle.cell_square.specs.Square.{square, smallerOf, inHalf, steadyOf, stepOf, OneStep, SteadySays, calmOf, CalmSays}
 use Rattle.cell_square.proofs.Law.{picked, by-number, either-way}
 use Rattle.cell_square.proofs.Keeps.{Before, before-of-le, sub-keeps, sub-finite, between-finite}
 
@@ -274,7 +274,7 @@ differences l a b lo hi p q h =
     let m = between-finite (a ⊖ hi) (a ⊖ b) (a ⊖ lo) x y first second in
     record { low = x; mid = m; high = y; first = before-of-le (a ⊖ hi) (a ⊖ b) x m first; second = before-of-le (a ⊖ b) (a ⊖ lo) m y second }
 
-pub steady-law : (l a b lo hi : Float) → T (fits binary64 l) → lt l (inf false) ≡ true → le lo b ≡ true → le b hi ≡ true → steadyOf l (a ⊖ hi) (a ⊖ lo) ≡ true → Stepped l a b (stepOf l (a ⊖ hi) (a ⊖ lo))
+pub steady-law : (l a b lo hi : Float) → T (fits binary64 l) → lt l (inf false) ≡ true → le lo b ≡ true → le b hi ≡ true → steadyOf l (a ⊖ hi) (a ⊖ lo) ≡ true → OneStep l a b (stepOf l (a ⊖ hi) (a ⊖ lo))
 steady-law l a b lo hi F fine p q h =
     let w = differences l a b lo hi p q h in
     let v =

@@ -33,14 +33,14 @@ unfoldable pub stepOf : Float → Float → Float → Float
 stepOf len low high = cond (inHalf len low && inHalf len high) (bits 0) (cond (not (inHalf len low) && lt (bits 0) low) (neg len) len)
 
 -- .. and gives a number whose square is that of the image, of a less b and of b less a
-pub record Stepped (len a b step : Float) : Type 0 where
+pub record OneStep (len a b step : Float) : Type 0 where
   pub short : lt (absOf (a ⊖ b)) len ≡ true
   pub image : (rising : Bool) → square (a ⊖ b ⊕ step) ≡ square (nearestOf len (cond rising (a ⊖ b) (b ⊖ a)))
 
 -- the differences of a and the places from lo up to hi
 pub record SteadySays (len a lo hi : Float) (r : Bool) : Type 0 where
   pub is : r ≡ steadyOf len (a ⊖ hi) (a ⊖ lo)
-  pub each : r ≡ true → lt len (inf false) ≡ true → (b : Float) → le lo b ≡ true → le b hi ≡ true → Stepped len a b (stepOf len (a ⊖ hi) (a ⊖ lo))
+  pub each : r ≡ true → lt len (inf false) ≡ true → (b : Float) → le lo b ≡ true → le b hi ≡ true → OneStep len a b (stepOf len (a ⊖ hi) (a ⊖ lo))
 
 -- the common case, which asks less: all within a half of a length. The step is nothing then
 abbrev pub calmOf : Float → Float → Float → Bool

@@ -25,7 +25,8 @@ use Rattle.potentials_angle.specs.declared.AngleTerm.the-variants as AngleTerm�
 use Rattle.potentials_angle.specs.Ranged.{angleInRange, perAngleInRange}
 use Rattle.potentials_angle.specs.Rows.{missingOf}
 use Rattle.potentials.specs.Ranged.{coordinate, cutoffOk, charge, rowsInRange, ljInRange, bondInRange}
-use Rattle.neighbor.specs.Update.{Given, firstOf, keptAsked, tableAsked, firstRefusal}
+use Rattle.neighbor_asked.specs.Asked.{firstRefusal}
+use Rattle.neighbor.specs.Update.{Given, firstOf, keptAsked, tableAsked}
 use Rattle.evaluate.specs.Terms.{Terms}
 
 -- 1 of the terms' tables: "rows not two an id" in either species table (`tables`); "species, charges not n; bonds .. half a row; forces not as long as positions"; half a row of angles or of their numbers. The other arguments are lengths

@@ -10,7 +10,7 @@ use potentials::LjTerm;
 use potentials::ranged;
 use potentials_angle::AngleTerm;
 ghost use mathlib.Core.Path.{_≡_};
-ghost use Rattle.neighbor.specs.Update.{firstRefusal};
+ghost use Rattle.neighbor_asked.specs.Asked.{firstRefusal};
 ghost use Rattle.potentials_pair.specs.Species.{tables};
 ghost use Rattle.evaluate.specs.Asked.{termsFit, ljOk, coulombOk, bondOk, angleOk, numbersOk, bondRowsAsked, anglesNamed, namesAsked, inTurn};
 ghost use Rattle.evaluate.specs.Calls.{jobOf, askedOf};
@@ -122,16 +122,6 @@ fn asked_angles(n: usize, angles: &[u32]) -> Done
     Done::Answered
 }
 
-// The first refusal of two tests.
-fn and_then(a: Done, b: Done) -> Done
-    ensures { λ r. ⌜ r ≡ firstRefusal a b ⌝ }
-{
-    match a {
-        Done::Answered => b,
-        Done::Refused(why) => Done::Refused(why),
-    }
-}
-
 // A bond's 4, an angle's; 5 of the exclusions, of the desk's own species, of the house's.
 fn asked_names(
     n: usize,
@@ -147,7 +137,7 @@ fn asked_names(
     let b = asked_angles(n, angles);
     let c = neighbor::asked::asked_table(table);
     let d = potentials::species::asked_order(own_ids, ids);
-    and_then(a, and_then(b, and_then(c, d)))
+    neighbor_asked::asked::names_in_turn(a, b, c, d)
 }
 
 fn in_turn(fits: bool, first: Done, ok: bool, kept: Done, names: Done) -> Done
@@ -157,9 +147,9 @@ fn in_turn(fits: bool, first: Done, ok: bool, kept: Done, names: Done) -> Done
         return Done::Refused(Refusal::Lengths);
     }
     if !ok {
-        return and_then(first, Done::Refused(Refusal::Range));
+        return neighbor_asked::asked::and_then(first, Done::Refused(Refusal::Range));
     }
-    and_then(first, and_then(kept, names))
+    neighbor_asked::asked::and_then(first, neighbor_asked::asked::and_then(kept, names))
 }
 
 // Refusals 1, 2, 6, 3, 4, 5. `fits` and `inside` are what a step asks besides at 1 and at 3.

@@ -15,7 +15,7 @@ ghost use Rattle.frame.specs.Build.{lengthsBad, rangesOk, frameAsked};
 fn edge_ok(e: u32) -> bool
     ensures { λ r. ⌜ r ≡ edgeOk e ⌝ }
 {
-    (0 < e) & (e <= 1048576)
+    bins_rules::is_edge(e)
 }
 
 // On a periodic axis twice the radius is at most the edge: past that a second image of an atom could be within the radius.

@@ -28,7 +28,7 @@ fn finish(t: Tally, excluded: u64, room: usize, fallback: bool) -> Built
     ensures { λ r. ⌜ seenBuilt r ≡ shownOf (t .count) (t .checks - excluded) room fallback ⌝ }
 {
     let count = t.count;
-    let checks = t.checks - excluded as usize;
+    let checks = bins_rules::checks_of(t.checks, excluded);
     if count <= room {
         return Built::Answered {
             pairs: count as u32,

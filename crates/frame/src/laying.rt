@@ -35,7 +35,7 @@ fn is_narrow(e: Side, radius: u32) -> bool
     ensures { λ r. ⌜ r ≡ narrow e radius ⌝ }
 {
     let edge = e.edge;
-    e.round & (edge / radius < 3)
+    bins_rules::is_narrow(e.round, (edge as u64) / (radius as u64))
 }
 
 fn axis(e: Side, size: u32) -> Axis
@@ -64,7 +64,7 @@ pub(crate) fn plan_of(f: Frame, starts: usize) -> Plan
     let ny = bins_on(f.y.edge, radius);
     let nz = bins_on(f.z.edge, radius);
     let cells = (nx as u64) * (ny as u64) * (nz as u64);
-    if cells < 8 {
+    if bins_rules::is_few(cells) {
         return Plan::AllPairs;
     }
     if (32768 < cells) | (starts as u64 <= cells) {

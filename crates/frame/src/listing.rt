@@ -35,7 +35,7 @@ fn settle(table: &[u32], pairs: &mut [u32], t: Tally, low: u32, high: u32, near:
     }
     bins::kernel::push(pairs, count, low, high);
     Tally {
-        count: count + 1,
+        count: bins_rules::one_more(count),
         checks: checks,
     }
 }

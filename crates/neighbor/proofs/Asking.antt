@@ -32,10 +32,11 @@ use Rattle.cell_prepared.specs.Facts.{prepareOf}
 use Rattle.cell_prepared.proofs.Law.{prepared-image}
 use Rattle.exclusions.specs.Table.{isTable}
 use Rattle.neighbor.specs.declared.State.{State}
-use Rattle.neighbor.specs.State.{settingsOk, skinOf}
-use Rattle.neighbor.specs.Steps.{strayed}
+use Rattle.neighbor_asked.specs.Asked.{settingsOk, firstRefusal}
+use Rattle.neighbor.specs.State.{skinOf}
+use Rattle.neighbor_asked.specs.Strays.{strayed}
 use Rattle.neighbor.specs.Rebuild.{allowance, needsOf, sameBox, outdatedOf, claimsMore, referencesOk, rangesOk, questionOf, needsSeen, outdatedSeen, strayedOf}
-use Rattle.neighbor.specs.Update.{listedOf, firstOf, misnamed, keptAsked, tableAsked, firstRefusal, listAsked}
+use Rattle.neighbor.specs.Update.{listedOf, firstOf, misnamed, keptAsked, tableAsked, listAsked}
 
 -- ---- a search of the numbers below n, one after the other: what is left decides
 pub record Searching (p : ℕ → Bool) (n i : ℕ) : Type 0 where
@@ -100,15 +101,6 @@ module _ (s : State) (n : ℕ) (pairs : List ℕ) (refs : List Float) {a : Bool}
     kept-fine f = let q : misnamed s n pairs ≡ false = sym test-is ∙ f in rw (← ia, h, q)
 
 -- ---- the tests in turn
-module _ {d : Done} (e : Done) where
-  pub then-refused : {r : Refusal} → d ≡ Refused r → Refused r ≡ firstRefusal d e
-  unfolding firstRefusal
-  then-refused q = rw q
-
-  pub then-on : d ≡ Answered → e ≡ firstRefusal d e
-  unfolding firstRefusal
-  then-on q = rw q
-
 module _ (table : List ℕ) {t : Bool} (is : t ≡ isTable (rows table)) where
   pub table-fine : t ≡ true → Answered ≡ tableAsked table
   unfolding tableAsked

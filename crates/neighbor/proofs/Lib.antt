@@ -1,4 +1,3 @@
-pub mod Strays
 pub mod Asking
 pub mod Updates
 pub mod Demands

@@ -29,7 +29,8 @@ use Rattle.neighbor.specs.declared.Question.{Question}
 use Rattle.neighbor.specs.declared.State.{State}
 use Rattle.neighbor.specs.State.{radiusOf}
 use Rattle.neighbor.specs.Rebuild.{claimsMore, rangesOk}
-use Rattle.neighbor.specs.Update.{Given, Outcome, keptAll, builtAll, fullAll, listedAll, listedBy, rebuiltAll, unfit, keepsOf, updateOf, lengthsBad, firstOf, tableAsked, firstRefusal, listAsked, updateAsked, afterOf, mayKeep, updatedOf}
+use Rattle.neighbor_asked.specs.Asked.{firstRefusal}
+use Rattle.neighbor.specs.Update.{Given, Outcome, keptAll, builtAll, fullAll, listedAll, listedBy, rebuiltAll, unfit, keepsOf, updateOf, lengthsBad, firstOf, tableAsked, listAsked, updateAsked, afterOf, mayKeep, updatedOf}
 use Rattle.neighbor.specs.Source.{UpdatesBySource}
 
 -- ---- tests in turn

@@ -3,5 +3,4 @@ pub mod Rebuild
 pub mod Update
 pub mod Listed
 pub mod Box
-pub mod Steps
 pub mod Source

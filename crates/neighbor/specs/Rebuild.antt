@@ -24,8 +24,9 @@ use Rattle.cell.specs.declared.Cell.the-variants.{Absent, Present}
 use Rattle.cell.specs.Vec.{subOf, norm2Of, positionAt}
 use Rattle.cell.specs.Cell.{imageOf}
 use Rattle.cell.specs.Ranged.{entryLimit, cellInRange}
+use Rattle.neighbor_asked.specs.Asked.{settingsOk, inOrder}
 use Rattle.neighbor.specs.declared.State.{State}
-use Rattle.neighbor.specs.State.{settingsOk, skinOf}
+use Rattle.neighbor.specs.State.{skinOf}
 
 unfoldable pub allowance : State → Float
 allowance s = (half ⊗ skinOf s) ⊗ (half ⊗ skinOf s)
@@ -75,11 +76,6 @@ referencesOk s n refs = not (eqb (s .references) n) || every (within entryLimit)
 -- 3: the state, the cell, the positions
 unfoldable pub rangesOk : State → Cell → List Float → Bool
 rangesOk s cell xs = settingsOk (s .cutoff) (s .skin) && cellInRange cell && every (within entryLimit) xs
-
--- 01: "Tested in number order, but 6 right after 2": 1, 2, 6, 3, each by whether it is to be given
-abbrev pub inOrder : (lengths many : Bool) → (atoms : ℕ) → (claims range : Bool) → Done
-inOrder lengths many atoms claims range =
-    cond lengths (Refused Lengths) (cond many (Refused (TooMany atoms)) (cond claims (Refused Claims) (cond range (Refused Range) Answered)))
 
 -- 1 (positions no multiple of 3, references shorter than positions), 2, 6, 3
 unfoldable pub questionOf : State → Cell → List Float → List Float → Done

@@ -12,13 +12,10 @@ use Rattle.cell.specs.declared.Cell.{Cell}
 use Rattle.cell.specs.declared.Cell.the-variants as Cell·cases
 use Rattle.answer.specs.Seen.{Seen, answered, refused, refusedBy, seenNumber}
 use Rattle.answer.specs.declared.Number.{Number}
+use Rattle.neighbor_asked.specs.Asked.{settingsOk}
 use Rattle.neighbor.specs.declared.State.{State}
 use Rattle.neighbor.specs.declared.StateAnswer.{StateAnswer}
 use Rattle.neighbor.specs.declared.StateAnswer.the-variants as Answer·cases
-
--- "Cutoff 0 to 2^20; skin -2^20 to 2^20"
-unfoldable pub settingsOk : Float → Float → Bool
-settingsOk cutoff skin = between (bits 0) entryLimit cutoff && within entryLimit skin
 
 -- `new`: "a negative one becoming 0" (63-69)
 unfoldable pub freshOf : Float → Float → State

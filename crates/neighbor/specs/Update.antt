@@ -22,12 +22,13 @@ use Rattle.exclusions.specs.Table.{isTable}
 use Rattle.neighbor_listing.specs.declared.Listed.{Listed}
 use Rattle.neighbor_listing.specs.declared.Listed.the-variants as Listed·cases
 use Rattle.neighbor_listing.specs.Listed as List·specs
+use Rattle.neighbor_asked.specs.Asked.{inOrder, firstRefusal}
 use Rattle.neighbor.specs.declared.Question.{Question}
 use Rattle.neighbor.specs.declared.Question.the-variants as Question·cases
 use Rattle.neighbor.specs.declared.State.{State}
 use Rattle.neighbor.specs.declared.Updated.{Updated}
 use Rattle.neighbor.specs.State.{radiusOf, keptOf, builtOf, emptiedOf}
-use Rattle.neighbor.specs.Rebuild.{needsOf, outdatedOf, claimsMore, referencesOk, rangesOk, inOrder}
+use Rattle.neighbor.specs.Rebuild.{needsOf, outdatedOf, claimsMore, referencesOk, rangesOk}
 
 -- everything that a build is given; the last four are lent to be written
 pub record Given : Type 0 where
@@ -181,11 +182,6 @@ keptAsked s n pairs refs =
 -- 5
 unfoldable pub tableAsked : List ℕ → Done
 tableAsked table = cond (isTable (rows table)) Done·cases.Answered (Done·cases.Refused Order)
-
--- the first refusal of two tests
-unfoldable pub firstRefusal : Done → Done → Done
-firstRefusal (Done·cases.Refused r) d = Done·cases.Refused r
-firstRefusal Done·cases.Answered d = d
 
 -- 1, 2, 6, 3, 4, 5
 unfoldable pub listAsked : Bool → State → Cell → List Float → List ℕ → List ℕ → List Float → ℕ → Done

@@ -12,16 +12,10 @@ ghost use lib.ListN.{take};
 ghost use Rattle.lists.specs.Lists.{every};
 ghost use Rattle.ranges.specs.Ranged.{within};
 ghost use Rattle.cell.specs.Ranged.{entryLimit};
-ghost use Rattle.neighbor.specs.State.{settingsOk};
-ghost use Rattle.neighbor.specs.Rebuild.{claimsMore, referencesOk, rangesOk, inOrder, questionOf};
+ghost use Rattle.neighbor.specs.Rebuild.{claimsMore, referencesOk, rangesOk, questionOf};
 ghost use Rattle.answer.specs.declared.Done.the-variants.{Answered};
-ghost use Rattle.neighbor.specs.Update.{lengthsBad, firstOf, keptAsked, tableAsked, firstRefusal, listAsked};
-
-pub(crate) fn settings_ok(cutoff: f64, skin: f64) -> bool
-    ensures { λ r. ⌜ r ≡ settingsOk cutoff skin ⌝ }
-{
-    ranges::is_between(0.0, ranged::ENTRY, cutoff) & ranges::is_within(ranged::ENTRY, skin)
-}
+ghost use Rattle.neighbor.specs.Update.{lengthsBad, firstOf, keptAsked, tableAsked, listAsked};
+ghost use Rattle.neighbor_asked.specs.Asked.{firstRefusal};
 
 fn lengths_bad(positions: usize, exclusions: usize, references: usize, items: usize) -> bool
     ensures { λ r. ⌜ r ≡ lengthsBad positions exclusions references items ⌝ }
@@ -47,7 +41,7 @@ pub(crate) fn claims_more(
 fn ranges_ok(s: State, cell: Cell, xs: &[f64]) -> bool
     ensures { λ r. ⌜ r ≡ rangesOk s cell (now (xs .entry)) ⌝ }
 {
-    if !(settings_ok(s.cutoff, s.skin) & ranged::cell_in_range(cell)) {
+    if !(neighbor_asked::asked::settings_ok(s.cutoff, s.skin) & ranged::cell_in_range(cell)) {
         return false;
     }
     ranges::all_within(ranged::ENTRY, xs)
@@ -80,25 +74,6 @@ fn references_ok(s: State, n: usize, refs: &[f64]) -> bool
     first_within(refs, s.references)
 }
 
-// The first refusal of 1, 2, 6, 3.
-fn in_order(lengths: bool, many: bool, atoms: usize, claims: bool, range: bool) -> Done
-    ensures { λ r. ⌜ r ≡ inOrder lengths many atoms claims range ⌝ }
-{
-    if lengths {
-        return Done::Refused(Refusal::Lengths);
-    }
-    if many {
-        return Done::Refused(Refusal::TooMany { atoms: atoms });
-    }
-    if claims {
-        return Done::Refused(Refusal::Claims);
-    }
-    if range {
-        return Done::Refused(Refusal::Range);
-    }
-    Done::Answered
-}
-
 // Refusals 1, 2, 6, 3 of `needs_rebuild` and `outdated`.
 pub(crate) fn question(s: State, cell: Cell, xs: &[f64], refs: &[f64]) -> Done
     ensures { λ r. ⌜ r ≡ questionOf s cell (now (xs .entry)) (now (refs .entry)) ⌝ }
@@ -107,7 +82,7 @@ pub(crate) fn question(s: State, cell: Cell, xs: &[f64], refs: &[f64]) -> Done
     let remembered = s.built_in;
     let claims = claims_more(remembered, 0, 0, s.references, refs.len() / 3);
     let inside = ranges_ok(s, cell, xs) & references_ok(s, n, refs);
-    in_order(
+    neighbor_asked::asked::in_order(
         (xs.len() % 3 != 0) | (refs.len() < xs.len()),
         16384 < n,
         n,
@@ -133,7 +108,7 @@ pub fn asked_first(
     let remembered = s.built_in;
     let claims = claims_more(remembered, s.pairs, pairs / 2, s.references, refs / 3);
     let inside = ranges_ok(s, cell, xs);
-    in_order(lengths, 16384 < n, n, claims, !inside)
+    neighbor_asked::asked::in_order(lengths, 16384 < n, n, claims, !inside)
 }
 
 // Refusals 3 and 4 of a list that may be kept.

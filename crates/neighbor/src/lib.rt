@@ -57,7 +57,7 @@ pub struct Updated {
 pub fn new(cutoff: f64, skin: f64) -> StateAnswer
     ensures { λ r. ⌜ NewSays cutoff skin r ⌝ }
 {
-    if !asked::settings_ok(cutoff, skin) {
+    if !neighbor_asked::asked::settings_ok(cutoff, skin) {
         return StateAnswer::Refused(Refusal::Range);
     }
     StateAnswer::Answered(states::fresh(cutoff, skin))
@@ -67,7 +67,7 @@ pub fn new(cutoff: f64, skin: f64) -> StateAnswer
 pub fn search_radius(s: State) -> Number
     ensures { λ r. ⌜ RadiusSays s r ⌝ }
 {
-    if !asked::settings_ok(s.cutoff, s.skin) {
+    if !neighbor_asked::asked::settings_ok(s.cutoff, s.skin) {
         return Number::Refused(Refusal::Range);
     }
     Number::Answered(states::radius(s))

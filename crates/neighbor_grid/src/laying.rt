@@ -40,12 +40,7 @@ fn bin_of(size: u16, wide: f64, f: f64) -> u16
     requires { ⌜ (1 ≤ size) × (wide ≡ ofInt binary64 (pos size)) ⌝ }
     ensures { λ r. ⌜ r ≡ binOf size f ⌝ }
 {
-    let b = float::to_u64(f * wide);
-    let last = size - 1;
-    if b < last as u64 {
-        return b as u16;
-    }
-    last
+    bins_rules::at_most(float::to_u64(f * wide), size - 1)
 }
 
 fn cell_of(g: Grid, wide: Vec3, f: Vec3) -> Cell

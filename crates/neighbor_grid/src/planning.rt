@@ -35,7 +35,7 @@ fn size_in(width: f64, r: f64) -> u64
 fn is_narrow(round: bool, size: u64) -> bool
     ensures { λ r. ⌜ r ≡ narrow (record { size = size; round = round }) ⌝ }
 {
-    round & (size < 3)
+    bins_rules::is_narrow(round, size)
 }
 
 fn axis(round: bool, size: u64) -> Axis
@@ -78,7 +78,7 @@ fn plan_sizes(m: Measure, nx: u64, ny: u64, nz: u64, starts: usize) -> Plan
         return Plan::TooMany;
     }
     let cells = nx * ny * nz;
-    if cells < 8 {
+    if bins_rules::is_few(cells) {
         return Plan::AllPairs;
     }
     if (32768 < cells) | (starts as u64 <= cells) {

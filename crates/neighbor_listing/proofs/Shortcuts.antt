@@ -17,7 +17,7 @@ use Rattle.float.proofs.Branches.{both-true, yes}
 use Rattle.cell_axis.specs.Image.{nearestOf, fractionOf, nearAxisOf, NearSays}
 use Rattle.cell_axis.proofs.Law.{bounded, near-apart}
 use Rattle.cell_axis.proofs.Unit.{nearest-one}
-use Rattle.cell_square.specs.Square.{SideSays, Stepped, SteadySays, CalmSays}
+use Rattle.cell_square.specs.Square.{SideSays, OneStep, SteadySays, CalmSays}
 use Rattle.cell_square.proofs.Law.{abs-turned}
 use Rattle.cell_square.proofs.Least.{gap-law, sums-keep}
 use Rattle.cell_square.proofs.Opposite.{Opposite, opposite-sub, opposite-three, opposite-abs, opposite-square, near-opposite}
@@ -77,7 +77,7 @@ module _ (s : Sight) (a b : Vec3) where
   squared len v h = ap (λ (q : Float). q ⊗ q) (sym (short-is len v h))
 
   -- one step on each axis
-  pub stepped-law : (p : Vec3) → Stepped (l .x) (a .x) (b .x) (p .x) → Stepped (l .y) (a .y) (b .y) (p .y) → Stepped (l .z) (a .z) (b .z) (p .z) → isFinite l ≡ true → (rising : Bool) → steppedSees s a p b ≡ seesApart s (turned rising a b)
+  pub stepped-law : (p : Vec3) → OneStep (l .x) (a .x) (b .x) (p .x) → OneStep (l .y) (a .y) (b .y) (p .y) → OneStep (l .z) (a .z) (b .z) (p .z) → isFinite l ≡ true → (rising : Bool) → steppedSees s a p b ≡ seesApart s (turned rising a b)
   stepped-law p nx ny nz h rising =
       let f = three (lt (l .x) huge) (lt (l .y) huge) (lt (l .z) huge) h in
       let d = turned rising a b in

@@ -50,7 +50,7 @@ fn settle(table: &[u32], firsts: &[u32], pairs: &mut [u32], t: Tally, i: u32, j:
     let count = t.count;
     bins::kernel::push(pairs, count, low, high);
     Tally {
-        count: count + 1,
+        count: bins_rules::one_more(count),
         checks: t.checks + 1,
     }
 }

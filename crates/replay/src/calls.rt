@@ -21,8 +21,8 @@ use crate::strikes;
 use crate::velocities;
 use crate::virials;
 
-// How many words of `out` are the answer: 0 where the call is unknown or the words are not its arguments.
-pub(crate) fn answer(call: u64, ws: &[u64], out: &mut [u64; 8208]) -> usize {
+// Floats, cells, the virial.
+fn numbers(call: u64, ws: &[u64], out: &mut [u64; 8208]) -> usize {
     if call < 16 {
         return floats::answer(call, ws, out);
     }
@@ -32,15 +32,19 @@ pub(crate) fn answer(call: u64, ws: &[u64], out: &mut [u64; 8208]) -> usize {
     if call < 32 {
         return cells::answer(call, ws, out);
     }
-    if call < 48 {
-        return virials::answer(call, ws, out);
-    }
+    virials::answer(call, ws, out)
+}
+
+// Exclusions and lists.
+fn lists(call: u64, ws: &[u64], out: &mut [u64; 8208]) -> usize {
     if call == 50 || call == 51 {
         return excluded::answer(call, ws, out);
     }
-    if call < 64 {
-        return neighbors::answer(call, ws, out);
-    }
+    neighbors::answer(call, ws, out)
+}
+
+// The whole-number frame and what stands on it.
+fn wholes(call: u64, ws: &[u64], out: &mut [u64; 8208]) -> usize {
     if call == 70 {
         return skins::answer(ws, out);
     }
@@ -53,9 +57,11 @@ pub(crate) fn answer(call: u64, ws: &[u64], out: &mut [u64; 8208]) -> usize {
     if call == 66 {
         return sheets::answer(call, ws, out);
     }
-    if call < 80 {
-        return frames::answer(call, ws, out);
-    }
+    frames::answer(call, ws, out)
+}
+
+// Terms and evaluations.
+fn terms(call: u64, ws: &[u64], out: &mut [u64; 8208]) -> usize {
     if call < 85 {
         return forces::answer(call, ws, out);
     }
@@ -65,9 +71,11 @@ pub(crate) fn answer(call: u64, ws: &[u64], out: &mut [u64; 8208]) -> usize {
     if call == 88 || call == 89 || call == 90 {
         return desks::answer(call, ws, out);
     }
-    if call < 96 {
-        return evaluations::answer(call, ws, out);
-    }
+    evaluations::answer(call, ws, out)
+}
+
+// Velocities, steps, and what changes a running melt.
+fn motion(call: u64, ws: &[u64], out: &mut [u64; 8208]) -> usize {
     if call < 99 {
         return velocities::answer(call, ws, out);
     }
@@ -78,4 +86,21 @@ pub(crate) fn answer(call: u64, ws: &[u64], out: &mut [u64; 8208]) -> usize {
         return strikes::answer(call, ws, out);
     }
     steps::answer(call, ws, out)
+}
+
+// How many words of `out` are the answer: 0 where the call is unknown or the words are not its arguments.
+pub(crate) fn answer(call: u64, ws: &[u64], out: &mut [u64; 8208]) -> usize {
+    if call < 48 {
+        return numbers(call, ws, out);
+    }
+    if call < 64 {
+        return lists(call, ws, out);
+    }
+    if call < 80 {
+        return wholes(call, ws, out);
+    }
+    if call < 96 {
+        return terms(call, ws, out);
+    }
+    motion(call, ws, out)
 }

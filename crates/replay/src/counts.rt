@@ -2,6 +2,7 @@
 use crate::answers;
 use crate::frames;
 use crate::tables;
+use frame::Frame;
 use replay_words::Table;
 use shells::Counted;
 
@@ -60,6 +61,40 @@ fn tell_counted(out: &mut [u64; 8208], answer: Counted) -> usize {
     }
 }
 
+fn told(
+    f: Frame,
+    width: u64,
+    c: Table,
+    e: Table,
+    t: Table,
+    p: Table,
+    s: Table,
+    i: Table,
+    ws: &[u64],
+    out: &mut [u64; 8208],
+) -> usize {
+    let us = tables::u32s(ws);
+    let mut totals = words(ws);
+    let mut pairs = tables::u32s(ws);
+    let mut starts = tables::u32s(ws);
+    let mut items = tables::u32s(ws);
+    let r = shells::add_shells(
+        f,
+        tables::part_u32(&us, c),
+        tables::part_u32(&us, e),
+        width,
+        room_u64(&mut totals, t),
+        tables::room_u32(&mut pairs, p),
+        tables::room_u32(&mut starts, s),
+        tables::room_u32(&mut items, i),
+    );
+    let at = tell_counted(out, r);
+    let counted = put_u64s(out, at, part_u64(&totals, t));
+    let listed = tables::put_room_u32(out, counted, pairs, p);
+    let laid = tables::put_room_u32(out, listed, starts, s);
+    tables::put_room_u32(out, laid, items, i)
+}
+
 pub(crate) fn add_shells_case(ws: &[u64], out: &mut [u64; 8208]) -> usize {
     let f = frames::take_frame(ws, 0);
     let width = replay_words::take_word(ws, f.next);
@@ -72,24 +107,5 @@ pub(crate) fn add_shells_case(ws: &[u64], out: &mut [u64; 8208]) -> usize {
     if i.next != ws.len() {
         return 0;
     }
-    let us = tables::u32s(ws);
-    let mut totals = words(ws);
-    let mut pairs = tables::u32s(ws);
-    let mut starts = tables::u32s(ws);
-    let mut items = tables::u32s(ws);
-    let r = shells::add_shells(
-        f.value,
-        tables::part_u32(&us, c),
-        tables::part_u32(&us, e),
-        width.value,
-        room_u64(&mut totals, t),
-        tables::room_u32(&mut pairs, p),
-        tables::room_u32(&mut starts, s),
-        tables::room_u32(&mut items, i),
-    );
-    let told = tell_counted(out, r);
-    let counted = put_u64s(out, told, part_u64(&totals, t));
-    let listed = replay_words::put_u32s(out, counted, tables::part_u32(&pairs, p));
-    let laid = replay_words::put_u32s(out, listed, tables::part_u32(&starts, s));
-    replay_words::put_u32s(out, laid, tables::part_u32(&items, i))
+    told(f.value, width.value, c, e, t, p, s, i, ws, out)
 }

@@ -5,6 +5,7 @@ use frame::Built;
 use frame::Frame;
 use frame::Side;
 use frame::Spot;
+use replay_words::Table;
 
 // An argument, and the place after it; past the end where a word is missing or is no such argument.
 pub(crate) struct FrameArg {
@@ -76,6 +77,34 @@ fn tell_built(out: &mut [u64; 8208], answer: Built) -> usize {
     }
 }
 
+fn told(
+    f: Frame,
+    c: Table,
+    e: Table,
+    p: Table,
+    s: Table,
+    i: Table,
+    ws: &[u64],
+    out: &mut [u64; 8208],
+) -> usize {
+    let us = tables::u32s(ws);
+    let mut pairs = tables::u32s(ws);
+    let mut starts = tables::u32s(ws);
+    let mut items = tables::u32s(ws);
+    let r = frame::build(
+        f,
+        tables::part_u32(&us, c),
+        tables::part_u32(&us, e),
+        tables::room_u32(&mut pairs, p),
+        tables::room_u32(&mut starts, s),
+        tables::room_u32(&mut items, i),
+    );
+    let at = tell_built(out, r);
+    let listed = tables::put_room_u32(out, at, pairs, p);
+    let laid = tables::put_room_u32(out, listed, starts, s);
+    tables::put_room_u32(out, laid, items, i)
+}
+
 fn build_case(ws: &[u64], out: &mut [u64; 8208]) -> usize {
     let f = take_frame(ws, 0);
     let c = replay_words::take_u32s(ws, f.next);
@@ -86,22 +115,7 @@ fn build_case(ws: &[u64], out: &mut [u64; 8208]) -> usize {
     if i.next != ws.len() {
         return 0;
     }
-    let us = tables::u32s(ws);
-    let mut pairs = tables::u32s(ws);
-    let mut starts = tables::u32s(ws);
-    let mut items = tables::u32s(ws);
-    let r = frame::build(
-        f.value,
-        tables::part_u32(&us, c),
-        tables::part_u32(&us, e),
-        tables::room_u32(&mut pairs, p),
-        tables::room_u32(&mut starts, s),
-        tables::room_u32(&mut items, i),
-    );
-    let told = tell_built(out, r);
-    let listed = replay_words::put_u32s(out, told, tables::part_u32(&pairs, p));
-    let laid = replay_words::put_u32s(out, listed, tables::part_u32(&starts, s));
-    replay_words::put_u32s(out, laid, tables::part_u32(&items, i))
+    told(f.value, c, e, p, s, i, ws, out)
 }
 
 fn squared_distance_case(ws: &[u64], out: &mut [u64; 8208]) -> usize {

@@ -7,6 +7,7 @@ use cell::Cell;
 use neighbor::State;
 use neighbor::StateAnswer;
 use neighbor::Updated;
+use replay_words::Table;
 
 fn tell_state(out: &mut [u64; 8208], answer: StateAnswer) -> usize {
     match answer {
@@ -125,20 +126,25 @@ fn tell_updated(out: &mut [u64; 8208], question: bool, remembers: bool, r: Updat
     answers::put_state_and(remembers, out, at, state)
 }
 
-fn build_case(question: bool, remembers: bool, ws: &[u64], out: &mut [u64; 8208]) -> usize {
-    let s = records::take_state_and(remembers, ws, 0);
-    let c = records::take_cell(ws, s.next);
-    let x = replay_words::take_floats(ws, c.next);
-    let e = replay_words::take_u32s(ws, x.next);
-    let p = replay_words::take_u32s(ws, e.next);
-    let r = replay_words::take_floats(ws, p.next);
-    let t = replay_words::take_u32s(ws, r.next);
-    let i = replay_words::take_u32s(ws, t.next);
-    if i.next != ws.len() {
-        return 0;
-    }
-    let state = s.value;
-    let cell = c.value;
+// The rooms of a build.
+struct Lent {
+    pairs: Table,
+    references: Table,
+    starts: Table,
+    items: Table,
+}
+
+fn told(
+    question: bool,
+    remembers: bool,
+    state: State,
+    cell: Cell,
+    x: Table,
+    e: Table,
+    t: Lent,
+    ws: &[u64],
+    out: &mut [u64; 8208],
+) -> usize {
     let fs = tables::floats(ws);
     let us = tables::u32s(ws);
     let mut pairs = tables::u32s(ws);
@@ -151,16 +157,39 @@ fn build_case(question: bool, remembers: bool, ws: &[u64], out: &mut [u64; 8208]
         cell,
         tables::part(&fs, x),
         tables::part_u32(&us, e),
-        tables::room_u32(&mut pairs, p),
-        tables::room(&mut references, r),
-        tables::room_u32(&mut starts, t),
-        tables::room_u32(&mut items, i),
+        tables::room_u32(&mut pairs, t.pairs),
+        tables::room(&mut references, t.references),
+        tables::room_u32(&mut starts, t.starts),
+        tables::room_u32(&mut items, t.items),
     );
-    let told = tell_updated(out, question, remembers, updated);
-    let listed = replay_words::put_u32s(out, told, tables::part_u32(&pairs, p));
-    let referred = replay_words::put_floats(out, listed, tables::part(&references, r));
-    let laid = replay_words::put_u32s(out, referred, tables::part_u32(&starts, t));
-    replay_words::put_u32s(out, laid, tables::part_u32(&items, i))
+    let at = tell_updated(out, question, remembers, updated);
+    let listed = tables::put_room_u32(out, at, pairs, t.pairs);
+    let referred = tables::put_room(out, listed, references, t.references);
+    let laid = tables::put_room_u32(out, referred, starts, t.starts);
+    tables::put_room_u32(out, laid, items, t.items)
+}
+
+fn build_case(question: bool, remembers: bool, ws: &[u64], out: &mut [u64; 8208]) -> usize {
+    let s = records::take_state_and(remembers, ws, 0);
+    let c = records::take_cell(ws, s.next);
+    let x = replay_words::take_floats(ws, c.next);
+    let e = replay_words::take_u32s(ws, x.next);
+    let pairs = replay_words::take_u32s(ws, e.next);
+    let references = replay_words::take_floats(ws, pairs.next);
+    let starts = replay_words::take_u32s(ws, references.next);
+    let items = replay_words::take_u32s(ws, starts.next);
+    if items.next != ws.len() {
+        return 0;
+    }
+    let state = s.value;
+    let cell = c.value;
+    let t = Lent {
+        pairs,
+        references,
+        starts,
+        items,
+    };
+    told(question, remembers, state, cell, x, e, t, ws, out)
 }
 
 pub(crate) fn answer(call: u64, ws: &[u64], out: &mut [u64; 8208]) -> usize {

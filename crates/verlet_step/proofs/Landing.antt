@@ -14,6 +14,7 @@ use Rattle.answer.specs.Seen.{Seen, answered, refused, seenDone}
 use Rattle.potentials_pair.specs.declared.Lj.{Lj}
 use Rattle.potentials_pair.specs.declared.Mixed.{Mixed}
 use Rattle.potentials_pair.specs.Species.{Tables, rising}
+use Rattle.verlet_kick.specs.Kick.{secondKickAfter}
 use Rattle.verlet.specs.declared.Thermostat.{Thermostat}
 use Rattle.verlet.specs.Parts.{movedBy, drifts}
 use Rattle.neighbor.specs.declared.Question.the-variants.{Outdated}
@@ -52,7 +53,7 @@ module _ (m : Motion) (e : Evaluated) (pairs : List ℕ) (references : List Floa
 
   landed-after : (d : Done) → ((r : Refusal) → d ≡ Refused r → forces ≡ m .job .forces)
       → seen (kickedAfter (m .potential) (unitsOf m) (m .dt) forces (m .masses) (m .velocities) e d) ≡ landedAfter m (seenDone d) evaluation
-  unfolding kickedAfter landedAfter
+  unfolding kickedAfter secondKickAfter landedAfter
   landed-after Answered h = refl
   landed-after (Refused r) h = rw (h r refl)
 

@@ -24,7 +24,8 @@ use Rattle.cell.specs.Ranged.{cellInRange}
 use Rattle.neighbor.specs.declared.Question.the-variants.{Outdated}
 use Rattle.neighbor.specs.declared.State.{State}
 use Rattle.neighbor.specs.Rebuild.{needsOf, outdatedOf, claimsMore, referencesOk, rangesOk, strayedOf}
-use Rattle.neighbor.specs.Update.{unfit, keepsOf, lengthsBad, listedOf, firstOf, misnamed, keptAsked, tableAsked, firstRefusal}
+use Rattle.neighbor.specs.Update.{unfit, keepsOf, lengthsBad, listedOf, firstOf, misnamed, keptAsked, tableAsked}
+use Rattle.neighbor_asked.specs.Asked.{firstRefusal}
 use Rattle.neighbor.proofs.Asking.{claims-told, claims-made, listed-some}
 use Rattle.potentials.specs.Calls.{tablesFit, orderAsked}
 use Rattle.evaluate.specs.Asked.{termsFit, numbersOk, bondRowsAsked, anglesNamed, namesAsked, inTurn, jobAsked}

@@ -16,7 +16,7 @@ use Rattle.verlet.specs.Verlet.{kickedOf, movedOf}
 use Rattle.verlet.proofs.Steps.{kicked-length}
 use Rattle.verlet.proofs.Speeds.{accepted-speeds}
 use Rattle.neighbor.specs.declared.State.{State}
-use Rattle.neighbor.specs.State.{settingsOk}
+use Rattle.neighbor_asked.specs.Asked.{settingsOk}
 use Rattle.neighbor.specs.Rebuild.{rangesOk}
 use Rattle.evaluate.specs.Terms.{Terms}
 use Rattle.potentials.specs.Ranged.{charge, rowsInRange}

@@ -20,7 +20,8 @@ use Rattle.cell.specs.Ranged.{entryLimit, cellInRange}
 use Rattle.verlet.specs.declared.Thermostat.{Thermostat}
 use Rattle.neighbor.specs.declared.Question.the-variants.{Outdated}
 use Rattle.neighbor.specs.declared.State.{State}
-use Rattle.neighbor.specs.State.{settingsOk, skinOf, emptiedOf}
+use Rattle.neighbor_asked.specs.Asked.{settingsOk}
+use Rattle.neighbor.specs.State.{skinOf, emptiedOf}
 use Rattle.neighbor.specs.Rebuild.{claimsMore, referencesOk}
 use Rattle.neighbor.specs.Update.{keepsOf, lengthsBad, misnamed, keptAsked}
 use Rattle.neighbor.proofs.Asking.{claims-told, claims-made}

@@ -5,10 +5,10 @@ use mathlib.Core.Bool.{Bool, true, false}
 use mathlib.Core.List.{List}
 use lib.Ieee.{Float}
 use Rattle.answer.specs.declared.Done.{Done}
-use Rattle.answer.specs.declared.Done.the-variants.{Answered, Refused}
+use Rattle.answer.specs.declared.Done.the-variants.{Refused}
 use Rattle.answer.specs.declared.Refusal.{Refusal}
 use Rattle.virial.specs.declared.Units.{Units}
-use Rattle.verlet.specs.Parts.{kickedBy}
+use Rattle.verlet_kick.specs.Kick.{secondKickAfter}
 use Rattle.neighbor.specs.declared.State.{State}
 use Rattle.evaluate.specs.declared.Evaluated.{Evaluated}
 use Rattle.evaluate.specs.Steps.{settledIn}
@@ -44,5 +44,6 @@ abbrev pub kicked : Stepped → List Float → Kicked
 kicked r vs = record { answer = r; velocities = vs }
 
 unfoldable pub kickedAfter : (potential : Float) → Units → (dt : Float) → (fs ms vs : List Float) → Evaluated → Done → Kicked
-kickedAfter potential units dt fs ms vs e (Refused r) = kicked (steppedFrom e true potential) vs
-kickedAfter potential units dt fs ms vs e Answered = kicked (steppedFrom e false (e .sum .energy)) (kickedBy units dt fs ms vs)
+kickedAfter potential units dt fs ms vs e d =
+    let k = secondKickAfter potential (e .sum .energy) units dt fs ms vs d in
+    kicked (steppedFrom e (k .answer .stopped) (k .answer .potential)) (k .velocities)

@@ -1,7 +1,6 @@
 // A step without tests and without the thermostat: total on every number and length. No public call.
 use crate::Stepped;
 use crate::ends;
-use answer::Done;
 use answer::Refusal;
 use evaluate::Evaluated;
 use evaluate::Setting;
@@ -41,12 +40,18 @@ fn second_kick(
     ensures { λ r. ⌜ kicked r (now (velocities .exit)) ≡ kickedAfter potential units dt (now (forces .entry)) (now (masses .entry)) (now (velocities .entry)) e (e .done) ⌝ }
 {
     let done = e.done;
-    if let Done::Refused(_) = done {
-        return with_potential(e, true, potential);
-    }
     let sum = e.sum;
-    moves::kick(units, dt, forces, masses, velocities);
-    with_potential(e, false, sum.energy)
+    let k = verlet_kick::second(
+        done,
+        sum.energy,
+        potential,
+        units,
+        dt,
+        forces,
+        masses,
+        velocities,
+    );
+    with_potential(e, k.stopped, k.potential)
 }
 
 // The evaluation at the positions and the second kick: the end of `advance`, and what `finish` resumes.

@@ -1,5 +1,5 @@
 use Rattle.evaluate.specs.Asked.{inTurn}
-use Rattle.neighbor.specs.Update.{firstRefusal}
+use Rattle.neighbor_asked.specs.Asked.{firstRefusal}
 use borrow.Author.Needs.{needs}
 use borrow.Author.Tests.{not-true, not-false}
 use Rattle.evaluate.proofs.asked.in_turn.Statement.{statement}

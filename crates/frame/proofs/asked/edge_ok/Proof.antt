@@ -5,7 +5,7 @@ use Rattle.frame.proofs.asked.edge_ok.Tie as tie
 
 returns : tie.Need-returns
 unfolding edgeOk
-returns c = search needs
+returns c = c .is-edge .ensures
 
 pub edge-ok-spec : {M : Type 1} → statement M
-edge-ok-spec = tie.close (tie.spec returns)
+edge-ok-spec = tie.close (tie.spec (λ c κs. search needs) returns)

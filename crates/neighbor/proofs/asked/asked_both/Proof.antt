@@ -1,4 +1,4 @@
-use Rattle.neighbor.proofs.Asking.{then-refused, then-on}
+use Rattle.neighbor_asked.proofs.Turns.{then-refused, then-on}
 use borrow.Author.Needs.{needs}
 use mathlib.Core.Path.{sym, _∙_}
 use Rattle.neighbor.proofs.asked.asked_both.Statement.{statement}

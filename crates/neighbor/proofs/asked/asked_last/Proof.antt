@@ -1,4 +1,4 @@
-use Rattle.neighbor.specs.Update.{firstRefusal}
+use Rattle.neighbor_asked.specs.Asked.{firstRefusal}
 use borrow.Author.Needs.{needs}
 use Rattle.neighbor.proofs.asked.asked_last.Statement.{statement}
 use Rattle.neighbor.proofs.asked.asked_last.Tie as tie

@@ -1,7 +1,7 @@
 use Prim.Native.Nat.{_-_}
 use Rattle.cell.specs.Vec.{positionAt}
 use Rattle.neighbor.proofs.Asking.{Looking, looking-begin, looking-turn, looking-end}
-use Rattle.neighbor.specs.Steps.{still}
+use Rattle.neighbor_asked.specs.Strays.{still}
 use borrow.Author.Needs.{needs}
 use Rattle.neighbor.proofs.rebuild.all_still.Statement.{statement}
 use Rattle.neighbor.proofs.rebuild.all_still.Tie as tie

@@ -1,5 +1,5 @@
 use Rattle.cell.specs.Vec.{positionAt}
-use Rattle.neighbor.proofs.Strays.{none-strays}
+use Rattle.neighbor_asked.proofs.Displaced.{none-strays}
 use borrow.Author.Needs.{needs}
 use denote.Ref.{now}
 use Rattle.neighbor.proofs.rebuild.some_far.Statement.{statement}

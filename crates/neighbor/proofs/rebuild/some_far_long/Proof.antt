@@ -1,7 +1,7 @@
 use Prim.Native.Nat.{_-_}
 use Rattle.cell.specs.Vec.{positionAt}
 use Rattle.neighbor.proofs.Asking.{Searching, searching-begin, searching-turn, searching-finds, searching-end}
-use Rattle.neighbor.specs.Steps.{strayed}
+use Rattle.neighbor_asked.specs.Strays.{strayed}
 use borrow.Author.Needs.{needs}
 use mathlib.Core.Path.{sym, _∙_}
 use Rattle.neighbor.proofs.rebuild.some_far_long.Statement.{statement}

@@ -5,7 +5,7 @@ use Rattle.neighbor_grid.proofs.planning.is_narrow.Tie as tie
 
 returns : tie.Need-returns
 unfolding narrow
-returns c = search needs
+returns c = c .is-narrow .ensures
 
 pub is-narrow-spec : {M : Type 1} → statement M
-is-narrow-spec = tie.close (tie.spec returns)
+is-narrow-spec = tie.close (tie.spec (λ c κs. search needs) returns)

@@ -1,9 +1,0 @@
-use borrow.Author.Needs.{needs}
-use Rattle.neighbor.proofs.rebuild.in_box.Statement.{statement}
-use Rattle.neighbor.proofs.rebuild.in_box.Tie as tie
-
-returns : tie.Need-returns
-returns c = rw (c .before .before .before .is-finite .ensures, c .before .before .in-length .ensures, c .before .in-length2 .ensures, c .in-length3 .ensures)
-
-pub in-box-spec : {M : Type 1} → statement M
-in-box-spec = tie.close (tie.spec (λ c κs. search needs) (λ c κs. search needs) (λ c κs. search needs) (λ c κs. search needs) returns)

@@ -1,0 +1,2 @@
+pub mod Displaced
+pub mod Turns
