@@ -3,8 +3,8 @@ use Prim.Native.Nat.{ℕ, _+_, _-_, _*_, _/_, _%_, _≤_, _<_}
 use native.Mathlib.Nat.{sub-zero}
 use native.Mathlib.Omega.{arith}
 use mathlib.Core.Path.{_≡_, refl, sym, ap, _∙_}
-use mathlib.Core.Bool.{Bool, true, false, cond, not, _&&_, _||_, and-assoc, and-true}
-use mathlib.Core.List.{List, []}
+use mathlib.Core.Bool.{Bool, true, false, cond, not, _&&_, _||_, and-assoc, or-assoc, and-true}
+use mathlib.Core.List.{List, [], _∷_, _++_}
 use lib.ListN.{length, take}
 use lib.Seq.{take-all, length-take-le}
 use lib.Dec.{eqb, ltb}
@@ -22,6 +22,7 @@ use Rattle.ranges.specs.Ranged.{within}
 use Rattle.lists.specs.Lists.{numbers, upTo, some, every, rows}
 use Rattle.lists.proofs.Cases.{or-neither}
 use Rattle.lists.proofs.Walks.{numbers-next, numbers-end}
+use Rattle.lists.proofs.Nested.{numbers-append}
 use Rattle.ranges.specs.Rows.{absentOf}
 use Rattle.cell.specs.declared.Cell.{Cell}
 use Rattle.cell.specs.declared.Image.{Image}
@@ -38,48 +39,74 @@ use Rattle.neighbor_asked.specs.Strays.{strayed}
 use Rattle.neighbor.specs.Rebuild.{allowance, needsOf, sameBox, outdatedOf, claimsMore, referencesOk, rangesOk, questionOf, needsSeen, outdatedSeen, strayedOf}
 use Rattle.neighbor.specs.Update.{listedOf, firstOf, misnamed, keptAsked, tableAsked, listAsked}
 
--- ---- a search of the numbers below n, one after the other: what is left decides
-pub record Searching (p : ℕ → Bool) (n i : ℕ) : Type 0 where
-  pub within : i ≤ n
-  pub same : some p (numbers i (n - i)) ≡ some p (upTo n)
+-- ---- a search of the numbers from `from` up to n, one after the other or a block after the other: what is left decides
+pub record Searching (p : ℕ → Bool) (from n i : ℕ) : Type 0 where
+  pub same : some p (numbers i (n - i)) ≡ some p (numbers from (n - from))
 
-module _ (p : ℕ → Bool) (n : ℕ) where
-  pub searching-begin : Searching p n 0
-  searching-begin = record { within = omega arith; same = rw sub-zero refl }
+numbers-split : (i to n : ℕ) → i < to → to ≤ n → numbers i (n - i) ≡ numbers i (to - i) ++ numbers to (n - to)
+numbers-split i to n h k =
+    let q : n - i ≡ (to - i) + (n - to) = omega arith in
+    let e : i + (to - i) ≡ to = omega arith in
+    ap (numbers i) q ∙ numbers-append i (to - i) (n - to) ∙ ap (λ (z : ℕ). numbers i (to - i) ++ numbers z (n - to)) e
 
-  module _ {i : ℕ} (u : Searching p n i) where
+some-append : (p : ℕ → Bool) (l m : List ℕ) → some p (l ++ m) ≡ (some p l || some p m)
+unfolding some
+some-append p [] m = refl
+some-append p (a ∷ l) m = ap (λ (z : Bool). p a || z) (some-append p l m) ∙ sym (or-assoc (p a) (some p l) (some p m))
+
+module _ (p : ℕ → Bool) (from n : ℕ) where
+  pub searching-begin : Searching p from n from
+  searching-begin = record { same = refl }
+
+  module _ {i : ℕ} (u : Searching p from n i) where
     module _ (l : i < n) where
-      pub searching-turn : p i ≡ false → Searching p n (i + 1)
+      pub searching-turn : p i ≡ false → Searching p from n (i + 1)
       unfolding some
-      searching-turn h = record { within = omega arith; same = rw (numbers-next n i l, h) at (u .same) }
+      searching-turn h = record { same = rw (numbers-next n i l, h) at (u .same) }
 
-      pub searching-finds : p i ≡ true → true ≡ some p (upTo n)
+      pub searching-finds : p i ≡ true → true ≡ some p (numbers from (n - from))
       unfolding some
       searching-finds h = rw (numbers-next n i l, h) at (u .same)
 
-    pub searching-end : n ≤ i → false ≡ some p (upTo n)
+    module _ {to : ℕ} (l : i < to) (m : to ≤ n) {r : Bool} (e : r ≡ some p (numbers i (to - i))) where
+      block : (r || some p (numbers to (n - to))) ≡ some p (numbers from (n - from))
+      block = ap (λ (z : Bool). z || some p (numbers to (n - to))) e ∙ sym (some-append p (numbers i (to - i)) (numbers to (n - to))) ∙ ap (some p) (sym (numbers-split i to n l m)) ∙ u .same
+
+      pub searching-block : r ≡ false → Searching p from n to
+      searching-block h = record { same = ap (λ (z : Bool). z || some p (numbers to (n - to))) (sym h) ∙ block }
+
+      pub searching-block-finds : r ≡ true → true ≡ some p (numbers from (n - from))
+      searching-block-finds h = ap (λ (z : Bool). z || some p (numbers to (n - to))) (sym h) ∙ block
+
+    pub searching-end : n ≤ i → false ≡ some p (numbers from (n - from))
     unfolding some
     searching-end l = rw (numbers-end n i l) at (u .same)
 
+-- .. from the first one on
+pub from-first : (p : ℕ → Bool) (n : ℕ) {r : Bool} → r ≡ some p (numbers 0 (n - 0)) → r ≡ some p (upTo n)
+from-first p n e = rw (← sub-zero n) e
+
 -- ---- a walk over all of them: what it has found and what is left decide
-pub record Looking (p : ℕ → Bool) (n : ℕ) (ok : Bool) (i : ℕ) : Type 0 where
-  pub within : i ≤ n
-  pub same : every p (upTo n) ≡ (ok && every p (numbers i (n - i)))
+pub record Looking (p : ℕ → Bool) (from n : ℕ) (ok : Bool) (i : ℕ) : Type 0 where
+  pub same : every p (numbers from (n - from)) ≡ (ok && every p (numbers i (n - i)))
 
-module _ (p : ℕ → Bool) (n : ℕ) where
-  pub looking-begin : Looking p n true 0
-  looking-begin = record { within = omega arith; same = rw sub-zero refl }
+module _ (p : ℕ → Bool) (from n : ℕ) where
+  pub looking-begin : Looking p from n true from
+  looking-begin = record { same = refl }
 
-  module _ {ok : Bool} {i : ℕ} (u : Looking p n ok i) where
-    pub looking-turn : i < n → {b : Bool} → b ≡ p i → Looking p n (ok && b) (i + 1)
+  module _ {ok : Bool} {i : ℕ} (u : Looking p from n ok i) where
+    pub looking-turn : i < n → {b : Bool} → b ≡ p i → Looking p from n (ok && b) (i + 1)
     unfolding every
     looking-turn l {b} e =
         let q : every p (numbers i (n - i)) ≡ (p i && every p (numbers (i + 1) (n - (i + 1)))) = rw (numbers-next n i l) refl in
-        record { within = omega arith; same = u .same ∙ rw (q, ← e) (sym (and-assoc ok b (every p (numbers (i + 1) (n - (i + 1)))))) }
+        record { same = u .same ∙ rw (q, ← e) (sym (and-assoc ok b (every p (numbers (i + 1) (n - (i + 1)))))) }
 
-    pub looking-end : n ≤ i → ok ≡ every p (upTo n)
+    pub looking-end : n ≤ i → ok ≡ every p (numbers from (n - from))
     unfolding every
     looking-end l = sym (u .same ∙ rw (numbers-end n i l) (and-true ok))
+
+pub all-from-first : (p : ℕ → Bool) (n : ℕ) {r : Bool} → r ≡ every p (numbers 0 (n - 0)) → r ≡ every p (upTo n)
+all-from-first p n e = rw (← sub-zero n) e
 
 -- ---- 3 and 4 of a list that may be kept
 module _ (s : State) (n : ℕ) (pairs : List ℕ) (refs : List Float) {a : Bool} (ia : a ≡ referencesOk s n refs) where

@@ -4,3 +4,4 @@ pub mod Demands
 pub mod Box
 pub mod Only
 pub mod Source
+mod Unmoved

@@ -4,3 +4,4 @@ pub mod Update
 pub mod Listed
 pub mod Box
 pub mod Source
+pub mod Steps

@@ -84,6 +84,9 @@ pub fn builds_since(s: State, earlier: u32) -> u32
 pub fn needs_rebuild(s: State, cell: Cell, positions: &[f64], references: &[f64]) -> YesNo
     ensures { λ r. ⌜ NeedsSays s cell (now (positions .entry)) (now (references .entry)) r ⌝ }
 {
+    if rebuild::is_at_rest(s, cell, positions, references) {
+        return YesNo::Answered(false);
+    }
     let a = asked::question(s, cell, positions, references);
     if let Done::Refused(why) = a {
         return YesNo::Refused(why);
@@ -95,6 +98,10 @@ pub fn needs_rebuild(s: State, cell: Cell, positions: &[f64], references: &[f64]
 pub fn outdated(s: State, cell: Cell, positions: &[f64], references: &[f64]) -> YesNo
     ensures { λ r. ⌜ OutdatedSays s cell (now (positions .entry)) (now (references .entry)) r ⌝ }
 {
+    if rebuild::is_at_rest(s, cell, positions, references) {
+        let remembered = s.built_in;
+        return YesNo::Answered(!boxes::is_same(remembered, cell));
+    }
     let a = asked::question(s, cell, positions, references);
     if let Done::Refused(why) = a {
         return YesNo::Refused(why);

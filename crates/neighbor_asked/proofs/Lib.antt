@@ -1,2 +1,4 @@
+pub mod Nearby
+pub mod Quiet
 pub mod Displaced
 pub mod Turns

@@ -3,7 +3,7 @@ use cell::Vec3;
 use cell::vectors;
 use cell_prepared::Prepared;
 ghost use mathlib.Core.Path.{_≡_};
-ghost use Rattle.neighbor_asked.specs.Strays.{bounded, strayed, inBox, still};
+ghost use Rattle.neighbor_asked.specs.Strays.{bounded, strayed, inBox, still, RoomySays, EnoughSays, quietAt};
 
 // Whether a displacement exceeds the limit, by its image.
 fn is_far_long(p: Prepared, limit: f64, a: Vec3, b: Vec3) -> bool
@@ -57,4 +57,27 @@ pub fn is_still(p: Prepared, limit: f64, a: Vec3, b: Vec3) -> bool
     };
     let far = limit < vectors::norm2(d);
     in_box(l, a, b) & !far
+}
+
+fn is_roomy(len: f64, t: f64) -> bool
+    ensures { λ r. ⌜ RoomySays len t r ⌝ }
+{
+    (len < 1e300) & (t < len)
+}
+
+// Whether t is so small that an atom has not strayed where each of its numbers is at most t from its reference: then nothing is squared. In a box the image is
+// no further than the displacement, and rounding keeps the order.
+pub fn is_enough(p: Prepared, limit: f64, t: f64) -> bool
+    ensures { λ r. ⌜ EnoughSays p limit t r ⌝ }
+{
+    let l = p.short;
+    let most = vectors::norm2(Vec3 { x: t, y: t, z: t });
+    is_roomy(l.x, t) & is_roomy(l.y, t) & is_roomy(l.z, t) & (most <= limit)
+}
+
+// Whether a coordinate is within half of its range, and at most t from its reference. With t below that half too the reference needs no test of its own.
+pub fn is_quiet(t: f64, x: f64, r: f64) -> bool
+    ensures { λ q. ⌜ q ≡ quietAt t x r ⌝ }
+{
+    ranges::is_within(524288.0, x) & ranges::is_within(t, x - r)
 }
