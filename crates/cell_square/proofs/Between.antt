@@ -20,7 +20,7 @@ use Rattle.cell_axis.proofs.Double.{double-below, double-reaches}
 use Rattle.cell_axis.proofs.Twice.{twice}
 use Rattle.cell_square.specs.Square.{square, smallerOf, inHalf, steadyOf, stepOf, OneStep, SteadySays, calmOf, CalmSays}
 use Rattle.cell_square.proofs.Law.{picked, by-number, either-way}
-use Rattle.cell_square.proofs.Keeps.{Before, before-of-le, sub-keeps, sub-finite, between-finite}
+use Rattle.cell_square.proofs.Keeps.{Before, before-of-le, between-finite, difference-amid}
 
 -- ---- fractions: x / p ≤ y / q < z / r
 fraction-below : (x p y q z r : ℕ) → 0 < p → x * q ≤ y * p → y * r < z * q → x * r < z * p
@@ -131,9 +131,10 @@ own-square : (n : ℕ) (d : ℤ) → T (fits binary64 (fin false (suc n) d)) →
 unfolding absOf
 own-square n d F y fine s m e G z = by-number (fin false (suc n) d) (fin s m e) y F G z fine
 
--- the step takes x to its image's square
+-- the step takes x to its image's square, and is the step of the short way
 pub record Settled (len x step : Float) : Type 0 where
   pub short : lt (absOf x) len ≡ true
+  pub shift : shiftOf (absOf x) len x ≡ step
   pub image : square (x ⊕ step) ≡ square (smallerOf len (absOf x))
 
 -- ---- low ≤ x ≤ high, of one step
@@ -203,11 +204,12 @@ module _ (n : ℕ) (d : ℤ) (F : T (fits binary64 (fin false (suc n) d))) (y : 
         let z = length-within n d F s m e G w in
         record {
           short = z;
+          shift = unfold absOf in pick-step t o c p refl refl refl refl w (q3 .1);
           image = ap (λ (o : Float). square (add binary64 (fin s m e) o)) (sym (pick-step t o c p refl refl refl refl w (q3 .1))) ∙ sym (own-square n d F y fine s m e G z);
         }
 
 -- ---- any floats
-small-finite : (x l : Float) → lt (absOf x) l ≡ true → T (finite x)
+pub small-finite : (x l : Float) → lt (absOf x) l ≡ true → T (finite x)
 unfolding absOf lt
 small-finite nan l h = absurd (false≢true h)
 small-finite (inf s) nan h = absurd (false≢true h)
@@ -253,6 +255,16 @@ small-ends l low high q =
     let q1 = both-true A B (q2 .0) in
     record { positive = q1 .0; low = q1 .1; high = q2 .1 }
 
+-- what lies between two numbers of one step has it
+pub settled : (l low x high : Float) → T (fits binary64 l) → T (fits binary64 low) → T (fits binary64 x) → T (fits binary64 high) → lt l (inf false) ≡ true → T (le low x) → T (le x high)
+    → steadyOf l low high ≡ true → Settled l x (stepOf l low high)
+settled l low x high F U G W fine p q h =
+    let w = small-ends l low high h in
+    let a = small-finite low l (w .low) in
+    let c = small-finite high l (w .high) in
+    let b = between-finite low x high a c p q in
+    by-floats l low x high (inf false) F U G W fine (w .positive) a b c (before-of-le low x a b p) (before-of-le x high b c q) h
+
 -- ---- the differences of a and the places from lo up to hi: all are finite, and in order
 pub record Ordered (a b lo hi : Float) : Type 0 where
   pub low : T (finite (a ⊖ hi))
@@ -266,13 +278,9 @@ differences l a b lo hi p q h =
     let w = small-ends l (a ⊖ hi) (a ⊖ lo) h in
     let x = small-finite (a ⊖ hi) l (w .low) in
     let y = small-finite (a ⊖ lo) l (w .high) in
-    let A = sub-finite a hi x in
-    let L = sub-finite a lo y .1 in
-    let B = between-finite lo b hi L (A .1) (yes p) (yes q) in
-    let first = sub-keeps a b hi (A .0) B (A .1) (before-of-le b hi B (A .1) (yes q)) in
-    let second = sub-keeps a lo b (A .0) L B (before-of-le lo b L B (yes p)) in
-    let m = between-finite (a ⊖ hi) (a ⊖ b) (a ⊖ lo) x y first second in
-    record { low = x; mid = m; high = y; first = before-of-le (a ⊖ hi) (a ⊖ b) x m first; second = before-of-le (a ⊖ b) (a ⊖ lo) m y second }
+    let d = difference-amid a b lo hi x y (yes p) (yes q) in
+    let m = between-finite (a ⊖ hi) (a ⊖ b) (a ⊖ lo) x y (d .low) (d .high) in
+    record { low = x; mid = m; high = y; first = before-of-le (a ⊖ hi) (a ⊖ b) x m (d .low); second = before-of-le (a ⊖ b) (a ⊖ lo) m y (d .high) }
 
 pub steady-law : (l a b lo hi : Float) → T (fits binary64 l) → lt l (inf false) ≡ true → le lo b ≡ true → le b hi ≡ true → steadyOf l (a ⊖ hi) (a ⊖ lo) ≡ true → OneStep l a b (stepOf l (a ⊖ hi) (a ⊖ lo))
 steady-law l a b lo hi F fine p q h =
@@ -322,14 +330,20 @@ calm-step : (l u v : Float) → Calm l u v → stepOf l u v ≡ bits 0
 unfolding stepOf
 calm-step l u v c = rw (c .low, c .high)
 
+-- so it has one step, which is nothing
+pub record Calmed (l u v : Float) : Type 0 where
+  pub steady : true ≡ steadyOf l u v
+  pub step : stepOf l u v ≡ bits 0
+
+pub calmed : (l u v : Float) → T (fits binary64 l) → T (fits binary64 u) → T (fits binary64 v) → lt l (inf false) ≡ true → calmOf l u v ≡ true → Calmed l u v
+calmed l u v F U W fine h =
+    let c = calm-is l u v h in
+    record { steady = calm-steady l u v c (half-short l u F U (c .positive) fine (c .low)) (half-short l v F W (c .positive) fine (c .high)); step = calm-step l u v c }
+
 pub calm-says : (l a lo hi : Float) (r : Bool) → T (fits binary64 l) → r ≡ calmOf l (a ⊖ hi) (a ⊖ lo) → CalmSays l a lo hi r
 calm-says l a lo hi r F e =
     record {
       is = e;
-      steady =
-          λ t fine.
-          let c = calm-is l (a ⊖ hi) (a ⊖ lo) (sym e ∙ t) in
-          steady-says l a lo hi true F
-          (calm-steady l (a ⊖ hi) (a ⊖ lo) c (half-short l (a ⊖ hi) F (sub-fits binary64 a hi) (c .positive) fine (c .low)) (half-short l (a ⊖ lo) F (sub-fits binary64 a lo) (c .positive) fine (c .high)));
+      steady = λ t fine. steady-says l a lo hi true F (calmed l (a ⊖ hi) (a ⊖ lo) F (sub-fits binary64 a hi) (sub-fits binary64 a lo) fine (sym e ∙ t) .steady);
       step = λ t. calm-step l (a ⊖ hi) (a ⊖ lo) (calm-is l (a ⊖ hi) (a ⊖ lo) (sym e ∙ t));
     }

@@ -40,7 +40,7 @@ or-elim : {P : Type 0} (x y : Bool) → (T x → P) → (T y → P) → T (x || 
 or-elim true y f g t = f tt
 or-elim false y f g t = g t
 
-or-first : (x y : Bool) → T x → T (x || y)
+pub or-first : (x y : Bool) → T x → T (x || y)
 or-first true y t = tt
 or-first false y t = absurd t
 
@@ -226,7 +226,7 @@ to-zero a c C e = subst (λ (z : Float). T (le (round binary64 false a c) z)) (r
     none : (a c : ℕ) → a ≡ 0 → a * 1 ≤ 0 * c
     none a c e = omega arith
 
-rounded-keeps : (x y : Float) (p q c p' q' c' : ℕ) → 0 < c → 0 < c' → Rounded x p q c → Rounded y p' q' c' → p * c' + q' * c ≤ p' * c + q * c' → T (le x y)
+pub rounded-keeps : (x y : Float) (p q c p' q' c' : ℕ) → 0 < c → 0 < c' → Rounded x p q c → Rounded y p' q' c' → p * c' + q' * c ≤ p' * c + q * c' → T (le x y)
 rounded-keeps x y p q c p' q' c' C C' (inl u) (inl v) h = le-by (u .1) (v .1) (round-mono binary64 (p - q) c (p' - q') c' C C' (gap-le p q c p' q' c' (v .0) h))
 rounded-keeps x y p q c p' q' c' C C' (inr u) (inr v) h =
     le-by (u .1 ∙ sym (round-neg binary64 (q - p) c)) (v .1 ∙ sym (round-neg binary64 (q' - p') c'))
@@ -343,3 +343,16 @@ between-finite (fin s m e) (inf false) nan p q h k = absurd q
 between-finite (fin s m e) (inf false) (inf u) p q h k = absurd q
 between-finite (fin s m e) (inf false) (fin u l g) p q h k = absurd k
 between-finite (fin s m e) (fin t n d) z p q h k = tt
+
+-- ---- x lies from l up to h
+pub record Amid (l x h : Float) : Type 0 where
+  pub low : T (le l x)
+  pub high : T (le x h)
+
+-- the differences of a and what lies from lo up to hi
+pub difference-amid : (a b lo hi : Float) → T (finite (sub binary64 a hi)) → T (finite (sub binary64 a lo)) → T (le lo b) → T (le b hi) → Amid (sub binary64 a hi) (sub binary64 a b) (sub binary64 a lo)
+difference-amid a b lo hi x y p q =
+    let A = sub-finite a hi x in
+    let L = sub-finite a lo y .1 in
+    let B = between-finite lo b hi L (A .1) p q in
+    record { low = sub-keeps a b hi (A .0) B (A .1) (before-of-le b hi B (A .1) q); high = sub-keeps a lo b (A .0) L B (before-of-le lo b L B p) }

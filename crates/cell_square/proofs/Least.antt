@@ -94,7 +94,7 @@ null-square : square (bits 0) ≡ zero+
 unfolding ofBits mul
 null-square = refl
 
-gapped : (u y v : Float) → T (le u y) → T (le y v) → (b c : Bool) → lt (bits 0) u ≡ b → lt v (bits 0) ≡ c → Gapped (cond b u (cond c v (bits 0))) y
+pub gapped : (u y v : Float) → T (le u y) → T (le y v) → (b c : Bool) → lt (bits 0) u ≡ b → lt v (bits 0) ≡ c → Gapped (cond b u (cond c v (bits 0))) y
 gapped u y v h k true c p q = record { least = square-first u y h; most = square-rises u y p h }
 gapped u y v h k false true p q =
     let m = square-falls v y q k in
@@ -117,6 +117,10 @@ step-finite (inf s) p b c = absurd p
 step-finite (fin s m e) p true c = tt
 step-finite (fin s m e) p false true = tt
 step-finite (fin s m e) p false false = tt
+
+pub steps-finite : (l low high : Float) → T (finite l) → T (finite (stepOf l low high))
+unfolding stepOf
+steps-finite l low high p = step-finite l p (inHalf l low && inHalf l high) (not (inHalf l low) && lt (bits 0) low)
 
 pub gap-law : (l a b lo hi : Float) → lt l (inf false) ≡ true → le lo b ≡ true → le b hi ≡ true → steadyOf l (a ⊖ hi) (a ⊖ lo) ≡ true
     → Gapped (gapOf (stepOf l (a ⊖ hi) (a ⊖ lo)) (a ⊖ hi) (a ⊖ lo)) (a ⊖ b ⊕ stepOf l (a ⊖ hi) (a ⊖ lo))

@@ -3,3 +3,5 @@ pub mod Keeps
 pub mod Between
 pub mod Least
 pub mod Opposite
+pub mod Spread
+pub mod Zeros

@@ -40,7 +40,7 @@ unfolding round
 ends true = refl
 ends false = refl
 
-null : (x : Float) (s : Bool) (a c : ℕ) → x ≡ round binary64 s a c → 0 < c → a ≡ 0 → IsZero x
+pub null : (x : Float) (s : Bool) (a c : ℕ) → x ≡ round binary64 s a c → 0 < c → a ≡ 0 → IsZero x
 null x s a c e C h = (s, e ∙ round-same binary64 s a c 0 1 C (zero-lt-suc 0) (none a c h) ∙ ends s)
   where
     none : (a c : ℕ) → a ≡ 0 → a * 1 ≡ 0 * c
@@ -52,7 +52,7 @@ crossed p q c p' q' c' e f = omega (arith, sub-mul p q c', sub-mul q' p' c, e, f
 no-more : (p q c p' q' c' : ℕ) → 0 < c → q ≤ p → p' * c ≡ q * c' → q' * c ≡ p * c' → p' ≤ q'
 no-more p q c p' q' c' C h e f = le-of-mul-le-mul-right (le-trans (le-of-eq e) (le-trans (mul-le-mul-right c' h) (le-of-eq (sym f)))) C
 
-rounded-opposite : (x y : Float) (p q c p' q' c' : ℕ) → 0 < c → 0 < c' → Rounded x p q c → Rounded y p' q' c' → p' * c ≡ q * c' → q' * c ≡ p * c' → Opposite x y
+pub rounded-opposite : (x y : Float) (p q c p' q' c' : ℕ) → 0 < c → 0 < c' → Rounded x p q c → Rounded y p' q' c' → p' * c ≡ q * c' → q' * c ≡ p * c' → Opposite x y
 rounded-opposite x y p q c p' q' c' C D (inl u) (inl v) e f =
     inr (null x false (p - q) c (u .1) C (omega (arith, no-more p' q' c' p q c D (v .0) (sym f) (sym e))), null y false (p' - q') c' (v .1) D (omega (arith, no-more p q c p' q' c' C (u .0) e f)))
 rounded-opposite x y p q c p' q' c' C D (inl u) (inr v) e f =

@@ -51,6 +51,25 @@ pub record CalmSays (len a lo hi : Float) (r : Bool) : Type 0 where
   pub steady : r ≡ true → lt len (inf false) ≡ true → SteadySays len a lo hi true
   pub step : r ≡ true → stepOf len (a ⊖ hi) (a ⊖ lo) ≡ bits 0
 
--- the least that such a number can be, but for its sign: the two ends have one sign, and it is the end that is nearer to 0, or they have not, and it is 0
+-- the least that what lies from low up to high can be, but for its sign: the two ends have one sign, and it is the end that is nearer to 0, or they have
+-- not, and it is 0
+abbrev pub nearerOf : Float → Float → Float
+nearerOf low high = cond (lt (bits 0) low) low (cond (lt high (bits 0)) high (bits 0))
+
+-- .. of such a number
 unfoldable pub gapOf : Float → Float → Float → Float
-gapOf step low high = cond (lt (bits 0) (low ⊕ step)) (low ⊕ step) (cond (lt (high ⊕ step) (bits 0)) (high ⊕ step) (bits 0))
+gapOf step low high = nearerOf (low ⊕ step) (high ⊕ step)
+
+-- ---- c times what lies from low up to high: the least and the greatest, by one comparison, so that they are the two ends whatever it says
+abbrev pub lowTimes : Float → Float → Float → Float
+lowTimes c low high = cond (lt (c ⊗ high) (c ⊗ low)) (c ⊗ high) (c ⊗ low)
+
+abbrev pub highTimes : Float → Float → Float → Float
+highTimes c low high = cond (lt (c ⊗ high) (c ⊗ low)) (c ⊗ low) (c ⊗ high)
+
+-- a x + b y + c z, of x from xl up to xh, y from yl up to yh, z from zl up to zh
+unfoldable pub lowSum : Float → Float → Float → Float → Float → Float → Float → Float → Float → Float
+lowSum a b c xl xh yl yh zl zh = lowTimes a xl xh ⊕ lowTimes b yl yh ⊕ lowTimes c zl zh
+
+unfoldable pub highSum : Float → Float → Float → Float → Float → Float → Float → Float → Float → Float
+highSum a b c xl xh yl yh zl zh = highTimes a xl xh ⊕ highTimes b yl yh ⊕ highTimes c zl zh

@@ -1,11 +1,12 @@
 // One axis of the minimum image in a box where only its square is asked: no test of a sign, and none of the half of a length. In a loop over places that
-// lie side by side the compiler makes each step one instruction for two of them. And what one place's differences with many have in common, by their bounds.
+// lie side by side the compiler makes each step one instruction for two of them. And what one place's differences with many have in common, by their bounds,
+// and sums of three products with what lies between bounds.
 ghost use mathlib.Core.Path.{_≡_};
 ghost use mathlib.Core.Bool.{cond};
 ghost use lib.Ieee.{lt};
 ghost use Rattle.float.specs.Def.{absOf};
 ghost use Rattle.float.specs.Arith.{_⊖_};
-ghost use Rattle.cell_square.specs.Square.{SideSays, inHalf, steadyOf, stepOf, SteadySays, CalmSays, gapOf};
+ghost use Rattle.cell_square.specs.Square.{SideSays, inHalf, steadyOf, stepOf, SteadySays, calmOf, CalmSays, nearerOf, gapOf, lowTimes, highTimes, lowSum, highSum};
 
 // |x| as the larger of x and 0 - x: in a loop one instruction after the difference, where `float::abs` has five.
 fn magnitude(x: f64) -> f64
@@ -37,7 +38,8 @@ fn in_half(len: f64, x: f64) -> bool
     magnitude(x + x) < len
 }
 
-fn is_steady(len: f64, low: f64, high: f64) -> bool
+// Whether one step takes all that lies from low up to high within a half of a length.
+pub fn is_steady(len: f64, low: f64, high: f64) -> bool
     ensures { λ r. ⌜ r ≡ steadyOf len low high ⌝ }
 {
     let low_in = in_half(len, low);
@@ -63,12 +65,11 @@ fn pick(test: bool, a: f64, b: f64) -> f64
 }
 
 // That step: nothing, a length down, a length up.
-pub fn step(len: f64, a: f64, lo: f64, hi: f64) -> f64
-    ensures { λ r. ⌜ r ≡ stepOf len (a ⊖ hi) (a ⊖ lo) ⌝ }
+pub fn step_by(len: f64, low: f64, high: f64) -> f64
+    ensures { λ r. ⌜ r ≡ stepOf len low high ⌝ }
 {
-    let low = a - hi;
     let low_in = in_half(len, low);
-    let high_in = in_half(len, a - lo);
+    let high_in = in_half(len, high);
     pick(
         low_in & high_in,
         0.0,
@@ -76,18 +77,65 @@ pub fn step(len: f64, a: f64, lo: f64, hi: f64) -> f64
     )
 }
 
+pub fn step(len: f64, a: f64, lo: f64, hi: f64) -> f64
+    ensures { λ r. ⌜ r ≡ stepOf len (a ⊖ hi) (a ⊖ lo) ⌝ }
+{
+    step_by(len, a - hi, a - lo)
+}
+
 // Whether it is nothing, which is the common case and asks less.
+pub fn is_calm(len: f64, low: f64, high: f64) -> bool
+    ensures { λ r. ⌜ r ≡ calmOf len low high ⌝ }
+{
+    (0.0 < len) & in_half(len, low) & in_half(len, high)
+}
+
 pub fn calm(len: f64, a: f64, lo: f64, hi: f64) -> bool
     ensures { λ r. ⌜ CalmSays len a lo hi r ⌝ }
 {
-    (0.0 < len) & in_half(len, a - hi) & in_half(len, a - lo)
+    is_calm(len, a - hi, a - lo)
 }
 
-// How far from 0 all of them are then, but for the sign.
+// How far from 0 all that lies from low up to high is, but for the sign.
+pub fn nearer(low: f64, high: f64) -> f64
+    ensures { λ r. ⌜ r ≡ nearerOf low high ⌝ }
+{
+    pick(0.0 < low, low, pick(high < 0.0, high, 0.0))
+}
+
+// .. and of these differences.
 pub fn gap(step: f64, a: f64, lo: f64, hi: f64) -> f64
     ensures { λ r. ⌜ r ≡ gapOf step (a ⊖ hi) (a ⊖ lo) ⌝ }
 {
-    let least = (a - hi) + step;
-    let most = (a - lo) + step;
-    pick(0.0 < least, least, pick(most < 0.0, most, 0.0))
+    nearer((a - hi) + step, (a - lo) + step)
+}
+
+// c times what lies from low up to high, the least and the greatest: the two ends by one comparison, so that both of them are told.
+fn low_times(c: f64, low: f64, high: f64) -> f64
+    ensures { λ r. ⌜ r ≡ lowTimes c low high ⌝ }
+{
+    let p = c * low;
+    let q = c * high;
+    pick(q < p, q, p)
+}
+
+fn high_times(c: f64, low: f64, high: f64) -> f64
+    ensures { λ r. ⌜ r ≡ highTimes c low high ⌝ }
+{
+    let p = c * low;
+    let q = c * high;
+    pick(q < p, p, q)
+}
+
+// a x + b y + c z, the least and the greatest, of x from xl up to xh, y from yl up to yh, z from zl up to zh: rounding keeps the order of products too.
+pub fn low_sum(a: f64, b: f64, c: f64, xl: f64, xh: f64, yl: f64, yh: f64, zl: f64, zh: f64) -> f64
+    ensures { λ r. ⌜ r ≡ lowSum a b c xl xh yl yh zl zh ⌝ }
+{
+    low_times(a, xl, xh) + low_times(b, yl, yh) + low_times(c, zl, zh)
+}
+
+pub fn high_sum(a: f64, b: f64, c: f64, xl: f64, xh: f64, yl: f64, yh: f64, zl: f64, zh: f64) -> f64
+    ensures { λ r. ⌜ r ≡ highSum a b c xl xh yl yh zl zh ⌝ }
+{
+    high_times(a, xl, xh) + high_times(b, yl, yh) + high_times(c, zl, zh)
 }

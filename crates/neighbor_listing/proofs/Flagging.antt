@@ -24,7 +24,7 @@ use Rattle.neighbor_listing.specs.declared.sight.Sight.{Sight}
 use Rattle.neighbor_listing.specs.Steps.{nearTo, sceneBy, chosenBy}
 use Rattle.neighbor_listing.specs.declared.side.Bounds.{Bounds}
 use Rattle.neighbor_listing.specs.declared.side.Reach.{Reach}
-use Rattle.neighbor_listing.specs.Sides.{SideRooms, spotIn, LaidOut, Enclosed, isEnclosed, AllEnclosed, Bounded, steppedSees, Reaches, turned, seesApart, boxHolds, BoxSays, tiltedHolds, TiltedSays, sighted, Flagged, Flags, Say, Bits, FlagsTaken}
+use Rattle.neighbor_listing.specs.Sides.{SideRooms, spotIn, LaidOut, Enclosed, isEnclosed, AllEnclosed, Bounded, Reaches, turned, seesApart, boxHolds, BoxSays, tiltedHolds, TiltedSays, sighted, Flagged, Flags, Say, Bits, FlagsTaken}
 use Rattle.neighbor_listing.proofs.Sifted.{kept-next, most-one, near-is, few-listed, ready-near}
 use Rattle.neighbor_listing.proofs.Shortcuts.{box-turn, tilted-turn, turned-sees}
 
@@ -155,9 +155,9 @@ module _ {s : Sight} {i : ℕ} {a : Vec3} {part : List ℕ} {bx by bz : List Flo
     tilted-flagged h l g n e f = flagging-turn h l (tilted-turn n e (ltb i (getD part k 0)) a (spotIn bx by bz k) g) f
 
     -- one step for all of them
-    pub stepped-flagged : k < length part → k < length now → {r : Reach} → Reaches s a bx by bz (length part) r → r .single ≡ true → {q : Bool} {v : ℕ} → q ≡ steppedSees s a (r .step) (spotIn bx by bz k) → v ≡ cond q 1 0
+    pub reached-flagged : k < length part → k < length now → {see : Sight → Vec3 → Vec3 → Vec3 → Bool} {r : Reach} → Reaches see s a bx by bz (length part) r → r .single ≡ true → {q : Bool} {v : ℕ} → q ≡ see s a (r .step) (spotIn bx by bz k) → v ≡ cond q 1 0
         → Flagging s i a part bx by bz start (set now k v) from (k + 1) (ok && true)
-    stepped-flagged h l n t {q} {v} e f = flagging-turn h l {r = q} {holds = true} {v = v} (λ z. e ∙ n .sees t k h (ltb i (getD part k 0))) f
+    reached-flagged h l n t {q} {v} e f = flagging-turn h l {r = q} {holds = true} {v = v} (λ z. e ∙ n .sees t k h (ltb i (getD part k 0))) f
 
     pub flagging-end : length part ≤ k → Flags s i a part bx by bz from (length part) now ok
     flagging-end h = record { hold = λ e. record { are = λ m f q. u .hold e .are m f (omega (arith, u .within, h, q)) } }

@@ -6,3 +6,5 @@ pub mod Outcomes
 pub mod Numbered
 pub mod Shortcuts
 pub mod Sifted
+pub mod Slanted
+pub mod Uppers

@@ -1,7 +1,7 @@
 -- What the loops over atoms side by side find of two atoms is what `seesOf` says of them, in a box and in a tilted cell. Assumes nothing.
 use Prim.Native.Nat.{ℕ, _*_, _≤_, _<_}
 use mathlib.Core.Path.{_≡_, refl, sym, ap, _∙_, subst}
-use mathlib.Core.Bool.{Bool, true, false, cond, not, _&&_, false≢true, true≢false}
+use mathlib.Core.Bool.{Bool, true, false, cond, not, _&&_, true≢false}
 use native.Mathlib.Nat.{mul-one, zero-mul}
 use mathlib.Core.List.{List}
 use native.Mathlib.Omega.{arith}
@@ -33,7 +33,7 @@ use Rattle.neighbor_listing.specs.declared.side.Bounds.{Bounds}
 use Rattle.neighbor_listing.specs.declared.side.Reach.{Reach}
 use Rattle.neighbor_listing.specs.Sides.{spotIn, turned, seesApart, isFinite, boxHolds, BoxSays, Enclosed, Bounded, steppedSees, stepIn, gapIn, isBeyond, SingleSays, StillSays, ReachSays, Reaches, fractionsOf, inUnit, isTilted, tiltedHolds, TiltedSays}
 
-abbrev one : Float
+abbrev pub one : Float
 one = bits 0x3ff0_0000_0000_0000
 
 -- ---- three tests in one
@@ -54,7 +54,7 @@ abs-either : (rising : Bool) (a b : Float) → absOf (cond rising (a ⊖ b) (b �
 abs-either true a b = refl
 abs-either false a b = sym (abs-turned a b)
 
-norm2-by : (u v : Vec3) → u .x ⊗ u .x ≡ v .x ⊗ v .x → u .y ⊗ u .y ≡ v .y ⊗ v .y → u .z ⊗ u .z ≡ v .z ⊗ v .z → norm2Of u ≡ norm2Of v
+pub norm2-by : (u v : Vec3) → u .x ⊗ u .x ≡ v .x ⊗ v .x → u .y ⊗ u .y ≡ v .y ⊗ v .y → u .z ⊗ u .z ≡ v .z ⊗ v .z → norm2Of u ≡ norm2Of v
 unfolding norm2Of
 norm2-by u v p q r = λ i. p i ⊕ q i ⊕ r i
 
@@ -165,7 +165,7 @@ module _ (s : Sight) (a : Vec3) (w : Bounds) where
           subst (λ (q : Bool). SingleSays s a w q) (rw (p0 .0, p0 .1) (refl {A = Bool} {a = true}))
           (single-says ef (nx .steady (p1 .1) (bounded (L .x) huge (g .x))) (ny .steady (p2 .1) (bounded (L .y) huge (g .y))) (nz .steady (p3 .1) (bounded (L .z) huge (g .z))))
 
-  pub reach-says : {x o : Bool} {p : Vec3} → SingleSays s a w x → p ≡ stepIn s a w → o ≡ isBeyond s p a w → ReachSays s a w (record { single = x; step = p; beyond = x && o })
+  pub reach-says : {x o : Bool} {p : Vec3} → SingleSays s a w x → p ≡ stepIn s a w → o ≡ isBeyond s p a w → ReachSays steppedSees s a w (record { single = x; step = p; beyond = x && o })
   reach-says {x} {o} {p} n e h =
       record {
         sound = n .sound;
@@ -174,14 +174,13 @@ module _ (s : Sight) (a : Vec3) (w : Bounds) where
         none = λ t b v rising. let q = both-true x o t in n .none (q .0) (sym (h ∙ ap (λ (z : Vec3). isBeyond s z a w) e) ∙ q .1) b v rising;
       }
 
-  pub reach-none : (p : Vec3) → ReachSays s a w (record { single = false; step = p; beyond = false })
-  reach-none p = record { sound = λ t. absurd (false≢true t); sees = λ t b v rising. absurd (false≢true t); only = λ t. absurd (false≢true t); none = λ t b v rising. absurd (false≢true t) }
+  -- .. by any sight of one step
+  module _ {see : Sight → Vec3 → Vec3 → Vec3 → Bool} {bx by bz : List Float} {k : ℕ} {r : Reach} (u : Bounded bx by bz k w) (n : ReachSays see s a w r) where
+    pub none-reached : r .beyond ≡ true → (m : ℕ) → m < k → (rising : Bool) → seesApart s (turned rising a (spotIn bx by bz m)) ≡ false
+    none-reached t m h rising = n .none t (spotIn bx by bz m) (u .are (n .sound (n .only t)) m h) rising
 
-  pub none-reached : {bx by bz : List Float} {k : ℕ} {r : Reach} → Bounded bx by bz k w → ReachSays s a w r → r .beyond ≡ true → (m : ℕ) → m < k → (rising : Bool) → seesApart s (turned rising a (spotIn bx by bz m)) ≡ false
-  none-reached {bx} {by} {bz} u n t m h rising = n .none t (spotIn bx by bz m) (u .are (n .sound (n .only t)) m h) rising
-
-  pub reaches : {bx by bz : List Float} {k : ℕ} {r : Reach} → Bounded bx by bz k w → ReachSays s a w r → Reaches s a bx by bz k r
-  reaches {bx} {by} {bz} u n = record { sees = λ t m h rising. n .sees t (spotIn bx by bz m) (u .are (n .sound t) m h) rising }
+    pub reaches : Reaches see s a bx by bz k r
+    reaches = record { sees = λ t m h rising. n .sees t (spotIn bx by bz m) (u .are (n .sound t) m h) rising }
 
 -- ---- a tilted cell
 not-above-zero : (n : ℕ) (d : ℤ) → lt (bits 0) (fin false n d) ≡ false → n * up d ≡ 0
@@ -206,15 +205,15 @@ never-below (fin s m e) (fin false n d) h = unfold absOf in unfold lt in is-fals
     none : (a b c : ℕ) → b ≡ 0 → a < b * c → ⊥
     none a b c e h = omega (arith, ap (λ (k : ℕ). k * c) e, zero-mul c)
 
-one-finite : lt one (inf false) ≡ true
+pub one-below : lt one (inf false) ≡ true
 unfolding ofBits lt
-one-finite = refl
+one-below = refl
 
 unit-axis : (p : Bool) (x u : Float) → p ≡ true → T (fits binary64 x) → lt (absOf x) one ≡ true → NearSays (absOf x) one x u → u ≡ roundAxisOf p x
 unfolding roundAxisOf
-unit-axis p x u e F h n = rw e (n .formula refl h one-finite ∙ unfold ofBits in nearest-one x F)
+unit-axis p x u e F h n = rw e (n .formula refl h one-below ∙ unfold ofBits in nearest-one x F)
 
-dot-fits : (a b : Vec3) → T (fits binary64 (dotOf a b))
+pub dot-fits : (a b : Vec3) → T (fits binary64 (dotOf a b))
 dot-fits a b = add-fits binary64 (a .x ⊗ b .x ⊕ a .y ⊗ b .y) (a .z ⊗ b .z)
 
 module _ (s : Sight) (d : Vec3) where
@@ -273,7 +272,7 @@ module _ (s : Sight) (d : Vec3) where
           ∙ unfold seesApart in ap (λ (q : Vec3). le (norm2Of q) (s .limit)) (sym (image-tilted t))
 
 -- ---- in a tilted cell: a difference is seen where the other way round is
-one-fits : T (fits binary64 one)
+pub one-fits : T (fits binary64 one)
 unfolding ofBits fits
 one-fits = tt
 
@@ -310,7 +309,7 @@ module _ (s : Sight) (a b : Vec3) where
       square-of : (l : List Float) → timesRow l u ⊗ timesRow l u ≡ timesRow l v ⊗ timesRow l v
       square-of l = opposite-square (timesRow l u) (timesRow l v) (opposite-three (at l 0) (at l 1) (at l 2) (u .x) (u .y) (u .z) (v .x) (v .y) (v .z) p q r)
 
-  tilted-seen : (d : Vec3) → tiltedHolds s d ≡ true → le (norm2Of (timesOf (matrixOf (s .prepared .lattice)) (nearsOf (fractionsOf s d)))) (s .limit) ≡ seesApart s d
+  pub tilted-seen : (d : Vec3) → tiltedHolds s d ≡ true → le (norm2Of (timesOf (matrixOf (s .prepared .lattice)) (nearsOf (fractionsOf s d)))) (s .limit) ≡ seesApart s d
   tilted-seen d h =
       tilted-law s d
       (nears (fractionsOf s d .x) (dot-fits (s .prepared .general .ix) d))

@@ -3,16 +3,19 @@ use Prim.Native.Nat.{ℕ, _+_, _≤_, _<_}
 use mathlib.Core.Path.{_≡_}
 use mathlib.Core.Bool.{Bool, true, false, cond, not, _&&_}
 use mathlib.Core.List.{List}
-use lib.Dec.{ltb}
+use lib.Dec.{T, ltb}
 use lib.ListN.{length, getD, take, drop}
-use lib.Ieee.{Float, lt, le}
-use Rattle.float.specs.Arith.{_⊕_, _⊖_, at, bits}
+use lib.Ieee.{Float, binary64, lt, le, eq, fits}
+use Rattle.float.specs.Arith.{_⊕_, _⊖_, _⊗_, at, bits}
 use Rattle.float.specs.Def.{absOf}
 use Rattle.lists.specs.Lists.{keep}
 use Rattle.cell.specs.declared.Vec3.{Vec3}
-use Rattle.cell.specs.Vec.{dotOf, norm2Of, positionAt}
+use Rattle.cell.specs.declared.Lattice.{Lattice}
+use Rattle.cell.specs.declared.General.{General}
+use Rattle.cell.specs.Vec.{subOf, addOf, dotOf, norm2Of, positionAt}
+use Rattle.cell.specs.Matrix.{matrixOf, timesOf}
 use Rattle.cell_prepared.specs.Facts.{huge, imageIn}
-use Rattle.cell_square.specs.Square.{stepOf, gapOf}
+use Rattle.cell_square.specs.Square.{steadyOf, stepOf, calmOf, nearerOf, gapOf, lowSum, highSum}
 use Rattle.neighbor_listing.specs.declared.sight.Sight.{Sight}
 use Rattle.neighbor_listing.specs.declared.side.Bounds.{Bounds}
 use Rattle.neighbor_listing.specs.declared.side.Reach.{Reach}
@@ -131,15 +134,113 @@ pub record StillSays (s : Sight) (a : Vec3) (w : Bounds) (r : Bool) : Type 0 whe
   pub single : r ≡ true → SingleSays s a w true
   pub step : r ≡ true → record { x = bits 0; y = bits 0; z = bits 0 } ≡ stepIn s a w
 
-pub record ReachSays (s : Sight) (a : Vec3) (w : Bounds) (r : Reach) : Type 0 where
+-- ---- in a tilted cell: a row's products with what lies from low up to high, the least and the greatest
+abbrev pub lowBy : Vec3 → Vec3 → Vec3 → Float
+lowBy c low high = lowSum (c .x) (c .y) (c .z) (low .x) (high .x) (low .y) (high .y) (low .z) (high .z)
+
+abbrev pub highBy : Vec3 → Vec3 → Vec3 → Float
+highBy c low high = highSum (c .x) (c .y) (c .z) (low .x) (high .x) (low .y) (high .y) (low .z) (high .z)
+
+unfoldable pub leastRows : Vec3 → Vec3 → Vec3 → Vec3 → Vec3 → Vec3
+leastRows x y z low high = record { x = lowBy x low high; y = lowBy y low high; z = lowBy z low high }
+
+unfoldable pub greatestRows : Vec3 → Vec3 → Vec3 → Vec3 → Vec3 → Vec3
+greatestRows x y z low high = record { x = highBy x low high; y = highBy y low high; z = highBy z low high }
+
+-- the fractions of differences from low up to high
+abbrev pub leastFractions : Sight → Vec3 → Vec3 → Vec3
+leastFractions s low high = leastRows (s .prepared .general .ix) (s .prepared .general .iy) (s .prepared .general .iz) low high
+
+abbrev pub greatestFractions : Sight → Vec3 → Vec3 → Vec3
+greatestFractions s low high = greatestRows (s .prepared .general .ix) (s .prepared .general .iy) (s .prepared .general .iz) low high
+
+-- one step takes fractions from low up to high to their nearest
+unfoldable pub isSlanted : Sight → Bounds → Vec3 → Vec3 → Bool
+isSlanted s w low high =
+    w .sound && isTilted s && steadyOf (bits 0x3ff0_0000_0000_0000) (low .x) (high .x) && steadyOf (bits 0x3ff0_0000_0000_0000) (low .y) (high .y)
+    && steadyOf (bits 0x3ff0_0000_0000_0000) (low .z) (high .z)
+
+unfoldable pub wholeStep : Vec3 → Vec3 → Vec3
+wholeStep low high =
+    record {
+      x = stepOf (bits 0x3ff0_0000_0000_0000) (low .x) (high .x);
+      y = stepOf (bits 0x3ff0_0000_0000_0000) (low .y) (high .y);
+      z = stepOf (bits 0x3ff0_0000_0000_0000) (low .z) (high .z);
+    }
+
+-- .. which is nothing
+unfoldable pub isLevel : Sight → Bounds → Vec3 → Vec3 → Bool
+isLevel s w low high =
+    w .sound && isTilted s && calmOf (bits 0x3ff0_0000_0000_0000) (low .x) (high .x) && calmOf (bits 0x3ff0_0000_0000_0000) (low .y) (high .y)
+    && calmOf (bits 0x3ff0_0000_0000_0000) (low .z) (high .z)
+
+-- .. of what is a float's value
+pub record FitEnds (low high : Vec3) : Type 0 where
+  pub x-low : T (fits binary64 (low .x))
+  pub x-high : T (fits binary64 (high .x))
+  pub y-low : T (fits binary64 (low .y))
+  pub y-high : T (fits binary64 (high .y))
+  pub z-low : T (fits binary64 (low .z))
+  pub z-high : T (fits binary64 (high .z))
+
+pub record SlantSays (s : Sight) (w : Bounds) (low high : Vec3) (r : Reach) : Type 0 where
+  pub single : r .single ≡ isSlanted s w low high
+  pub step : r .step ≡ wholeStep low high
+
+-- the images of fractions from low up to high, by the matrix' rows
+abbrev pub leastImage : Lattice → Vec3 → Vec3 → Vec3
+leastImage l low high =
+    leastRows (record { x = l .a .x; y = l .b .x; z = l .c .x }) (record { x = l .a .y; y = l .b .y; z = l .c .y }) (record { x = l .a .z; y = l .b .z; z = l .c .z }) low high
+
+abbrev pub greatestImage : Lattice → Vec3 → Vec3 → Vec3
+greatestImage l low high =
+    greatestRows (record { x = l .a .x; y = l .b .x; z = l .c .x }) (record { x = l .a .y; y = l .b .y; z = l .c .y }) (record { x = l .a .z; y = l .b .z; z = l .c .z }) low high
+
+abbrev pub areFinite : Vec3 → Vec3 → Bool
+areFinite low high = lt (absOf (high .x ⊖ low .x ⊕ (high .y ⊖ low .y) ⊕ (high .z ⊖ low .z))) huge
+
+unfoldable pub nearerIn : Vec3 → Vec3 → Vec3
+nearerIn low high = record { x = nearerOf (low .x) (high .x); y = nearerOf (low .y) (high .y); z = nearerOf (low .z) (high .z) }
+
+-- all images of fractions from low up to high are out of sight
+unfoldable pub isOutside : Sight → Vec3 → Vec3 → Bool
+isOutside s low high =
+    areFinite (leastImage (s .prepared .lattice) low high) (greatestImage (s .prepared .lattice) low high)
+    && not (le (norm2Of (nearerIn (leastImage (s .prepared .lattice) low high) (greatestImage (s .prepared .lattice) low high))) (s .limit))
+
+-- whether a place is seen from a, by a step of each fraction
+unfoldable pub slantedSees : Sight → Vec3 → Vec3 → Vec3 → Bool
+slantedSees s a p b = le (norm2Of (timesOf (matrixOf (s .prepared .lattice)) (addOf (fractionsOf s (subOf a b)) p))) (s .limit)
+
+-- the first vector along x, the second in the plane of x and y: what is below the diagonal of matrix and inverse are zeros, and the squares do not see the
+-- products with them
+unfoldable pub isUpper : Sight → Bool
+isUpper s =
+    eq (s .prepared .lattice .a .y) (bits 0) && eq (s .prepared .lattice .a .z) (bits 0) && eq (s .prepared .lattice .b .z) (bits 0)
+    && eq (s .prepared .general .iy .x) (bits 0) && eq (s .prepared .general .iz .x) (bits 0) && eq (s .prepared .general .iz .y) (bits 0)
+
+abbrev pub upperNear : General → Vec3 → Vec3 → Vec3
+upperNear g p d = record { x = dotOf (g .ix) d ⊕ p .x; y = g .iy .y ⊗ d .y ⊕ g .iy .z ⊗ d .z ⊕ p .y; z = g .iz .z ⊗ d .z ⊕ p .z }
+
+abbrev pub upperImage : Lattice → Vec3 → Vec3
+upperImage l n = record { x = l .a .x ⊗ n .x ⊕ l .b .x ⊗ n .y ⊕ l .c .x ⊗ n .z; y = l .b .y ⊗ n .y ⊕ l .c .y ⊗ n .z; z = l .c .z ⊗ n .z }
+
+unfoldable pub upperSees : Sight → Vec3 → Vec3 → Vec3 → Bool
+upperSees s a p b = le (norm2Of (upperImage (s .prepared .lattice) (upperNear (s .prepared .general) p (subOf a b)))) (s .limit)
+
+unfoldable pub slopeSees : Sight → Vec3 → Vec3 → Vec3 → Bool
+slopeSees s a p b = cond (isUpper s) (upperSees s a p b) (slantedSees s a p b)
+
+-- ---- in either, by what is seen by one step
+pub record ReachSays (see : Sight → Vec3 → Vec3 → Vec3 → Bool) (s : Sight) (a : Vec3) (w : Bounds) (r : Reach) : Type 0 where
   pub sound : r .single ≡ true → w .sound ≡ true
-  pub sees : r .single ≡ true → (b : Vec3) → Enclosed w b → (rising : Bool) → steppedSees s a (r .step) b ≡ seesApart s (turned rising a b)
+  pub sees : r .single ≡ true → (b : Vec3) → Enclosed w b → (rising : Bool) → see s a (r .step) b ≡ seesApart s (turned rising a b)
   pub only : r .beyond ≡ true → r .single ≡ true
   pub none : r .beyond ≡ true → (b : Vec3) → Enclosed w b → (rising : Bool) → seesApart s (turned rising a b) ≡ false
 
 -- .. and so of the first k places
-pub record Reaches (s : Sight) (a : Vec3) (bx by bz : List Float) (k : ℕ) (r : Reach) : Type 0 where
-  pub sees : r .single ≡ true → (m : ℕ) → m < k → (rising : Bool) → steppedSees s a (r .step) (spotIn bx by bz m) ≡ seesApart s (turned rising a (spotIn bx by bz m))
+pub record Reaches (see : Sight → Vec3 → Vec3 → Vec3 → Bool) (s : Sight) (a : Vec3) (bx by bz : List Float) (k : ℕ) (r : Reach) : Type 0 where
+  pub sees : r .single ≡ true → (m : ℕ) → m < k → (rising : Bool) → see s a (r .step) (spotIn bx by bz m) ≡ seesApart s (turned rising a (spotIn bx by bz m))
 
 -- whether atom i at a sees atom j at b: low less high
 abbrev pub sighted : Sight → ℕ → Vec3 → ℕ → Vec3 → Bool

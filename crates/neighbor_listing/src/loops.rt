@@ -215,8 +215,57 @@ fn try_side(
     }
 }
 
-// .. or by the long way. Apart from `try_side`, which hands the cell's facts to no call: so it copies none of them. It has two callers, and so stays
-// a function of its own.
+// .. in a tilted cell: apart, so that neither has the other's numbers to keep.
+fn try_skewed(
+    s: Sight,
+    xs: &[f64],
+    table: &[u32],
+    firsts: &[u32],
+    pairs: &mut [u32],
+    t: Tally,
+    i: u32,
+    from: usize,
+    part: &[u32],
+    bx: &[f64],
+    by: &[f64],
+    bz: &[f64],
+    flags: &mut [usize],
+    room: &mut [u32],
+    w: Bounds,
+) -> Tried
+    requires { ⌜ (i < length (now xs) / 3) × Below (length (now xs) / 3) (now part) × (from ≤ length (now part)) × (length (now part) ≤ 64) × LaidOut (now xs) (now part) (now bx) (now by) (now bz) (length (now part)) × (length (now flags) ≡ 64) × (length (now room) ≡ 64) × Ready t (length (withEach i (drop from (now part)))) × Bounded (now bx) (now by) (now bz) (length (now part)) w ⌝ }
+    ensures { λ r. ⌜ TriedSays s (now (xs .entry)) (now (firsts .entry)) (now (table .entry)) t (now (pairs .entry)) (withEach i (drop from (now (part .entry)))) r (now (pairs .exit)) ⌝ }
+{
+    let a = spot_at(xs, i as usize);
+    let r = side::tilted_reach(s, a, w);
+    if r.beyond {
+        return Tried {
+            done: true,
+            tally: Tally {
+                count: t.count,
+                checks: t.checks + (part.len() - from),
+            },
+        };
+    }
+    if !side::flag_skewed(s, i, a, from, part, bx, by, bz, flags, r) {
+        return Tried {
+            done: false,
+            tally: t,
+        };
+    }
+    let count = side::gather(from, part, flags, room);
+    let near = settle_all(table, firsts, pairs, t, i, &room[..count]);
+    Tried {
+        done: true,
+        tally: Tally {
+            count: near.count,
+            checks: t.checks + (part.len() - from),
+        },
+    }
+}
+
+// .. or by the long way. Apart from `try_side` and `try_skewed`, which hand the cell's facts to no call: so they copy none of them. Each has two callers, and
+// so stays a function of its own.
 fn consider_side(
     s: Sight,
     xs: &[f64],
@@ -237,6 +286,29 @@ fn consider_side(
     requires { ⌜ (i < length (now xs) / 3) × Below (length (now xs) / 3) (now part) × (from ≤ length (now part)) × (length (now part) ≤ 64) × LaidOut (now xs) (now part) (now bx) (now by) (now bz) (length (now part)) × (length (now flags) ≡ 64) × (length (now room) ≡ 64) × Ready t (length (withEach i (drop from (now part)))) × Bounded (now bx) (now by) (now bz) (length (now part)) w ⌝ }
     ensures { λ r. ⌜ Lists s (now (xs .entry)) (now (firsts .entry)) (now (table .entry)) t (now (pairs .entry)) (withEach i (drop from (now (part .entry)))) r (now (pairs .exit)) ⌝ }
 {
+    if s.prepared.general.skewed {
+        let o = try_skewed(
+            s,
+            xs,
+            table,
+            firsts,
+            pairs,
+            t,
+            i,
+            from,
+            part,
+            bx,
+            by,
+            bz,
+            flags,
+            room,
+            w,
+        );
+        if o.done {
+            return o.tally;
+        }
+        return consider_part(s, xs, table, firsts, pairs, t, i, &part[from..]);
+    }
     let o = try_side(
         s,
         xs,
@@ -280,6 +352,29 @@ fn consider_whole(
     requires { ⌜ (i < length (now xs) / 3) × Below (length (now xs) / 3) (now part) × (length (now part) ≤ 64) × LaidOut (now xs) (now part) (now bx) (now by) (now bz) (length (now part)) × (length (now flags) ≡ 64) × (length (now room) ≡ 64) × Ready t (length (withEach i (now part))) × Bounded (now bx) (now by) (now bz) (length (now part)) w ⌝ }
     ensures { λ r. ⌜ Lists s (now (xs .entry)) (now (firsts .entry)) (now (table .entry)) t (now (pairs .entry)) (withEach i (now (part .entry))) r (now (pairs .exit)) ⌝ }
 {
+    if s.prepared.general.skewed {
+        let o = try_skewed(
+            s,
+            xs,
+            table,
+            firsts,
+            pairs,
+            t,
+            i,
+            0,
+            part,
+            bx,
+            by,
+            bz,
+            flags,
+            room,
+            w,
+        );
+        if o.done {
+            return o.tally;
+        }
+        return consider_part(s, xs, table, firsts, pairs, t, i, part);
+    }
     let o = try_side(
         s,
         xs,

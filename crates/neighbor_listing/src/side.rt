@@ -1,17 +1,17 @@
 // The atoms of a bin side by side, at most 64. An atom is held against them in a loop that has no call and no branch, so that two go in an instruction;
-// it is right where every difference goes a short way, and says whether that is so. In a box the bounds of their places say it once for all of them,
-// and the way, and whether any can be in sight: rounding keeps the order.
+// it is right where every difference goes a short way, and says whether that is so. The bounds of their places say it once for all of them, and the way,
+// and whether any can be in sight: rounding keeps the order. In a box by the differences' own bounds, in a tilted cell by those of their fractions.
 use crate::sight::Sight;
 use crate::sight::spot_at;
 use cell::Vec3;
 use cell::matrices;
 use cell::vectors;
 ghost use mathlib.Core.Path.{_≡_};
-ghost use mathlib.Core.Bool.{cond, true};
+ghost use mathlib.Core.Bool.{cond, true, false};
 ghost use Prim.Native.Nat.{_/_, _≤_, _<_};
 ghost use lib.ListN.{length};
 ghost use Rattle.bins.specs.Listing.{Below};
-ghost use Rattle.neighbor_listing.specs.Sides.{SideRooms, LaidOut, BoxSays, isFinite, boxHolds, TiltedSays, fractionsOf, inUnit, isTilted, tiltedHolds, isEnclosed, AllEnclosed, Bounded, stepIn, gapIn, isBeyond, SingleSays, StillSays, steppedSees, ReachSays, Reaches, Flagged, Flags, Bits, FlagsTaken};
+ghost use Rattle.neighbor_listing.specs.Sides.{SideRooms, LaidOut, BoxSays, isFinite, boxHolds, TiltedSays, fractionsOf, inUnit, isTilted, tiltedHolds, isEnclosed, AllEnclosed, Bounded, stepIn, gapIn, isBeyond, SingleSays, StillSays, steppedSees, leastRows, greatestRows, isLevel, FitEnds, SlantSays, isOutside, slantedSees, isUpper, upperSees, slopeSees, ReachSays, Reaches, Flagged, Flags, Bits, FlagsTaken};
 
 // The least and the greatest coordinates of a part's places, and whether each lies between them: not where one is not a number.
 pub struct Bounds {
@@ -20,8 +20,8 @@ pub struct Bounds {
     pub sound: bool,
 }
 
-// What the bounds say of all their places: whether one step on each axis takes the differences with an atom to their images, that step, and whether
-// all of them are out of sight then.
+// What the bounds say of all their places: whether one step on each axis takes the differences with an atom to their images, that step (of a tilted cell:
+// of the fractions), and whether all of them are out of sight then.
 pub struct Reach {
     pub single: bool,
     pub step: Vec3,
@@ -247,48 +247,6 @@ fn is_beyond(s: Sight, p: Vec3, a: Vec3, w: Bounds) -> bool
     !(vectors::norm2(gap_of(p, a, w)) <= s.limit)
 }
 
-pub(crate) fn reach_of(s: Sight, a: Vec3, w: Bounds) -> Reach
-    ensures { λ r. ⌜ ReachSays s a w r ⌝ }
-{
-    if s.prepared.general.skewed {
-        return Reach {
-            single: false,
-            step: a,
-            beyond: false,
-        };
-    }
-    if is_still(s, a, w) {
-        let none = Vec3 {
-            x: 0.0,
-            y: 0.0,
-            z: 0.0,
-        };
-        return Reach {
-            single: true,
-            step: none,
-            beyond: is_beyond(s, none, a, w),
-        };
-    }
-    let single = is_single(s, a, w);
-    let step = step_of(s, a, w);
-    Reach {
-        single: single,
-        step: step,
-        beyond: single & is_beyond(s, step, a, w),
-    }
-}
-
-fn stepped_sees(s: Sight, a: Vec3, p: Vec3, b: Vec3) -> bool
-    ensures { λ r. ⌜ r ≡ steppedSees s a p b ⌝ }
-{
-    let d = Vec3 {
-        x: (a.x - b.x) + p.x,
-        y: (a.y - b.y) + p.y,
-        z: (a.z - b.z) + p.z,
-    };
-    vectors::norm2(d) <= s.limit
-}
-
 // In a tilted cell: where each fraction is below 1.
 fn fractions(s: Sight, d: Vec3) -> Vec3
     ensures { λ r. ⌜ r ≡ fractionsOf s d ⌝ }
@@ -335,6 +293,192 @@ fn tilted_sees(s: Sight, d: Vec3) -> bool
     vectors::norm2(matrices::times(matrices::matrix(l), near)) <= s.limit
 }
 
+// For all that lies from low up to high at once: the least and the greatest that its products with three rows can be.
+fn least_rows(x: Vec3, y: Vec3, z: Vec3, low: Vec3, high: Vec3) -> Vec3
+    ensures { λ r. ⌜ r ≡ leastRows x y z low high ⌝ }
+{
+    Vec3 {
+        x: cell_square::low_sum(x.x, x.y, x.z, low.x, high.x, low.y, high.y, low.z, high.z),
+        y: cell_square::low_sum(y.x, y.y, y.z, low.x, high.x, low.y, high.y, low.z, high.z),
+        z: cell_square::low_sum(z.x, z.y, z.z, low.x, high.x, low.y, high.y, low.z, high.z),
+    }
+}
+
+fn greatest_rows(x: Vec3, y: Vec3, z: Vec3, low: Vec3, high: Vec3) -> Vec3
+    ensures { λ r. ⌜ r ≡ greatestRows x y z low high ⌝ }
+{
+    Vec3 {
+        x: cell_square::high_sum(x.x, x.y, x.z, low.x, high.x, low.y, high.y, low.z, high.z),
+        y: cell_square::high_sum(y.x, y.y, y.z, low.x, high.x, low.y, high.y, low.z, high.z),
+        z: cell_square::high_sum(z.x, z.y, z.z, low.x, high.x, low.y, high.y, low.z, high.z),
+    }
+}
+
+// Whether the fractions from low up to high are their own nearest, on each axis: the common case, which asks less.
+fn is_level(s: Sight, w: Bounds, low: Vec3, high: Vec3) -> bool
+    ensures { λ r. ⌜ r ≡ isLevel s w low high ⌝ }
+{
+    w.sound
+        & is_tilted(s)
+        & cell_square::is_calm(1.0, low.x, high.x)
+        & cell_square::is_calm(1.0, low.y, high.y)
+        & cell_square::is_calm(1.0, low.z, high.z)
+}
+
+// Whether one step takes them all to their nearest, and that step. Nothing is said of `beyond` yet.
+fn slant_of(s: Sight, w: Bounds, low: Vec3, high: Vec3) -> Reach
+    requires { ⌜ FitEnds low high ⌝ }
+    ensures { λ r. ⌜ SlantSays s w low high r ⌝ }
+{
+    if is_level(s, w, low, high) {
+        return Reach {
+            single: true,
+            step: vectors::zero(),
+            beyond: false,
+        };
+    }
+    let step = Vec3 {
+        x: cell_square::step_by(1.0, low.x, high.x),
+        y: cell_square::step_by(1.0, low.y, high.y),
+        z: cell_square::step_by(1.0, low.z, high.z),
+    };
+    Reach {
+        single: w.sound
+            & is_tilted(s)
+            & cell_square::is_steady(1.0, low.x, high.x)
+            & cell_square::is_steady(1.0, low.y, high.y)
+            & cell_square::is_steady(1.0, low.z, high.z),
+        step: step,
+        beyond: false,
+    }
+}
+
+// Whether the images of all nearest fractions from low up to high are out of sight, by the matrix' rows.
+fn is_outside(s: Sight, low: Vec3, high: Vec3) -> bool
+    ensures { λ r. ⌜ r ≡ isOutside s low high ⌝ }
+{
+    let l = s.prepared.lattice;
+    let x = Vec3 {
+        x: l.a.x,
+        y: l.b.x,
+        z: l.c.x,
+    };
+    let y = Vec3 {
+        x: l.a.y,
+        y: l.b.y,
+        z: l.c.y,
+    };
+    let z = Vec3 {
+        x: l.a.z,
+        y: l.b.z,
+        z: l.c.z,
+    };
+    let from = least_rows(x, y, z, low, high);
+    let to = greatest_rows(x, y, z, low, high);
+    // six numbers by one test: a sum is finite only of finite numbers
+    let all = (to.x - from.x) + (to.y - from.y) + (to.z - from.z);
+    let gap = Vec3 {
+        x: cell_square::nearer(from.x, to.x),
+        y: cell_square::nearer(from.y, to.y),
+        z: cell_square::nearer(from.z, to.z),
+    };
+    (float::abs(all) < 1e300) & !(vectors::norm2(gap) <= s.limit)
+}
+
+// In a tilted cell, by the fractions' bounds.
+pub(crate) fn tilted_reach(s: Sight, a: Vec3, w: Bounds) -> Reach
+    ensures { λ r. ⌜ ReachSays slopeSees s a w r ⌝ }
+{
+    let from = vectors::sub(a, w.hi);
+    let to = vectors::sub(a, w.lo);
+    let g = s.prepared.general;
+    let low = least_rows(g.ix, g.iy, g.iz, from, to);
+    let high = greatest_rows(g.ix, g.iy, g.iz, from, to);
+    let r = slant_of(s, w, low, high);
+    let step = r.step;
+    Reach {
+        single: r.single,
+        step: step,
+        beyond: r.single & is_outside(s, vectors::add(low, step), vectors::add(high, step)),
+    }
+}
+
+pub(crate) fn reach_of(s: Sight, a: Vec3, w: Bounds) -> Reach
+    ensures { λ r. ⌜ ReachSays steppedSees s a w r ⌝ }
+{
+    if is_still(s, a, w) {
+        let none = Vec3 {
+            x: 0.0,
+            y: 0.0,
+            z: 0.0,
+        };
+        return Reach {
+            single: true,
+            step: none,
+            beyond: is_beyond(s, none, a, w),
+        };
+    }
+    let single = is_single(s, a, w);
+    let step = step_of(s, a, w);
+    Reach {
+        single: single,
+        step: step,
+        beyond: single & is_beyond(s, step, a, w),
+    }
+}
+
+fn stepped_sees(s: Sight, a: Vec3, p: Vec3, b: Vec3) -> bool
+    ensures { λ r. ⌜ r ≡ steppedSees s a p b ⌝ }
+{
+    let d = Vec3 {
+        x: (a.x - b.x) + p.x,
+        y: (a.y - b.y) + p.y,
+        z: (a.z - b.z) + p.z,
+    };
+    vectors::norm2(d) <= s.limit
+}
+
+fn slanted_sees(s: Sight, a: Vec3, p: Vec3, b: Vec3) -> bool
+    ensures { λ r. ⌜ r ≡ slantedSees s a p b ⌝ }
+{
+    let f = fractions(s, vectors::sub(a, b));
+    let l = s.prepared.lattice;
+    vectors::norm2(matrices::times(matrices::matrix(l), vectors::add(f, p))) <= s.limit
+}
+
+// The first vector along x, the second in the plane of x and y: then the products with the zeros are left out.
+fn is_upper(s: Sight) -> bool
+    ensures { λ r. ⌜ r ≡ isUpper s ⌝ }
+{
+    let l = s.prepared.lattice;
+    let g = s.prepared.general;
+    (l.a.y == 0.0)
+        & (l.a.z == 0.0)
+        & (l.b.z == 0.0)
+        & (g.iy.x == 0.0)
+        & (g.iz.x == 0.0)
+        & (g.iz.y == 0.0)
+}
+
+fn upper_sees(s: Sight, a: Vec3, p: Vec3, b: Vec3) -> bool
+    ensures { λ r. ⌜ r ≡ upperSees s a p b ⌝ }
+{
+    let g = s.prepared.general;
+    let l = s.prepared.lattice;
+    let d = vectors::sub(a, b);
+    let n = Vec3 {
+        x: vectors::dot(g.ix, d) + p.x,
+        y: g.iy.y * d.y + g.iy.z * d.z + p.y,
+        z: g.iz.z * d.z + p.z,
+    };
+    let q = Vec3 {
+        x: l.a.x * n.x + l.b.x * n.y + l.c.x * n.z,
+        y: l.b.y * n.y + l.c.y * n.z,
+        z: l.c.z * n.z,
+    };
+    vectors::norm2(q) <= s.limit
+}
+
 // Which of a part's atoms, from `from` on, atom i sees, which is at a. By one step for all of them there is nothing else to ask.
 fn flag_stepped(
     s: Sight,
@@ -348,7 +492,7 @@ fn flag_stepped(
     bz: &[f64],
     flags: &mut [usize],
 )
-    requires { ⌜ (from ≤ length (now part)) × (length (now part) ≤ 64) × SideRooms (now bx) (now by) (now bz) × (length (now flags) ≡ 64) × Reaches s a (now bx) (now by) (now bz) (length (now part)) r × (r .single ≡ true) ⌝ }
+    requires { ⌜ (from ≤ length (now part)) × (length (now part) ≤ 64) × SideRooms (now bx) (now by) (now bz) × (length (now flags) ≡ 64) × Reaches steppedSees s a (now bx) (now by) (now bz) (length (now part)) r × (r .single ≡ true) ⌝ }
     ensures { λ _. ⌜ Flagged s i a (now (part .entry)) (now (bx .entry)) (now (by .entry)) (now (bz .entry)) from (length (now (part .entry))) (now (flags .exit)) ⌝ }
 {
     let mut k = from;
@@ -359,6 +503,61 @@ fn flag_stepped(
             z: bz[k],
         };
         flags[k] = one(stepped_sees(s, a, r.step, b));
+        k += 1;
+    }
+}
+
+// .. in a tilted cell.
+fn flag_slanted(
+    s: Sight,
+    i: u32,
+    a: Vec3,
+    r: Reach,
+    from: usize,
+    part: &[u32],
+    bx: &[f64],
+    by: &[f64],
+    bz: &[f64],
+    flags: &mut [usize],
+)
+    requires { ⌜ (from ≤ length (now part)) × (length (now part) ≤ 64) × SideRooms (now bx) (now by) (now bz) × (length (now flags) ≡ 64) × Reaches slopeSees s a (now bx) (now by) (now bz) (length (now part)) r × (r .single ≡ true) × (isUpper s ≡ false) ⌝ }
+    ensures { λ _. ⌜ Flagged s i a (now (part .entry)) (now (bx .entry)) (now (by .entry)) (now (bz .entry)) from (length (now (part .entry))) (now (flags .exit)) ⌝ }
+{
+    let mut k = from;
+    while k < part.len() {
+        let b = Vec3 {
+            x: bx[k],
+            y: by[k],
+            z: bz[k],
+        };
+        flags[k] = one(slanted_sees(s, a, r.step, b));
+        k += 1;
+    }
+}
+
+fn flag_upper(
+    s: Sight,
+    i: u32,
+    a: Vec3,
+    r: Reach,
+    from: usize,
+    part: &[u32],
+    bx: &[f64],
+    by: &[f64],
+    bz: &[f64],
+    flags: &mut [usize],
+)
+    requires { ⌜ (from ≤ length (now part)) × (length (now part) ≤ 64) × SideRooms (now bx) (now by) (now bz) × (length (now flags) ≡ 64) × Reaches slopeSees s a (now bx) (now by) (now bz) (length (now part)) r × (r .single ≡ true) × (isUpper s ≡ true) ⌝ }
+    ensures { λ _. ⌜ Flagged s i a (now (part .entry)) (now (bx .entry)) (now (by .entry)) (now (bz .entry)) from (length (now (part .entry))) (now (flags .exit)) ⌝ }
+{
+    let mut k = from;
+    while k < part.len() {
+        let b = Vec3 {
+            x: bx[k],
+            y: by[k],
+            z: bz[k],
+        };
+        flags[k] = one(upper_sees(s, a, r.step, b));
         k += 1;
     }
 }
@@ -434,17 +633,44 @@ pub(crate) fn flag(
     flags: &mut [usize],
     r: Reach,
 ) -> bool
-    requires { ⌜ (from ≤ length (now part)) × (length (now part) ≤ 64) × SideRooms (now bx) (now by) (now bz) × (length (now flags) ≡ 64) × Reaches s a (now bx) (now by) (now bz) (length (now part)) r ⌝ }
+    requires { ⌜ (from ≤ length (now part)) × (length (now part) ≤ 64) × SideRooms (now bx) (now by) (now bz) × (length (now flags) ≡ 64) × Reaches steppedSees s a (now bx) (now by) (now bz) (length (now part)) r ⌝ }
     ensures { λ o. ⌜ Flags s i a (now (part .entry)) (now (bx .entry)) (now (by .entry)) (now (bz .entry)) from (length (now (part .entry))) (now (flags .exit)) o ⌝ }
 {
     if r.single {
         flag_stepped(s, i, a, r, from, part, bx, by, bz, flags);
         return true;
     }
-    if s.prepared.general.skewed {
-        return flag_tilted(s, i, a, from, part, bx, by, bz, flags);
-    }
     flag_box(s, i, a, from, part, bx, by, bz, flags)
+}
+
+pub(crate) fn flag_skewed(
+    s: Sight,
+    i: u32,
+    a: Vec3,
+    from: usize,
+    part: &[u32],
+    bx: &[f64],
+    by: &[f64],
+    bz: &[f64],
+    flags: &mut [usize],
+    r: Reach,
+) -> bool
+    requires { ⌜ (from ≤ length (now part)) × (length (now part) ≤ 64) × SideRooms (now bx) (now by) (now bz) × (length (now flags) ≡ 64) × Reaches slopeSees s a (now bx) (now by) (now bz) (length (now part)) r ⌝ }
+    ensures { λ o. ⌜ Flags s i a (now (part .entry)) (now (bx .entry)) (now (by .entry)) (now (bz .entry)) from (length (now (part .entry))) (now (flags .exit)) o ⌝ }
+{
+    if r.single {
+        if is_upper(s) {
+            flag_upper(s, i, a, r, from, part, bx, by, bz, flags);
+            return true;
+        }
+        flag_slanted(s, i, a, r, from, part, bx, by, bz, flags);
+        return true;
+    }
+    // without an inverse, or open on an axis: no loop in vain
+    if !is_tilted(s) {
+        return false;
+    }
+    flag_tilted(s, i, a, from, part, bx, by, bz, flags)
 }
 
 // Those that are flagged, to the room's front; how many they are. Each is written, and stays where its flag is 1.

@@ -4,7 +4,7 @@ use Rattle.cell_square.proofs.gap.Statement.{statement}
 use Rattle.cell_square.proofs.gap.Tie as tie
 
 returns : tie.Need-returns
-returns c = unfold gapOf in rw (c .pick2 .ensures, c .before .pick .ensures)
+returns c = unfold gapOf in c .nearer .ensures
 
 pub gap-spec : {M : Type 1} → statement M
-gap-spec = tie.close (tie.spec (λ c κs. search needs) (λ c κs. search needs) returns)
+gap-spec = tie.close (tie.spec (λ c κs. search needs) returns)

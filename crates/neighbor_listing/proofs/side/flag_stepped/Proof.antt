@@ -1,5 +1,5 @@
 use Prim.Native.Nat.{_-_}
-use Rattle.neighbor_listing.proofs.Flagging.{Flagging, flagging-begin, stepped-flagged, flagging-end}
+use Rattle.neighbor_listing.proofs.Flagging.{Flagging, flagging-begin, reached-flagged, flagging-end}
 use borrow.Author.Needs.{needs}
 use lib.ListN.{length}
 use mathlib.Core.Bool.{true}
@@ -36,7 +36,7 @@ loop-less : tie.Need-loop-less Inv-loop μ-loop
 loop-less c = omega (arith, c .before .before .before .before .before .loop-test .taken)
 
 loop-again : tie.Need-loop-again Inv-loop μ-loop
-loop-again c = stepped-flagged (c .before .before .before .before .before .before .loop .inv) (c .before .before .before .before .before .loop-test .taken) (omega (arith, c .before .before .before .before .before .before .loop .inv .same, c .before .before .before .before .before .before .before .before .before .before .before .before .pre .3, c .before .before .before .before .before .before .before .before .before .before .before .before .pre .1, c .before .before .before .before .before .loop-test .taken)) (c .before .before .before .before .before .before .before .before .before .before .before .before .pre .4) (c .before .before .before .before .before .before .before .before .before .before .before .before .pre .5) (c .before .stepped-sees .ensures) (c .one .ensures)
+loop-again c = reached-flagged (c .before .before .before .before .before .before .loop .inv) (c .before .before .before .before .before .loop-test .taken) (omega (arith, c .before .before .before .before .before .before .loop .inv .same, c .before .before .before .before .before .before .before .before .before .before .before .before .pre .3, c .before .before .before .before .before .before .before .before .before .before .before .before .pre .1, c .before .before .before .before .before .loop-test .taken)) (c .before .before .before .before .before .before .before .before .before .before .before .before .pre .4) (c .before .before .before .before .before .before .before .before .before .before .before .before .pre .5) (c .before .stepped-sees .ensures) (c .one .ensures)
 
 same-length : tie.Need-same-length Inv-loop μ-loop
 same-length c = c .before .loop .inv .same
