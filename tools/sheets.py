@@ -1,18 +1,18 @@
 #!/usr/bin/env python3
-"""Job sheets for the programs `pairs_table`, `rewrite_table`, `forms_table` and `clumps_table`, and the answers that an independent model of the papers gives.
+"""Job sheets for the program `sheets_table`, and the answers that an independent model of the papers gives.
 
-    tools/sheets.py            writes stdin and stdout of the four crates
+    tools/sheets.py            writes its stdin and stdout
     tools/sheets.py FILE       prints the model's answer for one sheet
     tools/sheets.py FILE rewrite   prints the sheet's written form (02, No. 8)
     tools/sheets.py FILE clumps    prints the model's clumps of one sheet (02, No. 13)
     tools/sheets.py FILE either    prints the answer for a sheet of either form; to_two, to_one: the sheet moved (02, No. 9 and 10)
-    tools/sheets.py SEED COUNT     writes that many more sheets to table.in and what `clumps_table` is to print to table.out
-    tools/sheets.py SEED COUNT either   the same of sheets of both forms, for `forms_table`
-    tools/sheets.py -SIZE      prints a sheet of that many bytes: five atoms, then an atom's exclusion with itself again and again (65,536 is whole lines);
-                               crates/pairs_over/stdin is the one of 65,537
+    tools/sheets.py SEED COUNT     writes that many more sheets about clumps to table.in and what `sheets_table` is to print to table.out
+    tools/sheets.py SEED COUNT either   the same of sheets of both forms, for `sheets_table`
+    tools/sheets.py -SIZE      prints a sheet of that many bytes: five atoms, then an atom's exclusion with itself again and again (65,536 is whole lines)
 
 The model shares nothing with the library: lines by regular expressions, pairs by trying the stencil over a dictionary of bins, clumps by a plain
-search from atom to atom. In stdin each sheet stands after its length, eight hexadecimal digits and a newline."""
+search from atom to atom. In stdin each sheet stands after a letter and its length, eight hexadecimal digits and a newline: p for `pairs`, r
+for `rewrite`, c for `clumps`, f for the three programs on either form."""
 import os
 import random
 import re
@@ -388,7 +388,7 @@ def clump_sheets(rng, count):
 
 
 def forms():
-    """Sheets for `rewrite_table`: of each meaning several, one of them its written form."""
+    """Sheets as for `rewrite`: of each meaning several, one of them its written form."""
     rng = random.Random(8)
     join = b"".join
     out = [s for s in table() if len(s) < 3000][:200]
@@ -429,7 +429,7 @@ def typed(rng, lines, kinds, rules=RULES[:2]):
 
 
 def either_sheets():
-    """Sheets of both forms for `forms_table`."""
+    """Sheets of both forms."""
     rng = random.Random(9)
     join = b"".join
     none, some_kinds = [0], [0, 0, 1, 2, 0xffffffff]
@@ -520,11 +520,12 @@ def all_forms(data):
     return pairs_either(data) + to_two(data) + to_one(data)
 
 
-def put(folder, names, sheets, answer):
+def put(folder, names, *parts):
+    """Each part: the letter of its sheets, the sheets, and what answers them."""
     with open(os.path.join(folder, names[0]), "wb") as f:
-        f.write(b"".join(b"%08x\n" % len(s) + s for s in sheets))
+        f.write(b"".join(letter + b"%08x\n" % len(s) + s for letter, sheets, _ in parts for s in sheets))
     with open(os.path.join(folder, names[1]), "wb") as f:
-        f.write(b"".join(answer(s) for s in sheets))
+        f.write(b"".join(answer(s) for _, sheets, answer in parts for s in sheets))
 
 
 def main():
@@ -532,25 +533,21 @@ def main():
         sys.stdout.buffer.write(sized(int(sys.argv[1][1:])))
         return
     if len(sys.argv) > 3 and sys.argv[3] == "either":
-        put(".", ("table.in", "table.out"), more_either(random.Random(int(sys.argv[1])), int(sys.argv[2])), all_forms)
+        put(".", ("table.in", "table.out"), (b"f", more_either(random.Random(int(sys.argv[1])), int(sys.argv[2])), all_forms))
         return
     if len(sys.argv) > 2 and sys.argv[1].isdigit():
-        put(".", ("table.in", "table.out"), clump_sheets(random.Random(int(sys.argv[1])), int(sys.argv[2])), clumps)
+        put(".", ("table.in", "table.out"), (b"c", clump_sheets(random.Random(int(sys.argv[1])), int(sys.argv[2])), clumps))
         return
     if len(sys.argv) > 1:
         with open(sys.argv[1], "rb") as f:
             sys.stdout.buffer.write({"rewrite": rewrite, "clumps": clumps, "either": pairs_either, "to_two": to_two, "to_one": to_one}.get("".join(sys.argv[2:]), solve)(f.read()))
         return
     crates = os.path.join(os.path.dirname(os.path.abspath(__file__)), "..", "crates")
-    sheets = table()
-    put(os.path.join(crates, "pairs_table"), ("stdin", "stdout"), sheets, solve)
-    written = forms()
-    put(os.path.join(crates, "rewrite_table"), ("stdin", "stdout"), written, rewrite)
-    both = either_sheets()
-    put(os.path.join(crates, "forms_table"), ("stdin", "stdout"), both, all_forms)
+    sheets, written, both = table(), forms(), either_sheets()
     more = sheets + clump_sheets(random.Random(2), 60)
-    put(os.path.join(crates, "clumps_table"), ("stdin", "stdout"), more, clumps)
-    print(len(sheets), "sheets for pairs_table,", len(written), "for rewrite_table,", len(both), "for forms_table,", len(more), "for clumps_table")
+    put(os.path.join(crates, "sheets_table"), ("stdin", "stdout"),
+        (b"p", sheets + [sized(65537)], solve), (b"r", written, rewrite), (b"f", both, all_forms), (b"c", more, clumps))
+    print(len(sheets) + 1, "sheets as for pairs,", len(written), "as for rewrite,", len(both), "of either form,", len(more), "as for clumps")
 
 
 if __name__ == "__main__":

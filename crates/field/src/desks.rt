@@ -39,9 +39,15 @@ pub extern "C" fn tyn_species_row<'a>(
 ) -> FlatRow
     ensures { λ r. ⌜ RowSays (tables (now («own_ids» .entry)) (now («own_params» .entry)) (now (ids .entry)) (now (params .entry))) species r ⌝ }
 {
-    let done = give::done(potentials::species_row_asked(own_ids, own_params, ids, params, species));
-    let own = potentials::species_row(own_ids, own_params, &[], &[], species);
-    let row = potentials::species_row(own_ids, own_params, ids, params, species);
+    let done = give::done(potentials_calls::species_row_asked(
+        own_ids,
+        own_params,
+        ids,
+        params,
+        species,
+    ));
+    let own = potentials_calls::species_row(own_ids, own_params, &[], &[], species);
+    let row = potentials_calls::species_row(own_ids, own_params, ids, params, species);
     FlatRow {
         done,
         table: table_of(own.len(), row.len()),

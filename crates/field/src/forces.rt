@@ -24,7 +24,7 @@ ghost use mathlib.Core.Path.{_≡_};
 pub extern "C" fn tyn_monatomic(epsilon: f64, sigma: f64, cutoff: f64) -> FlatLjAnswer
     ensures { λ r. ⌜ Shown flatLjAnswer (MonatomicSays epsilon sigma cutoff) r ⌝ }
 {
-    give::lj_answer(potentials::monatomic(epsilon, sigma, cutoff))
+    give::lj_answer(potentials_calls::monatomic(epsilon, sigma, cutoff))
 }
 
 // Lennard-Jones numbers of argon. No refusal.
@@ -32,7 +32,7 @@ pub extern "C" fn tyn_monatomic(epsilon: f64, sigma: f64, cutoff: f64) -> FlatLj
 pub extern "C" fn tyn_argon() -> FlatLj
     ensures { λ r. ⌜ r ≡ flatLj argonOf ⌝ }
 {
-    give::lj(potentials::argon())
+    give::lj(potentials_calls::argon())
 }
 
 // Bond numbers, the same for each bond. Refusal 3.
@@ -40,7 +40,7 @@ pub extern "C" fn tyn_argon() -> FlatLj
 pub extern "C" fn tyn_uniform(k: f64, r0: f64) -> FlatBondAnswer
     ensures { λ r. ⌜ Shown flatBondAnswer (UniformSays k r0) r ⌝ }
 {
-    give::bond_answer(potentials::uniform(k, r0))
+    give::bond_answer(potentials_calls::uniform(k, r0))
 }
 
 // Lennard-Jones over the listed pairs: forces overwritten, from zero. own_ids and ids are the species that own_params and params have epsilon
@@ -61,7 +61,7 @@ pub extern "C" fn tyn_lj_pairs(
 ) -> FlatSummed
     ensures { λ r. ⌜ Shown flatSummed (λ a. LjPairsSays (ljOf lj) (cellOf cell) (tables (now («own_ids» .entry)) (now («own_params» .entry)) (now (ids .entry)) (now (params .entry))) (now (species .entry)) (now (positions .entry)) (now (pairs .entry)) (now (forces .entry)) a (now (forces .exit))) r ⌝ }
 {
-    give::summed(potentials::lj_pairs(
+    give::summed(potentials_calls::lj_pairs(
         take::lj(lj),
         take::cell(cell),
         own_ids,
@@ -90,7 +90,7 @@ pub extern "C" fn tyn_lj_all(
 ) -> FlatSummed
     ensures { λ r. ⌜ Shown flatSummed (λ a. LjAllSays (ljOf lj) (cellOf cell) (tables (now («own_ids» .entry)) (now («own_params» .entry)) (now (ids .entry)) (now (params .entry))) (now (species .entry)) (now (positions .entry)) (now (forces .entry)) a (now (forces .exit))) r ⌝ }
 {
-    give::summed(potentials::lj_all(
+    give::summed(potentials_calls::lj_all(
         take::lj(lj),
         take::cell(cell),
         own_ids,
@@ -116,7 +116,7 @@ pub extern "C" fn tyn_coulomb_pairs(
 ) -> FlatSummed
     ensures { λ r. ⌜ Shown flatSummed (λ a. CoulombPairsSays units cutoff (cellOf cell) (now (charges .entry)) (now (positions .entry)) (now (pairs .entry)) (now (forces .entry)) a (now (forces .exit))) r ⌝ }
 {
-    give::summed(potentials::coulomb_pairs(
+    give::summed(potentials_calls::coulomb_pairs(
         units,
         cutoff,
         take::cell(cell),
@@ -139,7 +139,7 @@ pub extern "C" fn tyn_coulomb_all(
 ) -> FlatSummed
     ensures { λ r. ⌜ Shown flatSummed (λ a. CoulombAllSays units cutoff (cellOf cell) (now (charges .entry)) (now (positions .entry)) (now (forces .entry)) a (now (forces .exit))) r ⌝ }
 {
-    give::summed(potentials::coulomb_all(
+    give::summed(potentials_calls::coulomb_all(
         units,
         cutoff,
         take::cell(cell),
@@ -162,7 +162,7 @@ pub extern "C" fn tyn_bonds_all(
 ) -> FlatSummed
     ensures { λ r. ⌜ Shown flatSummed (λ a. BondsAllSays bond (cellOf cell) (now (bonds .entry)) (now (lengths .entry)) (now (ks .entry)) (now (positions .entry)) (now (forces .entry)) a (now (forces .exit))) r ⌝ }
 {
-    give::summed(potentials::bonds_all(
+    give::summed(potentials_calls::bonds_all(
         bond,
         take::cell(cell),
         bonds,

@@ -9,7 +9,7 @@ ghost use Rattle.potentials_pair.specs.Species.{tables};
 ghost use Rattle.potentials_pair.specs.Pull.{held};
 ghost use Rattle.potentials_pair.specs.Coulomb.{coulombNear};
 ghost use Rattle.potentials.specs.Steps.{ljStep, coulombStep, Kept};
-ghost use Rattle.potentials.specs.Blocks.{blockStep, nearStep, ljWith, Block, PlaceAdds, Sifted, NearBlock, NearAdds, NearSifted, Numbered128};
+ghost use Rattle.potentials.specs.Blocks.{blockStep, Block, PlaceAdds, Sifted, NearBlock, NearAdds, NearSifted, Numbered128};
 use crate::BothSums;
 use crate::block;
 use crate::coulomb;
@@ -115,56 +115,7 @@ fn sift(
     c
 }
 
-// What the first n places of Lennard-Jones' block add.
-fn add_lj(
-    n: usize,
-    lj: Lj,
-    own_ids: &[u32],
-    own_params: &[f64],
-    ids: &[u32],
-    params: &[f64],
-    species: &[u32],
-    atoms: &[usize],
-    apart: &[f64],
-    near: &[f64],
-    keys: &mut [u64],
-    depths: &mut [f64],
-    squares: &mut [f64],
-    shifts: &mut [f64],
-    ds: &mut [f64],
-    ss: &mut [f64],
-    hs: &mut [f64],
-    pulls: &mut [f64],
-    forces: &mut [f64],
-    sum: Sum,
-) -> Sum
-    requires { ⌜ (n ≤ 128) × NearBlock (now atoms) (now apart) (now near) × Numbered128 (now ds) (now ss) (now hs) × (length (now pulls) ≡ 256) ⌝ }
-    requires { ⌜ Kept lj (tables (now «own_ids») (now «own_params») (now ids) (now params)) (now keys) (now depths) (now squares) (now shifts) ⌝ }
-    ensures { λ _. ⌜ Kept lj (tables (now («own_ids» .entry)) (now («own_params» .entry)) (now (ids .entry)) (now (params .entry))) (now (keys .exit)) (now (depths .exit)) (now (squares .exit)) (now (shifts .exit)) ⌝ }
-    ensures { λ r. ⌜ held r (now (forces .exit)) ≡ foldl (nearStep (ljWith lj (tables (now («own_ids» .entry)) (now («own_params» .entry)) (now (ids .entry)) (now (params .entry))) (now (species .entry))) (now (atoms .entry)) (now (apart .entry)) (now (near .entry))) (held sum (now (forces .entry))) (upTo n) ⌝ }
-{
-    lennard_jones::number_all(
-        n,
-        lj,
-        own_ids,
-        own_params,
-        ids,
-        params,
-        species,
-        atoms,
-        keys,
-        depths,
-        squares,
-        shifts,
-        ds,
-        ss,
-        hs,
-    );
-    lennard_jones::pull_all(n, lj.shift, near, ds, ss, hs, pulls);
-    block::add_all(n, atoms, apart, pulls, forces, sum)
-}
-
-// .. of Coulomb's.
+// What the first n places of Coulomb's block add.
 fn add_coulomb(
     n: usize,
     ends: &[usize],
@@ -240,7 +191,7 @@ fn by_blocks(
             ways,
             two,
         );
-        s = add_lj(
+        s = lennard_jones::add(
             n.lj,
             lj,
             own_ids,

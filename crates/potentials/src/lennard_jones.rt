@@ -4,13 +4,13 @@ ghost use mathlib.Core.List.{foldl};
 ghost use Prim.Native.Nat.{_+_, _-_, _/_, _≤_, _<_};
 ghost use lib.ListN.{length, getD, set};
 ghost use Rattle.lists.specs.Atoms.{atomsOf};
-ghost use Rattle.lists.specs.Lists.{numbers, withEach, allPairs, rows};
+ghost use Rattle.lists.specs.Lists.{numbers, withEach, allPairs, upTo, rows};
 ghost use Rattle.cell_prepared.specs.Facts.{imageIn};
 ghost use Rattle.potentials_pair.specs.Species.{tables, lookBy};
 ghost use Rattle.potentials_pair.specs.Pull.{held};
 ghost use Rattle.potentials.specs.Terms.{ljPair};
 ghost use Rattle.potentials.specs.Steps.{ljStep, Kept};
-ghost use Rattle.potentials.specs.Blocks.{numbersWith, ljEnergyOn, ljSlopeOn, withPull, Pulled, NearBlock, NearAdds, NearSifted, Numbered128, Recalled};
+ghost use Rattle.potentials.specs.Blocks.{nearStep, ljWith, numbersWith, ljEnergyOn, ljSlopeOn, withPull, Pulled, NearBlock, NearAdds, NearSifted, Numbered128, Recalled};
 use crate::block;
 use crate::kept;
 use crate::pairs;
@@ -215,7 +215,7 @@ fn number_at(
 }
 
 // .. of the first n places.
-pub(crate) fn number_all(
+fn number_all(
     n: usize,
     lj: Lj,
     own_ids: &[u32],
@@ -284,7 +284,7 @@ fn pull_at(
 }
 
 // .. of the first n places. No call is left in it and no branch: two places go in one instruction.
-pub(crate) fn pull_all(
+fn pull_all(
     n: usize,
     shift: bool,
     near: &[f64],
@@ -301,6 +301,55 @@ pub(crate) fn pull_all(
         pull_at(m, shift, near, ds, ss, hs, pulls);
         m += 1;
     }
+}
+
+// What the first n places add.
+pub(crate) fn add(
+    n: usize,
+    lj: Lj,
+    own_ids: &[u32],
+    own_params: &[f64],
+    ids: &[u32],
+    params: &[f64],
+    species: &[u32],
+    atoms: &[usize],
+    apart: &[f64],
+    near: &[f64],
+    keys: &mut [u64],
+    depths: &mut [f64],
+    squares: &mut [f64],
+    shifts: &mut [f64],
+    ds: &mut [f64],
+    ss: &mut [f64],
+    hs: &mut [f64],
+    pulls: &mut [f64],
+    forces: &mut [f64],
+    sum: Sum,
+) -> Sum
+    requires { ⌜ (n ≤ 128) × NearBlock (now atoms) (now apart) (now near) × Numbered128 (now ds) (now ss) (now hs) × (length (now pulls) ≡ 256) ⌝ }
+    requires { ⌜ Kept lj (tables (now «own_ids») (now «own_params») (now ids) (now params)) (now keys) (now depths) (now squares) (now shifts) ⌝ }
+    ensures { λ _. ⌜ Kept lj (tables (now («own_ids» .entry)) (now («own_params» .entry)) (now (ids .entry)) (now (params .entry))) (now (keys .exit)) (now (depths .exit)) (now (squares .exit)) (now (shifts .exit)) ⌝ }
+    ensures { λ r. ⌜ held r (now (forces .exit)) ≡ foldl (nearStep (ljWith lj (tables (now («own_ids» .entry)) (now («own_params» .entry)) (now (ids .entry)) (now (params .entry))) (now (species .entry))) (now (atoms .entry)) (now (apart .entry)) (now (near .entry))) (held sum (now (forces .entry))) (upTo n) ⌝ }
+{
+    number_all(
+        n,
+        lj,
+        own_ids,
+        own_params,
+        ids,
+        params,
+        species,
+        atoms,
+        keys,
+        depths,
+        squares,
+        shifts,
+        ds,
+        ss,
+        hs,
+    );
+    pull_all(n, lj.shift, near, ds, ss, hs, pulls);
+    block::add_all(n, atoms, apart, pulls, forces, sum)
 }
 
 // The rows of a list, a block after the other.
@@ -337,7 +386,7 @@ fn by_blocks(
     while k < table.len() / 2 {
         let to = block::block_end(k, table.len() / 2);
         let n = sift(lj, p, xs, table, k, to, atoms, apart, near);
-        number_all(
+        s = add(
             n,
             lj,
             own_ids,
@@ -346,6 +395,8 @@ fn by_blocks(
             params,
             species,
             atoms,
+            apart,
+            near,
             keys,
             depths,
             squares,
@@ -353,9 +404,10 @@ fn by_blocks(
             ds,
             ss,
             hs,
+            pulls,
+            forces,
+            s,
         );
-        pull_all(n, lj.shift, near, ds, ss, hs, pulls);
-        s = block::add_all(n, atoms, apart, pulls, forces, s);
         k = to;
     }
     s

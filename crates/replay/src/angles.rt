@@ -1,13 +1,12 @@
 // The call of `potentials_angle`, 56.
-use crate::answers;
-use crate::records;
-use crate::tables;
 use potentials_angle::Angle;
+use replay_lists::answers;
+use replay_words::tables;
 
 pub(crate) fn angles_all_case(ws: &[u64], out: &mut [u64; 8208]) -> usize {
     let k = replay_words::take_float(ws, 0);
     let rest = replay_words::take_float(ws, k.next);
-    let of = records::take_cell(ws, rest.next);
+    let of = replay_lists::records::take_cell(ws, rest.next);
     let a = replay_words::take_u32s(ws, of.next);
     let b = replay_words::take_floats(ws, a.next);
     let c = replay_words::take_floats(ws, b.next);

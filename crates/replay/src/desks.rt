@@ -1,9 +1,9 @@
 // Two species tables: 58 and 59, the calls 50 and 53 with a mask, and 5a, `species_row`.
-use crate::answers;
 use crate::forces;
 use crate::masks;
-use crate::tables;
 use answer::Done;
+use replay_words::plain;
+use replay_words::tables;
 
 // The mask of 58 and 59: the own tables and the rule alone. Another is no case.
 fn masked_case(all: bool, ws: &[u64], out: &mut [u64; 8208]) -> usize {
@@ -54,13 +54,13 @@ fn species_row_case(ws: &[u64], out: &mut [u64; 8208]) -> usize {
     let own_params = tables::part(&fs, b);
     let ids = tables::part_u32(&us, c);
     let params = tables::part(&fs, d);
-    let asked = potentials::species_row_asked(own_ids, own_params, ids, params, z.value);
-    let head = answers::put_done(out, asked);
+    let asked = potentials_calls::species_row_asked(own_ids, own_params, ids, params, z.value);
+    let head = plain::put_done(out, asked);
     if let Done::Refused(_) = asked {
         return head;
     }
-    let own = potentials::species_row(own_ids, own_params, &[], &[], z.value);
-    let row = potentials::species_row(own_ids, own_params, ids, params, z.value);
+    let own = potentials_calls::species_row(own_ids, own_params, &[], &[], z.value);
+    let row = potentials_calls::species_row(own_ids, own_params, ids, params, z.value);
     let at = replay_words::put_word(out, head, table_of(own.len(), row.len()));
     put_row(out, at, row)
 }

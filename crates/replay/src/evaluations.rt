@@ -1,13 +1,14 @@
 // The call of `evaluate`: 55, and 57 with a mask.
-use crate::answers;
 use crate::masks;
 use crate::masks::Parts;
 use crate::records;
 use crate::records::SettingsArg;
-use crate::tables;
 use answer::Done;
 use evaluate::Evaluated;
+use replay_lists::answers;
 use replay_words::Table;
+use replay_words::plain;
+use replay_words::tables;
 use virial::Sum;
 
 // What is only read.
@@ -107,7 +108,7 @@ fn tell_values(out: &mut [u64; 8208], parts: Parts, r: Evaluated) -> usize {
     let done = r.done;
     let state = r.state;
     let sum = r.sum;
-    let head = answers::put_done(out, done);
+    let head = plain::put_done(out, done);
     let asked = replay_words::put_word(out, head, replay_words::flag_word(r.rebuilt));
     let at = answers::put_state_and(parts.cell, out, asked, state);
     tell_sum(out, at, done, sum)

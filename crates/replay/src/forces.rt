@@ -1,15 +1,15 @@
 // The calls of `potentials`, 50 to 54.
-use crate::answers;
 use crate::masks;
 use crate::masks::Parts;
 use crate::records;
-use crate::tables;
 use potentials::Bond;
+use replay_lists::answers;
+use replay_words::tables;
 
 pub(crate) fn lj_pairs_case(parts: Parts, from: usize, ws: &[u64], out: &mut [u64; 8208]) -> usize {
     let own = parts.own;
     let lj = records::take_lj(parts.rule, ws, from);
-    let of = records::take_cell(ws, lj.next);
+    let of = replay_lists::records::take_cell(ws, lj.next);
     let y = masks::take_u32s_if(own, ws, of.next);
     let z = masks::take_floats_if(own, ws, y.next);
     let a = replay_words::take_u32s(ws, z.next);
@@ -25,7 +25,7 @@ pub(crate) fn lj_pairs_case(parts: Parts, from: usize, ws: &[u64], out: &mut [u6
     let us = tables::u32s(ws);
     let fs = tables::floats(ws);
     let mut forces = tables::floats(ws);
-    let r = potentials::lj_pairs(
+    let r = potentials_calls::lj_pairs(
         lj.value,
         cell,
         tables::part_u32(&us, y),
@@ -43,7 +43,7 @@ pub(crate) fn lj_pairs_case(parts: Parts, from: usize, ws: &[u64], out: &mut [u6
 pub(crate) fn lj_all_case(parts: Parts, from: usize, ws: &[u64], out: &mut [u64; 8208]) -> usize {
     let own = parts.own;
     let lj = records::take_lj(parts.rule, ws, from);
-    let of = records::take_cell(ws, lj.next);
+    let of = replay_lists::records::take_cell(ws, lj.next);
     let y = masks::take_u32s_if(own, ws, of.next);
     let z = masks::take_floats_if(own, ws, y.next);
     let a = replay_words::take_u32s(ws, z.next);
@@ -58,7 +58,7 @@ pub(crate) fn lj_all_case(parts: Parts, from: usize, ws: &[u64], out: &mut [u64;
     let us = tables::u32s(ws);
     let fs = tables::floats(ws);
     let mut forces = tables::floats(ws);
-    let r = potentials::lj_all(
+    let r = potentials_calls::lj_all(
         lj.value,
         cell,
         tables::part_u32(&us, y),
@@ -73,9 +73,9 @@ pub(crate) fn lj_all_case(parts: Parts, from: usize, ws: &[u64], out: &mut [u64;
 }
 
 fn coulomb_pairs_case(ws: &[u64], out: &mut [u64; 8208]) -> usize {
-    let units = records::take_units(ws, 0);
+    let units = replay_lists::records::take_units(ws, 0);
     let cutoff = replay_words::take_float(ws, units.next);
-    let of = records::take_cell(ws, cutoff.next);
+    let of = replay_lists::records::take_cell(ws, cutoff.next);
     let a = replay_words::take_floats(ws, of.next);
     let b = replay_words::take_floats(ws, a.next);
     let c = replay_words::take_u32s(ws, b.next);
@@ -87,7 +87,7 @@ fn coulomb_pairs_case(ws: &[u64], out: &mut [u64; 8208]) -> usize {
     let us = tables::u32s(ws);
     let fs = tables::floats(ws);
     let mut forces = tables::floats(ws);
-    let r = potentials::coulomb_pairs(
+    let r = potentials_calls::coulomb_pairs(
         units.value,
         cutoff.value,
         cell,
@@ -100,9 +100,9 @@ fn coulomb_pairs_case(ws: &[u64], out: &mut [u64; 8208]) -> usize {
 }
 
 fn coulomb_all_case(ws: &[u64], out: &mut [u64; 8208]) -> usize {
-    let units = records::take_units(ws, 0);
+    let units = replay_lists::records::take_units(ws, 0);
     let cutoff = replay_words::take_float(ws, units.next);
-    let of = records::take_cell(ws, cutoff.next);
+    let of = replay_lists::records::take_cell(ws, cutoff.next);
     let a = replay_words::take_floats(ws, of.next);
     let b = replay_words::take_floats(ws, a.next);
     let f = replay_words::take_floats(ws, b.next);
@@ -112,7 +112,7 @@ fn coulomb_all_case(ws: &[u64], out: &mut [u64; 8208]) -> usize {
     let cell = of.value;
     let fs = tables::floats(ws);
     let mut forces = tables::floats(ws);
-    let r = potentials::coulomb_all(
+    let r = potentials_calls::coulomb_all(
         units.value,
         cutoff.value,
         cell,
@@ -126,7 +126,7 @@ fn coulomb_all_case(ws: &[u64], out: &mut [u64; 8208]) -> usize {
 fn bonds_all_case(ws: &[u64], out: &mut [u64; 8208]) -> usize {
     let k = replay_words::take_float(ws, 0);
     let r0 = replay_words::take_float(ws, k.next);
-    let of = records::take_cell(ws, r0.next);
+    let of = replay_lists::records::take_cell(ws, r0.next);
     let a = replay_words::take_u32s(ws, of.next);
     let b = replay_words::take_floats(ws, a.next);
     let c = replay_words::take_floats(ws, b.next);
@@ -143,7 +143,7 @@ fn bonds_all_case(ws: &[u64], out: &mut [u64; 8208]) -> usize {
     let us = tables::u32s(ws);
     let fs = tables::floats(ws);
     let mut forces = tables::floats(ws);
-    let r = potentials::bonds_all(
+    let r = potentials_calls::bonds_all(
         bond,
         cell,
         tables::part_u32(&us, a),

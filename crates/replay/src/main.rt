@@ -3,30 +3,16 @@ use libc::STDIN_FILENO;
 use libc::STDOUT_FILENO;
 
 mod angles;
-mod answers;
-mod boxes;
 mod calls;
-mod cells;
-mod counts;
 mod desks;
 mod evaluations;
-mod excluded;
-mod floats;
 mod forces;
-mod frames;
-mod labels;
 mod lines;
 mod masks;
-mod neighbors;
 mod records;
 mod settlings;
-mod sheets;
-mod skins;
 mod steps;
-mod strikes;
-mod tables;
 mod velocities;
-mod virials;
 
 // The bytes of the line so far, and the bytes of answers that are not written yet.
 struct Pending {

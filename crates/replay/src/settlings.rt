@@ -1,15 +1,16 @@
 // 69: `fire`, with a mask; the words of 67 without thermostat and potential.
-use crate::answers;
 use crate::masks;
 use crate::masks::Parts;
 use crate::records;
 use crate::records::SettingsArg;
 use crate::steps;
 use crate::steps::Rooms;
-use crate::tables;
 use fire::FireOptions;
 use fire::Fired;
+use replay_lists::answers;
 use replay_words::Table;
+use replay_words::plain;
+use replay_words::tables;
 
 struct OptionsArg {
     value: FireOptions,
@@ -148,7 +149,7 @@ fn settled(
 fn tell_values(out: &mut [u64; 8208], parts: Parts, r: Fired) -> usize {
     let done = r.done;
     let state = r.state;
-    let head = answers::put_done(out, done);
+    let head = plain::put_done(out, done);
     let turns = replay_words::put_word(out, head, r.iteration as u64);
     let stop = replay_words::put_word(out, turns, replay_words::flag_word(r.stopped));
     let met = replay_words::put_word(out, stop, replay_words::flag_word(r.converged));

@@ -1,11 +1,12 @@
 // The calls of `verlet_step`, 63 and its finish 64, and 67, 68 with a mask: the same words in both.
-use crate::answers;
 use crate::masks;
 use crate::masks::Parts;
 use crate::records;
 use crate::records::SettingsArg;
-use crate::tables;
+use replay_lists::answers;
 use replay_words::Table;
+use replay_words::plain;
+use replay_words::tables;
 use verlet::Thermostat;
 use verlet_step::Pace;
 use verlet_step::Stepped;
@@ -191,7 +192,7 @@ fn moved(
 fn tell_values(out: &mut [u64; 8208], parts: Parts, r: Stepped) -> usize {
     let done = r.done;
     let state = r.state;
-    let head = answers::put_done(out, done);
+    let head = plain::put_done(out, done);
     let stop = replay_words::put_word(out, head, replay_words::flag_word(r.stopped));
     let asked = replay_words::put_word(out, stop, replay_words::flag_word(r.rebuilt));
     let at = answers::put_state_and(parts.cell, out, asked, state);

@@ -1,10 +1,9 @@
 // The calls of `verlet`, 60 to 62.
-use crate::answers;
-use crate::records;
-use crate::tables;
+use replay_words::plain;
+use replay_words::tables;
 
 fn kinetic_energy_case(ws: &[u64], out: &mut [u64; 8208]) -> usize {
-    let units = records::take_units(ws, 0);
+    let units = replay_lists::records::take_units(ws, 0);
     let v = replay_words::take_floats(ws, units.next);
     let m = replay_words::take_floats(ws, v.next);
     if m.next != ws.len() {
@@ -12,11 +11,11 @@ fn kinetic_energy_case(ws: &[u64], out: &mut [u64; 8208]) -> usize {
     }
     let fs = tables::floats(ws);
     let r = verlet::kinetic_energy(units.value, tables::part(&fs, v), tables::part(&fs, m));
-    answers::put_number(out, r)
+    plain::put_number(out, r)
 }
 
 fn temperature_case(ws: &[u64], out: &mut [u64; 8208]) -> usize {
-    let units = records::take_units(ws, 0);
+    let units = replay_lists::records::take_units(ws, 0);
     let dof = replay_words::take_float(ws, units.next);
     let v = replay_words::take_floats(ws, dof.next);
     let m = replay_words::take_floats(ws, v.next);
@@ -30,11 +29,11 @@ fn temperature_case(ws: &[u64], out: &mut [u64; 8208]) -> usize {
         tables::part(&fs, v),
         tables::part(&fs, m),
     );
-    answers::put_number(out, r)
+    plain::put_number(out, r)
 }
 
 fn berendsen_case(ws: &[u64], out: &mut [u64; 8208]) -> usize {
-    let units = records::take_units(ws, 0);
+    let units = replay_lists::records::take_units(ws, 0);
     let dt = replay_words::take_float(ws, units.next);
     let target = replay_words::take_float(ws, dt.next);
     let tau = replay_words::take_float(ws, target.next);
@@ -53,7 +52,7 @@ fn berendsen_case(ws: &[u64], out: &mut [u64; 8208]) -> usize {
         tables::part(&fs, m),
         tables::room(&mut velocities, v),
     );
-    let at = answers::put_done(out, r);
+    let at = plain::put_done(out, r);
     replay_words::put_floats(out, at, tables::part(&velocities, v))
 }
 

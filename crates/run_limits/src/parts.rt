@@ -23,7 +23,7 @@ fn bits() {
 }
 
 fn argon() {
-    let lj = potentials::argon();
+    let lj = potentials_calls::argon();
     show::put(float::to_bits(lj.epsilon));
     show::put(float::to_bits(lj.sigma));
     show::put(float::to_bits(lj.cutoff));

@@ -77,7 +77,7 @@ fn bond() -> Bond {
 }
 
 fn lj_pairs(species: &[u32], xs: &[f64], forces: &mut [f64]) {
-    let r = potentials::lj_pairs(
+    let r = potentials_calls::lj_pairs(
         lj(),
         Cell::Absent,
         &[],
@@ -93,22 +93,30 @@ fn lj_pairs(species: &[u32], xs: &[f64], forces: &mut [f64]) {
 }
 
 fn lj_all(species: &[u32], xs: &[f64], forces: &mut [f64]) {
-    let r = potentials::lj_all(lj(), Cell::Absent, &[], &[], &[], &[], species, xs, forces);
+    let r = potentials_calls::lj_all(lj(), Cell::Absent, &[], &[], &[], &[], species, xs, forces);
     put_refused(r, forces);
 }
 
 fn coulomb_pairs(charges: &[f64], xs: &[f64], forces: &mut [f64]) {
-    let r = potentials::coulomb_pairs(speeds::ones(), 1.0, Cell::Absent, charges, xs, &[], forces);
+    let r = potentials_calls::coulomb_pairs(
+        speeds::ones(),
+        1.0,
+        Cell::Absent,
+        charges,
+        xs,
+        &[],
+        forces,
+    );
     put_refused(r, forces);
 }
 
 fn coulomb_all(charges: &[f64], xs: &[f64], forces: &mut [f64]) {
-    let r = potentials::coulomb_all(speeds::ones(), 1.0, Cell::Absent, charges, xs, forces);
+    let r = potentials_calls::coulomb_all(speeds::ones(), 1.0, Cell::Absent, charges, xs, forces);
     put_refused(r, forces);
 }
 
 fn bonds_all(xs: &[f64], forces: &mut [f64]) {
-    let r = potentials::bonds_all(bond(), Cell::Absent, &[], &[], &[], xs, forces);
+    let r = potentials_calls::bonds_all(bond(), Cell::Absent, &[], &[], &[], xs, forces);
     put_refused(r, forces);
 }
 
