@@ -88,7 +88,7 @@ pub prepared-all : (cell : Cell) → _≡_ {A = Vec3 → Image} (λ d. imageIn (
 prepared-all cell = λ i d. prepared-image cell d i
 
 -- ---- the short way, as the code has it: a is the magnitude of x, r the answer of `near`
-near-axis : (a len x r : Float) → a ≡ absOf x → lt a len ≡ true → NearSays a len x r → r ≡ shortAxis len x
+pub near-axis : (a len x r : Float) → a ≡ absOf x → lt a len ≡ true → NearSays a len x r → r ≡ shortAxis len x
 unfolding shortAxis
 near-axis a len x r A h n = go (lt len (inf false)) refl
   where

@@ -1,8 +1,10 @@
 -- A cell's facts, asked once for many differences, and the minimum image by them. Nobody has to believe that it is the source's: proofs/Law.antt shows that
 -- `imageIn (prepareOf cell) d` is `imageOf d cell`. Definitions only.
-use lib.Ieee.{Float, inf, lt}
+use mathlib.Core.Path.{_≡_}
+use lib.Dec.{T}
+use lib.Ieee.{Float, binary64, inf, fits, lt}
 use mathlib.Core.Bool.{Bool, true, false, not, cond, _&&_}
-use Rattle.float.specs.Arith.{bits}
+use Rattle.float.specs.Arith.{_⊕_, bits}
 use Rattle.float.specs.Def.{absOf}
 use Rattle.cell_axis.specs.Image.{nearestOf, nearAxisOf}
 use Rattle.cell.specs.Vec.{zeroVec}
@@ -42,6 +44,17 @@ prepareOf (Present l) = record { short = shortOf l; lattice = l; general = gener
 -- one axis: the formula; of an infinite length, which no prepared cell has, what the short way gives
 unfoldable pub shortAxis : Float → Float → Float
 shortAxis len x = cond (lt len (inf false)) (nearestOf len x) (nearAxisOf (absOf x) len x)
+
+-- less than half a length: short, and its own image but for the sign of a zero
+pub record InnerSays (len x : Float) (r : Bool) : Type 0 where
+  pub short : r ≡ true → lt (absOf x) len ≡ true
+  pub image : r ≡ true → x ⊕ bits 0 ≡ shortAxis len x
+
+-- with a 0 added: a -0 becomes a 0, and nothing else changes
+pub record SettledSays (x r : Float) : Type 0 where
+  pub is : r ≡ x ⊕ bits 0
+  pub magnitude : absOf r ≡ absOf x
+  pub image : (len : Float) → T (fits binary64 len) → lt (absOf x) len ≡ true → shortAxis len r ≡ shortAxis len x
 
 -- each magnitude is below its length
 abbrev pub isShort : Vec3 → Vec3 → Bool

@@ -2,7 +2,7 @@
 // proofs/Law.antt: image_in(prepare(cell), d) is cell::kernel::min_image(d, cell).
 ghost use mathlib.Core.Path.{_≡_};
 ghost use mathlib.Core.Bool.{true};
-ghost use Rattle.cell_prepared.specs.Facts.{shortOf, prepareOf, isShort, shortImage, diffIn, imageIn};
+ghost use Rattle.cell_prepared.specs.Facts.{shortOf, prepareOf, isShort, shortImage, diffIn, imageIn, InnerSays, SettledSays};
 use cell::Cell;
 use cell::General;
 use cell::Image;
@@ -74,6 +74,20 @@ fn short_image(s: Vec3, d: Vec3) -> Vec3
         y: cell_axis::near(s.y, d.y),
         z: cell_axis::near(s.z, d.z),
     }
+}
+
+// Whether the short way on one axis takes nothing off: a loop over many differences may ask it of all of them, and leave them as they are but for a 0 added.
+pub fn is_inner(len: f64, x: f64) -> bool
+    ensures { λ r. ⌜ InnerSays len x r ⌝ }
+{
+    float::abs(x + x) < len
+}
+
+// .. with the 0 added. Its image by the short way is that of x, so that such a loop may write it before it knows.
+pub fn settled(x: f64) -> f64
+    ensures { λ r. ⌜ SettledSays x r ⌝ }
+{
+    x + 0.0
 }
 
 // The difference alone. It is the image's; the counts are asked beside it.

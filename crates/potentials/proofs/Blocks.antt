@@ -1,18 +1,17 @@
 -- A block of pairs in local arrays: what its places add is what its pairs add, and a loop over blocks is the loop over pairs. Assumes nothing.
 use mathlib.Core.Bool.{Bool, true, false, cond}
-use mathlib.Core.Path.{_≡_, refl, sym, ap, ap₂, _∙_, subst}
+use mathlib.Core.Path.{_≡_, refl, sym, ap, _∙_, subst}
 use mathlib.Core.Logic.{⊎-elim}
 use mathlib.Core.List.{List, foldl, foldl-append}
-use Prim.Native.Nat.{ℕ, suc, zero, _+_, _*_, _/_, _<_, _≤_}
+use Prim.Native.Nat.{ℕ, suc, zero, _+_, _*_, _<_, _≤_}
 use native.Mathlib.Nat.{zero-add}
 use native.Mathlib.Omega.{arith}
 use lib.Ieee.{Float, nan}
 use lib.ListN.{length, getD, set, drop, length-set}
 use lib.Seq.{getD-set-same, getD-set-other}
-use Rattle.lists.specs.Lists.{numbers, upTo, rows}
+use Rattle.lists.specs.Lists.{numbers, upTo}
 use Rattle.lists.proofs.Cases.{same-or}
 use Rattle.lists.proofs.Exactness.{numbers-at, length-upTo}
-use Rattle.lists.proofs.Rows.{rows-at, length-rows}
 use Rattle.lists.proofs.Nested.{numbers-append}
 use Rattle.lists.proofs.Walks.{fold-next}
 use Rattle.float.specs.Arith.{at}
@@ -20,9 +19,8 @@ use Rattle.cell.specs.declared.Vec3.{Vec3}
 use Rattle.cell.specs.Vec.{positionAt}
 use Rattle.potentials_pair.specs.declared.Pull.{Pull}
 use Rattle.potentials_pair.specs.Pull.{Total, after}
-use Rattle.potentials_pair.specs.Coulomb.{coulombNear}
 use Rattle.potentials.proofs.Folds.{Left}
-use Rattle.potentials.specs.Blocks.{blockStep, scaledPull, setVec, coulombEnergy, coulombSlope, withPull, Block, PlaceAdds, Sifted, Pulled}
+use Rattle.potentials.specs.Blocks.{blockStep, setVec, withPull, Block, PlaceAdds, Sifted, Pulled}
 
 -- ---- folds over the places that are taken
 module _ {B : Type 0} {p p′ : B → ℕ → B} where
@@ -88,7 +86,7 @@ module _ (l : List Float) (c : ℕ) (d : Vec3) where
 
 -- ---- a place that is written
 module _ (pull : Float → Vec3 → Float → Pull) {A : Type 0} (f : Total → A → Total) (r : A) (atoms : List ℕ) (apart two : List Float) (c i j : ℕ) (d : Vec3) (u v : Float)
-    (a : length atoms ≡ 256) (b : length apart ≡ 384) (w : length two ≡ 256) (h : c < 128) where
+    (a : 256 ≤ length atoms) (b : 384 ≤ length apart) (w : length two ≡ 256) (h : c < 128) where
   abbrev step : Total → ℕ → Total
   step = blockStep pull atoms apart two
 
@@ -162,15 +160,6 @@ module _ (e g : ℕ → Float) where
   pub pulled-end : (pulls : List Float) {m n : ℕ} → n ≤ m → Pulled e g pulls m → Pulled e g pulls n
   pulled-end pulls h p = record { energy = λ k l. p .energy k (omega arith); slope = λ k l. p .slope k (omega arith) }
 
--- .. of Coulomb
-pulled-fold : (atoms : List ℕ) (apart two pulls : List Float) (n : ℕ) → Pulled (coulombEnergy two) (coulombSlope two) pulls n → (t : Total)
-    → foldl (blockStep scaledPull atoms apart pulls) t (upTo n) ≡ foldl (blockStep coulombNear atoms apart two) t (upTo n)
-pulled-fold atoms apart two pulls n p t =
-    folds-agree {p = blockStep coulombNear atoms apart two} {p′ = blockStep scaledPull atoms apart pulls} n (λ m h x. unfold blockStep in unfold scaledPull in unfold coulombNear in rw (p .energy m h, p .slope m h) (unfold coulombEnergy in unfold coulombSlope in refl)) t
-
-pub pulled-sum : (atoms : List ℕ) (apart two pulls : List Float) (n : ℕ) → Pulled (coulombEnergy two) (coulombSlope two) pulls n → (t : Total) {t′ : Total} → t′ ≡ foldl (blockStep scaledPull atoms apart pulls) t (upTo n) → t′ ≡ foldl (blockStep coulombNear atoms apart two) t (upTo n)
-pulled-sum atoms apart two pulls n p t e = e ∙ pulled-fold atoms apart two pulls n p t
-
 -- no place for a pair that adds nothing
 pub unplaced : {A B : Type 0} (p : B → ℕ → B) (c : ℕ) (f : B → A → B) (a : A) → ((t : B) → t ≡ f t a) → PlaceAdds p p c c f a
 unplaced p c f a e = record { few = omega arith; same = λ t. e (foldl p t (upTo c)) }
@@ -196,17 +185,14 @@ module _ {A B : Type 0} {f : B → A → B} (l : List A) where
   pub block-turn : {p : B → ℕ → B} {c k to : ℕ} {t t′ r : B} → Left f l k t r → Sifted p c f l k to → t′ ≡ foldl p t (upTo c) → Left f l to t′ r
   block-turn {p} {c} {k} {to} {t} w s e = record { same = ap (λ (x : B). foldl f x (drop to l)) e ∙ s .same t ∙ w .same }
 
--- ---- over the rows of a table, and over the numbers below n
-pub sifted-row : {B : Type 0} {f : B → ℕ × ℕ → B} (table : List ℕ) {p p′ : B → ℕ → B} {c c′ from k i j : ℕ} → k < length table / 2 → i ≡ getD table (2 * k) 0 → j ≡ getD table (2 * k + 1) 0
-    → Sifted p c f (rows table) from k → PlaceAdds p p′ c c′ f (i, j) → Sifted p′ c′ f (rows table) from (k + 1)
-sifted-row {f = f} table {p} {p′} {c} {c′} {k = k} h ei ej s q =
-    sifted-turn (rows table) (0, 0) (omega (arith, length-rows table)) s
-    (subst (λ (a : ℕ × ℕ). PlaceAdds p p′ c c′ f a) (ap₂ (λ (x y : ℕ). (x, y)) ei ej ∙ sym (rows-at table k h)) q)
-
+-- ---- over the numbers below n
 pub sifted-number : {B : Type 0} {f : B → ℕ → B} (n : ℕ) {p p′ : B → ℕ → B} {c c′ from k : ℕ} → k < n → Sifted p c f (upTo n) from k → PlaceAdds p p′ c c′ f k → Sifted p′ c′ f (upTo n) from (k + 1)
 sifted-number {f = f} n {p} {p′} {c} {c′} {k = k} h s q =
     sifted-turn (upTo n) 0 (omega (arith, length-upTo n)) s (subst (λ (a : ℕ). PlaceAdds p p′ c c′ f a) (sym (numbers-at 0 n k h ∙ zero-add k)) q)
 
 -- ---- a room stays as long as it was
+pub at-least : {a b k : ℕ} → a ≡ b → k ≤ b → k ≤ a
+at-least e h = omega (arith, e, h)
+
 pub block-kept : {atoms atoms′ : List ℕ} {apart apart′ two two′ : List Float} → Block atoms apart two → length atoms′ ≡ length atoms → length apart′ ≡ length apart → length two′ ≡ length two → Block atoms′ apart′ two′
-block-kept b x y z = record { atoms256 = x ∙ b .atoms256; apart384 = y ∙ b .apart384; two256 = z ∙ b .two256 }
+block-kept b x y z = record { atoms256 = at-least x (b .atoms256); apart384 = at-least y (b .apart384); two256 = z ∙ b .two256 }

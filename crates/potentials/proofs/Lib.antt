@@ -1,8 +1,10 @@
 pub mod Desks
 pub mod Blocks
 pub mod Bonded
+pub mod Charged
 pub mod Folds
 pub mod Kernels
+pub mod Laid
 pub mod Near
 pub mod Only
 pub mod Outcomes

@@ -38,19 +38,21 @@ passed : (b : Bool) {d : Done} (r : Refusal) → cond b d (Refused r) ≡ Answer
 passed true r e = (refl, e)
 passed false r e = absurd (differ r e)
 
--- what passed tests show: the lengths agree, every row's atoms are there, the species ascend
-pub record Cleared (fits : Bool) (count absent : ℕ) (ordered : Done) : Type 0 where
+-- what passed tests show: the lengths agree, the atoms are not too many, every row's atoms are there, the species ascend
+pub record Cleared (fits : Bool) (atoms count absent : ℕ) (ordered : Done) : Type 0 where
   pub lengths : fits ≡ true
+  pub few : fewAtoms atoms ≡ true
   pub there : ltb absent count ≡ false
   pub order : ordered ≡ Answered
 
-pub asked-told : (fits : Bool) (atoms : ℕ) (inRange : Bool) (count absent : ℕ) (ordered : Done) → askedBy fits atoms inRange count absent ordered ≡ Answered → Cleared fits count absent ordered
+pub asked-told : (fits : Bool) (atoms : ℕ) (inRange : Bool) (count absent : ℕ) (ordered : Done) → askedBy fits atoms inRange count absent ordered ≡ Answered → Cleared fits atoms count absent ordered
 unfolding askedBy
 asked-told fits atoms inRange count absent ordered e =
     let a = passed fits Lengths e in
-    let b = passed inRange Range (passed (fewAtoms atoms) (TooMany atoms) (a .1) .1) in
+    let f = passed (fewAtoms atoms) (TooMany atoms) (a .1) in
+    let b = passed inRange Range (f .1) in
     let c = pass (ltb absent count) (NotThere absent) _ (b .1) in
-    record { lengths = a .0; there = c .0; order = c .1 }
+    record { lengths = a .0; few = f .0; there = c .0; order = c .1 }
 
 -- both tables ascend
 pub order-told : (ownIds ids : List ℕ) → orderAsked ownIds ids ≡ Answered → (rising ownIds ≡ true) × (rising ids ≡ true)

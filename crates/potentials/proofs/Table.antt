@@ -1,14 +1,15 @@
--- The remembered numbers: a row that is read is what its key's species give (`hit`), a row that is made anew keeps the table right (`renewed`), and a table of one key is right (`begun`). Assumes nothing.
-use mathlib.Core.Path.{_≡_, sym, ap, _∙_, subst}
-use mathlib.Core.Bool.{Bool, true, false, not}
+-- The remembered numbers: a row that is read is what its key's species give (`hit`), a row that is made anew keeps the table right (`renewed`), and a table of the one key 0 is right (`begun`). Assumes nothing.
+use mathlib.Core.Path.{_≡_, refl, sym, ap, ap₂, _∙_, subst}
+use mathlib.Core.Logic.{⊎-elim}
 use mathlib.Core.List.{List}
-use Prim.Native.Nat.{ℕ, _+_, _*_, _/_, _%_, _^_, _<_}
+use Prim.Native.Nat.{ℕ, _+_, _*_, _^_, _<_, _≤_}
 use native.Mathlib.Omega.{arith}
-use lib.Dec.{T, eqb, eqb→eq, eqb-refl}
 use lib.Ieee.{Float, nan}
-use lib.ListN.{getD, set, length-set, replicate, length-replicate, getD-replicate}
+use lib.ListN.{length, getD, set, length-set}
 use lib.Seq.{getD-set-same, getD-set-other}
 use Rattle.float.specs.Arith.{at}
+use Rattle.lists.proofs.Cases.{same-or}
+use Rattle.lists.proofs.Rows.{set-three, three-length, three-first, three-second, three-third, three-other}
 use Rattle.cell.specs.declared.Vec3.{Vec3}
 use Rattle.potentials_pair.specs.declared.Lj.{Lj}
 use Rattle.potentials_pair.specs.declared.Numbers.{Numbers}
@@ -17,78 +18,113 @@ use Rattle.potentials_pair.specs.Lj.{mixOf, ljNear}
 use Rattle.potentials_pair.specs.Once.{nearBy}
 use Rattle.potentials_pair.specs.Species.{Tables, lookBy}
 use Rattle.potentials_pair.proofs.Once.{near-numbers}
-use Rattle.potentials.specs.Steps.{numbersFor, numbersAt, Kept}
+use Rattle.potentials.specs.Steps.{numbersFor, slotOf, rowOn, Kept, Renewed, BlankKeys, FirstRow}
+
+-- two species have one key
+same-key : (y z y′ z′ : ℕ) → z < 2 ^ 32 → z′ < 2 ^ 32 → y * 2 ^ 32 + z ≡ y′ * 2 ^ 32 + z′ → (y ≡ y′) × (z ≡ z′)
+same-key y z y′ z′ a b e = (omega arith, omega arith)
 
 module _ (lj : Lj) (tab : Tables) where
-  of-key : (y z k : ℕ) → k ≡ y * 2 ^ 32 + z → z < 2 ^ 32 → numbersAt lj tab k ≡ numbersFor lj tab y z
-  of-key y z k h b =
-      let high : k / 2 ^ 32 ≡ y = omega arith in
-      let low : k % 2 ^ 32 ≡ z = omega arith in
-      ap (λ (a : ℕ). numbersFor lj tab a (k % 2 ^ 32)) high ∙ ap (λ (a : ℕ). numbersFor lj tab y a) low
-
-  abbrev row : List Float → List Float → List Float → ℕ → Numbers
-  row depths squares shifts s = record { depth = at depths s; square = at squares s; shift = at shifts s }
-
-  module _ (keys : List ℕ) (depths squares shifts : List Float) (K : Kept lj tab keys depths squares shifts) (y z s k : ℕ) (l : s < 16) (h : k ≡ y * 2 ^ 32 + z) (b : z < 2 ^ 32) where
-    pub hit : getD keys s 0 ≡ k → row depths squares shifts s ≡ numbersFor lj tab y z
-    hit e = K .right s l ∙ ap (λ (a : ℕ). numbersAt lj tab a) e ∙ of-key y z k h b
+  module _ (atoms : List ℕ) (room : List Float) (K : Kept lj tab atoms room) (y z s k : ℕ) (a : y < 2 ^ 32) (b : z < 2 ^ 32) (l : s ≡ slotOf y z) (h : k ≡ y * 2 ^ 32 + z) where
+    pub hit : getD atoms (128 + s) 0 ≡ k → rowOn room s ≡ numbersFor lj tab y z
+    hit e = subst (λ (i : ℕ). rowOn room i ≡ numbersFor lj tab y z) (sym l) (K .right y z a b (ap (λ (i : ℕ). getD atoms (128 + i) 0) (sym l) ∙ e ∙ h))
 
     module _ (n : Numbers) (e : n ≡ numbersFor lj tab y z) where
-      abbrev keys′ : List ℕ
-      keys′ = set keys s k
+      abbrev atoms′ : List ℕ
+      atoms′ = set atoms (128 + s) k
 
-      abbrev row′ : ℕ → Numbers
-      row′ j = row (set depths s (n .depth)) (set squares s (n .square)) (set shifts s (n .shift)) j
+      abbrev room′ : List Float
+      room′ = set-three room (171 + s) (n .depth) (n .square) (n .shift)
 
-      here : row′ s ≡ numbersAt lj tab (getD keys′ s 0)
+      here : rowOn room′ s ≡ n
       here =
+          let w : 3 * (171 + s) + 2 < length room = omega (arith, K .block .room561, l) in
           rw (
-            getD-set-same keys s k 0 (subst (λ (m : ℕ). s < m) (sym (K .keys16)) l),
-            getD-set-same depths s (n .depth) nan (subst (λ (m : ℕ). s < m) (sym (K .depths16)) l),
-            getD-set-same squares s (n .square) nan (subst (λ (m : ℕ). s < m) (sym (K .squares16)) l),
-            getD-set-same shifts s (n .shift) nan (subst (λ (m : ℕ). s < m) (sym (K .shifts16)) l),
+            three-first nan room (171 + s) (n .depth) (n .square) (n .shift) w,
+            three-second nan room (171 + s) (n .depth) (n .square) (n .shift) w,
+            three-third nan room (171 + s) (n .depth) (n .square) (n .shift) w,
           )
-          (e ∙ sym (of-key y z k h b))
 
-      at-row : (j : ℕ) (q : Bool) → (T q → j ≡ s) → (T (not q) → j ≡ s → ⊥) → j < 16 → row′ j ≡ numbersAt lj tab (getD keys′ j 0)
-      at-row j true f g p = subst (λ (i : ℕ). row′ i ≡ numbersAt lj tab (getD keys′ i 0)) (sym (f tt)) here
-      at-row j false f g p =
+      other : (j : ℕ) → (j ≡ s → ⊥) → rowOn room′ j ≡ rowOn room j
+      other j w =
           rw (
-            getD-set-other keys s j k 0 (g tt),
-            getD-set-other depths s j (n .depth) nan (g tt),
-            getD-set-other squares s j (n .square) nan (g tt),
-            getD-set-other shifts s j (n .shift) nan (g tt),
+            three-other nan room (171 + s) (n .depth) (n .square) (n .shift) (3 * (171 + j)) (λ q. w (omega (arith, q))) (λ q. omega (arith, q)) (λ q. omega (arith, q)),
+            three-other nan room (171 + s) (n .depth) (n .square) (n .shift) (3 * (171 + j) + 1) (λ q. omega (arith, q)) (λ q. w (omega (arith, q))) (λ q. omega (arith, q)),
+            three-other nan room (171 + s) (n .depth) (n .square) (n .shift) (3 * (171 + j) + 2) (λ q. omega (arith, q)) (λ q. omega (arith, q)) (λ q. w (omega (arith, q))),
           )
-          (K .right j p)
 
-      differ : (j : ℕ) → T (not (eqb j s)) → j ≡ s → ⊥
-      differ j m q = clash (eqb j s) m (subst (λ (i : ℕ). T (eqb j i)) q (eqb-refl j))
-        where
-          clash : (q : Bool) → T (not q) → T q → ⊥
-          clash true m t = m
-          clash false m t = t
+      at-row : (y′ z′ : ℕ) → y′ < 2 ^ 32 → z′ < 2 ^ 32 → getD atoms′ (128 + slotOf y′ z′) 0 ≡ y′ * 2 ^ 32 + z′ → rowOn room′ (slotOf y′ z′) ≡ numbersFor lj tab y′ z′
+      at-row y′ z′ p q r =
+          ⊎-elim
+          (λ (w : slotOf y′ z′ ≡ s).
+          let m : y * 2 ^ 32 + z ≡ y′ * 2 ^ 32 + z′ = sym h ∙ sym (getD-set-same atoms (128 + s) k 0 (omega (arith, K .block .atoms144, l))) ∙ ap (λ (i : ℕ). getD atoms′ (128 + i) 0) (sym w) ∙ r in
+          let same = same-key y z y′ z′ b q m in
+          ap (λ (i : ℕ). rowOn room′ i) w ∙ here ∙ e ∙ ap₂ (λ (i j : ℕ). numbersFor lj tab i j) (same .0) (same .1))
+          (λ (w : slotOf y′ z′ ≡ s → ⊥).
+          other (slotOf y′ z′) w ∙ K .right y′ z′ p q (sym (getD-set-other atoms (128 + s) (128 + slotOf y′ z′) k 0 (λ i. w (omega (arith, i)))) ∙ r))
+          (same-or (slotOf y′ z′) s)
 
-      pub renewed : Kept lj tab keys′ (set depths s (n .depth)) (set squares s (n .square)) (set shifts s (n .shift))
+      pub renewed : Renewed lj tab atoms atoms′ room room′
       renewed =
           record {
-            keys16 = length-set keys s k ∙ K .keys16;
-            depths16 = length-set depths s (n .depth) ∙ K .depths16;
-            squares16 = length-set squares s (n .square) ∙ K .squares16;
-            shifts16 = length-set shifts s (n .shift) ∙ K .shifts16;
-            right = λ j p. at-row j (eqb j s) (eqb→eq j s) (differ j) p;
+            kept =
+                record {
+                  block =
+                      record {
+                        atoms144 = length-set atoms (128 + s) k ∙ K .block .atoms144;
+                        room561 = three-length nan room (171 + s) (n .depth) (n .square) (n .shift) ∙ K .block .room561;
+                      };
+                  right = at-row;
+                };
+            same-atoms = λ j p. getD-set-other atoms (128 + s) j k 0 (λ q. omega (arith, q, p));
+            same-room = λ j p. three-other nan room (171 + s) (n .depth) (n .square) (n .shift) j (λ q. omega (arith, q, p)) (λ q. omega (arith, q, p)) (λ q. omega (arith, q, p));
           }
+
+  pub unchanged : (atoms : List ℕ) (room : List Float) → Kept lj tab atoms room → Renewed lj tab atoms atoms room room
+  unchanged atoms room K = record { kept = K; same-atoms = λ k p. refl; same-room = λ k p. refl }
+
+  -- keys and rows as they were
+  pub kept-as : {atoms atoms′ : List ℕ} {room room′ : List Float} → Kept lj tab atoms room → length atoms′ ≡ length atoms → length room′ ≡ length room
+      → ((k : ℕ) → 128 ≤ k → getD atoms′ k 0 ≡ getD atoms k 0) → ((k : ℕ) → 513 ≤ k → at room′ k ≡ at room k) → Kept lj tab atoms′ room′
+  kept-as K x y f g =
+      record {
+        block = record { atoms144 = x ∙ K .block .atoms144; room561 = y ∙ K .block .room561 };
+        right =
+            λ i j p q e. rw (
+              g (3 * (171 + slotOf i j)) (omega arith),
+              g (3 * (171 + slotOf i j) + 1) (omega arith),
+              g (3 * (171 + slotOf i j) + 2) (omega arith),
+            )
+            (K .right i j p q (sym (f (128 + slotOf i j) (omega arith)) ∙ e));
+      }
 
   -- what is remembered of two species gives the formula over their mixed numbers
   pub near-for : (y z : ℕ) {n : Numbers} → n ≡ numbersFor lj tab y z → (d : Vec3) (r2 : Float) {r : Pull} → r ≡ nearBy (lj .shift) n d r2 → r ≡ ljNear lj (mixOf (lj .rule) (lookBy tab lj y) (lookBy tab lj z)) d r2
   unfolding numbersFor
   near-for y z e d r2 q = q ∙ ap (λ (a : Numbers). nearBy (lj .shift) a d r2) e ∙ near-numbers lj (mixOf (lj .rule) (lookBy tab lj y) (lookBy tab lj z)) d r2
 
-  pub begun : (n : Numbers) → n ≡ numbersFor lj tab 0 0 → Kept lj tab (replicate 16 0) (replicate 16 (n .depth)) (replicate 16 (n .square)) (replicate 16 (n .shift))
-  begun n e =
+  pub first-row : (room : List Float) → length room ≡ 561 → {n : Numbers} → n ≡ numbersFor lj tab 0 0 → FirstRow lj tab (set-three room 171 (n .depth) (n .square) (n .shift))
+  first-row room l {n} e =
+      let w : 3 * 171 + 2 < length room = omega (arith, l) in
       record {
-        keys16 = length-replicate {A = ℕ} 16 0;
-        depths16 = length-replicate 16 (n .depth);
-        squares16 = length-replicate 16 (n .square);
-        shifts16 = length-replicate 16 (n .shift);
-        right = λ j p. rw (getD-replicate {A = ℕ} 16 j 0 0 p, getD-replicate 16 j (n .depth) nan p, getD-replicate 16 j (n .square) nan p, getD-replicate 16 j (n .shift) nan p) e;
+        room561 = three-length nan room 171 (n .depth) (n .square) (n .shift) ∙ l;
+        right =
+            rw (
+              three-first nan room 171 (n .depth) (n .square) (n .shift) w,
+              three-second nan room 171 (n .depth) (n .square) (n .shift) w,
+              three-third nan room 171 (n .depth) (n .square) (n .shift) w,
+            )
+            e;
+      }
+
+  pub begun : (atoms : List ℕ) (room : List Float) → BlankKeys atoms → FirstRow lj tab room → Kept lj tab atoms room
+  begun atoms room A R =
+      record {
+        block = record { atoms144 = A .atoms144; room561 = R .room561 };
+        right =
+            λ y z p q e.
+            let m : y * 2 ^ 32 + z ≡ 0 = sym e ∙ A .zero (128 + slotOf y z) (omega arith) in
+            let ey : 0 ≡ y = omega (arith, m) in
+            let ez : 0 ≡ z = omega (arith, m) in
+            subst (λ (i : ℕ). rowOn room (slotOf i z) ≡ numbersFor lj tab i z) ey (subst (λ (j : ℕ). rowOn room (slotOf 0 j) ≡ numbersFor lj tab 0 j) ez (R .right));
       }

@@ -8,10 +8,9 @@ use lib.ListN.{length, getD, set, drop}
 use Rattle.float.specs.Arith.{_⊗_, _⊘_, at}
 use Rattle.float.specs.Def.{rootOf}
 use Rattle.float.specs.Literals.{tiny}
-use Rattle.lists.specs.Lists.{upTo, rows}
+use Rattle.lists.specs.Lists.{upTo}
 use Rattle.cell.specs.declared.Vec3.{Vec3}
 use Rattle.cell.specs.Vec.{scaleOf, normOf, positionAt}
-use Rattle.cell_prepared.specs.declared.Prepared.{Prepared}
 use Rattle.potentials_pair.specs.declared.Lj.{Lj}
 use Rattle.potentials_pair.specs.declared.Numbers.{Numbers}
 use Rattle.potentials_pair.specs.declared.Pull.{Pull}
@@ -20,7 +19,7 @@ use Rattle.potentials_pair.specs.Bond.{bondPull, bondEnergy, bondSlope}
 use Rattle.potentials_pair.specs.Once.{energyBy, slopeBy, nearBy}
 use Rattle.potentials_pair.specs.Pull.{Total, after}
 use Rattle.potentials_pair.specs.Species.{Tables}
-use Rattle.potentials.specs.Steps.{ljStep, numbersFor}
+use Rattle.potentials.specs.Steps.{numbersFor, Kept}
 
 -- what place m adds; `pull` makes it of the two floats and of how the atoms lie
 unfoldable pub blockStep : (Float → Vec3 → Float → Pull) → List ℕ → List Float → List Float → Total → ℕ → Total
@@ -37,8 +36,8 @@ setVec l c d = set (set (set l (3 * c) (d .x)) (3 * c + 1) (d .y)) (3 * c + 2) (
 
 -- 128 places
 pub record Block (atoms : List ℕ) (apart two : List Float) : Type 0 where
-  pub atoms256 : length atoms ≡ 256
-  pub apart384 : length apart ≡ 384
+  pub atoms256 : 256 ≤ length atoms
+  pub apart384 : 384 ≤ length apart
   pub two256 : length two ≡ 256
 
 -- c places are taken, and c′ after the pair a: they add what those before and then the pair add
@@ -90,52 +89,43 @@ pub record Bonded (apart two roots pulls : List Float) (n : ℕ) : Type 0 where
 unfoldable pub bondedStep : List ℕ → List Float → List Float → List Float → Total → ℕ → Total
 bondedStep atoms apart roots pulls t m = cond (lt (at roots m) tiny) t (blockStep scaledPull atoms apart pulls t m)
 
--- ---- a block of Lennard-Jones has one float a place, the squared distance
-
--- what place m adds; `pull` makes it of the two atoms, of how they lie, and of the float
-unfoldable pub nearStep : (ℕ → ℕ → Vec3 → Float → Pull) → List ℕ → List Float → List Float → Total → ℕ → Total
-nearStep pull atoms apart near t m =
-    after t (getD atoms (2 * m) 0, getD atoms (2 * m + 1) 0) (pull (getD atoms (2 * m) 0) (getD atoms (2 * m + 1) 0) (positionAt apart m) (at near m))
+-- ---- a block of Lennard-Jones: the rows that are kept, by their places, and its room
 
 -- a pair that is not skipped, by the numbers of its species
 unfoldable pub ljWith : Lj → Tables → List ℕ → ℕ → ℕ → Vec3 → Float → Pull
 ljWith lj tab species i j d r2 = nearBy (lj .shift) (numbersFor lj tab (getD species i 0) (getD species j 0)) d r2
 
--- 128 places
-pub record NearBlock (atoms : List ℕ) (apart near : List Float) : Type 0 where
-  pub atoms256 : length atoms ≡ 256
-  pub apart384 : length apart ≡ 384
-  pub near128 : length near ≡ 128
+-- the keys, the places' numbers and the rows are as they were
+pub record NearRest (atoms atoms′ : List ℕ) (room room′ : List Float) : Type 0 where
+  pub keys : (k : ℕ) → 128 ≤ k → getD atoms′ k 0 ≡ getD atoms k 0
+  pub rest : (k : ℕ) → 128 ≤ k → at room′ k ≡ at room k
 
--- `PlaceAdds` and `Sifted` of Lennard-Jones: no species is asked yet, so for all of them
-pub record NearAdds (lj : Lj) (p : Prepared) (xs : List Float) (atoms atoms′ : List ℕ) (apart near apart′ near′ : List Float) (c c′ i j : ℕ) : Type 0 where
-  pub few : c′ ≤ c + 1
-  pub adds : (tab : Tables) (species : List ℕ)
-      → PlaceAdds (nearStep (ljWith lj tab species) atoms apart near) (nearStep (ljWith lj tab species) atoms′ apart′ near′) c c′ (ljStep lj p tab species xs) (i, j)
+-- the numbers of place m, and those of the species of its atoms
+abbrev pub numbersOn : List Float → ℕ → Numbers
+numbersOn room m = record { depth = at room (128 + m); square = at room (256 + m); shift = at room (384 + m) }
 
-pub record NearSifted (lj : Lj) (p : Prepared) (xs : List Float) (table atoms : List ℕ) (apart near : List Float) (c from k : ℕ) : Type 0 where
-  pub few : c + from ≤ k
-  pub sifts : (tab : Tables) (species : List ℕ) → Sifted (nearStep (ljWith lj tab species) atoms apart near) c (ljStep lj p tab species xs) (rows table) from k
+unfoldable pub numbersWith : Lj → Tables → List ℕ → List ℕ → ℕ → List ℕ → ℕ → Numbers
+numbersWith lj tab species table from atoms m =
+    let k = from + getD atoms m 0 in
+    numbersFor lj tab (getD species (getD table (2 * k) 0) 0) (getD species (getD table (2 * k + 1) 0) 0)
 
--- 128 depths, squares and shifts; those of place m
-pub record Numbered128 (ds ss hs : List Float) : Type 0 where
-  pub ds128 : length ds ≡ 128
-  pub ss128 : length ss ≡ 128
-  pub hs128 : length hs ≡ 128
+-- place m has its numbers, and nothing else of the places has changed
+pub record NumberedAt (lj : Lj) (tab : Tables) (species table : List ℕ) (from : ℕ) (atoms atoms′ : List ℕ) (room room′ : List Float) (m : ℕ) : Type 0 where
+  pub kept : Kept lj tab atoms′ room′
+  pub same-atoms : (k : ℕ) → k < 128 → getD atoms′ k 0 ≡ getD atoms k 0
+  pub same-room : (k : ℕ) → k < 513 → (k ≡ 128 + m → ⊥) → (k ≡ 256 + m → ⊥) → (k ≡ 384 + m → ⊥) → at room′ k ≡ at room k
+  pub here : numbersOn room′ m ≡ numbersWith lj tab species table from atoms m
 
-abbrev pub numbersOn : List Float → List Float → List Float → ℕ → Numbers
-numbersOn ds ss hs m = record { depth = at ds m; square = at ss m; shift = at hs m }
-
--- the numbers of the species of place m's atoms, and that the first n places have theirs
-unfoldable pub numbersWith : Lj → Tables → List ℕ → List ℕ → ℕ → Numbers
-numbersWith lj tab species atoms m = numbersFor lj tab (getD species (getD atoms (2 * m) 0) 0) (getD species (getD atoms (2 * m + 1) 0) 0)
-
-pub record Recalled (lj : Lj) (tab : Tables) (species atoms : List ℕ) (ds ss hs : List Float) (n : ℕ) : Type 0 where
-  pub right : (m : ℕ) → m < n → numbersOn ds ss hs m ≡ numbersWith lj tab species atoms m
+-- .. the first n places
+pub record Recalled (lj : Lj) (tab : Tables) (species table : List ℕ) (from : ℕ) (atoms atoms′ : List ℕ) (room room′ : List Float) (n : ℕ) : Type 0 where
+  pub kept : Kept lj tab atoms′ room′
+  pub same-atoms : (k : ℕ) → k < 128 → getD atoms′ k 0 ≡ getD atoms k 0
+  pub same-room : (k : ℕ) → k < 128 → at room′ k ≡ at room k
+  pub right : (m : ℕ) → m < n → numbersOn room′ m ≡ numbersWith lj tab species table from atoms m
 
 -- the two floats of `nearBy` at place m
-unfoldable pub ljEnergyOn : Bool → List Float → List Float → List Float → List Float → ℕ → Float
-ljEnergyOn shift near ds ss hs m = energyBy shift (numbersOn ds ss hs m) (at near m)
+unfoldable pub ljEnergyOn : Bool → List Float → ℕ → Float
+ljEnergyOn shift room m = energyBy shift (numbersOn room m) (at room m)
 
-unfoldable pub ljSlopeOn : List Float → List Float → List Float → List Float → ℕ → Float
-ljSlopeOn near ds ss hs m = slopeBy (numbersOn ds ss hs m) (at near m)
+unfoldable pub ljSlopeOn : List Float → ℕ → Float
+ljSlopeOn room m = slopeBy (numbersOn room m) (at room m)

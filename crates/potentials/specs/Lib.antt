@@ -2,6 +2,7 @@ pub mod Blocks
 pub mod Calls
 pub mod Desks
 pub mod Ranged
+pub mod Rows
 pub mod Rules
 pub mod Source
 pub mod Steps

@@ -1,7 +1,7 @@
 -- What the loops say of themselves: a cell's facts are asked once, species are looked up by halving, and the numbers of two species are remembered. Nobody has to believe it. Definitions only.
 use mathlib.Core.Path.{_≡_}
 use mathlib.Core.List.{List}
-use Prim.Native.Nat.{ℕ, _/_, _%_, _^_, _<_}
+use Prim.Native.Nat.{ℕ, _+_, _*_, _%_, _^_, _<_}
 use lib.Ieee.{Float}
 use lib.ListN.{length, getD}
 use Rattle.lists.specs.Atoms.{atomsOf}
@@ -26,14 +26,36 @@ coulombStep ke cutoff p charges xs = step (atomsOf xs) (coulombPair (λ d. image
 unfoldable pub numbersFor : Lj → Tables → ℕ → ℕ → Numbers
 numbersFor lj tab y z = numbersOf lj (mixOf (lj .rule) (lookBy tab lj y) (lookBy tab lj z))
 
--- of a key, y * 2 ^ 32 + z
-abbrev pub numbersAt : Lj → Tables → ℕ → Numbers
-numbersAt lj tab k = numbersFor lj tab (k / 2 ^ 32) (k % 2 ^ 32)
+-- the row of two species
+abbrev pub slotOf : ℕ → ℕ → ℕ
+slotOf y z = y % 4 * 4 + z % 4
 
--- 16 keys, and the numbers of each
-pub record Kept (lj : Lj) (tab : Tables) (keys : List ℕ) (depths squares shifts : List Float) : Type 0 where
-  pub keys16 : length keys ≡ 16
-  pub depths16 : length depths ≡ 16
-  pub squares16 : length squares ≡ 16
-  pub shifts16 : length shifts ≡ 16
-  pub right : (s : ℕ) → s < 16 → record { depth = at depths s; square = at squares s; shift = at shifts s } ≡ numbersAt lj tab (getD keys s 0)
+-- row s
+abbrev pub rowOn : List Float → ℕ → Numbers
+rowOn room s = record { depth = at room (3 * (171 + s)); square = at room (3 * (171 + s) + 1); shift = at room (3 * (171 + s) + 2) }
+
+-- Lennard-Jones's room: 128 places of rows that are kept, with 16 keys behind them; their squared distances (m) and their three numbers (128 + m, 256 + m, 384 + m), with 16 rows behind
+-- them
+pub record NearBlock (atoms : List ℕ) (room : List Float) : Type 0 where
+  pub atoms144 : length atoms ≡ 144
+  pub room561 : length room ≡ 561
+
+-- a row has the numbers of its key, y * 2 ^ 32 + z
+pub record Kept (lj : Lj) (tab : Tables) (atoms : List ℕ) (room : List Float) : Type 0 where
+  pub block : NearBlock atoms room
+  pub right : (y z : ℕ) → y < 2 ^ 32 → z < 2 ^ 32 → getD atoms (128 + slotOf y z) 0 ≡ y * 2 ^ 32 + z → rowOn room (slotOf y z) ≡ numbersFor lj tab y z
+
+-- .. where it is made anew: what the places have is as it was
+pub record Renewed (lj : Lj) (tab : Tables) (atoms atoms′ : List ℕ) (room room′ : List Float) : Type 0 where
+  pub kept : Kept lj tab atoms′ room′
+  pub same-atoms : (k : ℕ) → k < 128 → getD atoms′ k 0 ≡ getD atoms k 0
+  pub same-room : (k : ℕ) → k < 513 → at room′ k ≡ at room k
+
+-- .. at first: every key is 0, and row 0 is right
+pub record BlankKeys (atoms : List ℕ) : Type 0 where
+  pub atoms144 : length atoms ≡ 144
+  pub zero : (k : ℕ) → k < 144 → getD atoms k 0 ≡ 0
+
+pub record FirstRow (lj : Lj) (tab : Tables) (room : List Float) : Type 0 where
+  pub room561 : length room ≡ 561
+  pub right : rowOn room 0 ≡ numbersFor lj tab 0 0

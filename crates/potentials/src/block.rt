@@ -7,7 +7,7 @@ ghost use Prim.Native.Nat.{_+_, _*_, _≤_, _<_};
 ghost use lib.ListN.{length, set};
 ghost use Rattle.lists.specs.Lists.{upTo};
 ghost use Rattle.potentials_pair.specs.Pull.{held};
-ghost use Rattle.potentials.specs.Blocks.{blockStep, scaledPull, setVec, Block, NearBlock};
+ghost use Rattle.potentials.specs.Blocks.{blockStep, scaledPull, setVec, Block};
 use cell::Vec3;
 use virial::Sum;
 
@@ -79,30 +79,6 @@ pub(crate) fn put(
     apart[3 * c + 2] = d.z;
     two[2 * c] = u;
     two[2 * c + 1] = v;
-}
-
-// .. with one float.
-pub(crate) fn put_near(
-    c: usize,
-    i: usize,
-    j: usize,
-    d: Vec3,
-    u: f64,
-    atoms: &mut [usize],
-    apart: &mut [f64],
-    near: &mut [f64],
-)
-    requires { ⌜ (c < 128) × NearBlock (now atoms) (now apart) (now near) ⌝ }
-    ensures { λ _. ⌜ now (atoms .exit) ≡ set (set (now (atoms .entry)) (2 * c) i) (2 * c + 1) j ⌝ }
-    ensures { λ _. ⌜ now (apart .exit) ≡ setVec (now (apart .entry)) c d ⌝ }
-    ensures { λ _. ⌜ now (near .exit) ≡ set (now (near .entry)) c u ⌝ }
-{
-    atoms[2 * c] = i;
-    atoms[2 * c + 1] = j;
-    apart[3 * c] = d.x;
-    apart[3 * c + 1] = d.y;
-    apart[3 * c + 2] = d.z;
-    near[c] = u;
 }
 
 // What place m adds.

@@ -72,7 +72,7 @@ fn sift(
 // An estimate of the length at each of the first n places. Nothing is said of their values: no call is left in this loop and no branch, so that two go in one
 // instruction.
 fn estimate_all(n: usize, apart: &[f64], roots: &mut [f64])
-    requires { ⌜ (n ≤ 128) × (length (now apart) ≡ 384) × (length (now roots) ≡ 128) ⌝ }
+    requires { ⌜ (n ≤ 128) × (384 ≤ length (now apart)) × (length (now roots) ≡ 128) ⌝ }
     ensures { λ _. ⌜ length (now (roots .exit)) ≡ 128 ⌝ }
 {
     let mut m = 0;
@@ -85,7 +85,7 @@ fn estimate_all(n: usize, apart: &[f64], roots: &mut [f64])
 
 // Length, energy and slope of place m, whatever the guess at its length.
 fn pull_at(m: usize, apart: &[f64], two: &[f64], roots: &mut [f64], pulls: &mut [f64])
-    requires { ⌜ (m < 128) × (length (now apart) ≡ 384) × (length (now two) ≡ 256) × (length (now roots) ≡ 128) × (length (now pulls) ≡ 256) ⌝ }
+    requires { ⌜ (m < 128) × (384 ≤ length (now apart)) × (length (now two) ≡ 256) × (length (now roots) ≡ 128) × (length (now pulls) ≡ 256) ⌝ }
     ensures { λ _. ⌜ now (roots .exit) ≡ set (now (roots .entry)) m (lengthOn (now (apart .entry)) m) ⌝ }
     ensures { λ _. ⌜ now (pulls .exit) ≡ withPull (bondEnergyOn (now (apart .entry)) (now (two .entry))) (bondSlopeOn (now (apart .entry)) (now (two .entry))) (now (pulls .entry)) m ⌝ }
 {
@@ -101,7 +101,7 @@ fn pull_at(m: usize, apart: &[f64], two: &[f64], roots: &mut [f64], pulls: &mut 
 
 // .. of the first n places.
 fn pull_all(n: usize, apart: &[f64], two: &[f64], roots: &mut [f64], pulls: &mut [f64])
-    requires { ⌜ (n ≤ 128) × (length (now apart) ≡ 384) × (length (now two) ≡ 256) × (length (now roots) ≡ 128) × (length (now pulls) ≡ 256) ⌝ }
+    requires { ⌜ (n ≤ 128) × (384 ≤ length (now apart)) × (length (now two) ≡ 256) × (length (now roots) ≡ 128) × (length (now pulls) ≡ 256) ⌝ }
     ensures { λ _. ⌜ Bonded (now (apart .entry)) (now (two .entry)) (now (roots .exit)) (now (pulls .exit)) n ⌝ }
 {
     let mut m = 0;

@@ -1,110 +1,50 @@
-// The direct Coulomb sum: one pair, and the loops.
+// The direct Coulomb sum over a list.
 ghost use mathlib.Core.Path.{_≡_};
 ghost use mathlib.Core.List.{foldl};
 ghost use Prim.Native.Nat.{_+_, _-_, _/_, _≤_, _<_};
 ghost use lib.ListN.{length};
-ghost use Rattle.lists.specs.Atoms.{atomsOf};
-ghost use Rattle.lists.specs.Lists.{numbers, withEach, allPairs, rows};
-ghost use Rattle.cell_prepared.specs.Facts.{imageIn};
+ghost use Rattle.lists.specs.Lists.{upTo, rows};
 ghost use Rattle.potentials_pair.specs.Pull.{held};
-ghost use Rattle.potentials_pair.specs.Coulomb.{coulombNear};
-ghost use Rattle.potentials.specs.Terms.{coulombPair};
 ghost use Rattle.potentials.specs.Steps.{coulombStep};
-ghost use Rattle.potentials.specs.Blocks.{blockStep, coulombEnergy, coulombSlope, withPull, Block, PlaceAdds, Sifted, Pulled};
+ghost use Rattle.potentials.specs.Blocks.{coulombEnergy, coulombSlope, withPull, Pulled};
+ghost use Rattle.potentials.specs.Rows.{coulombRowed, ChargesPicked};
 use crate::block;
 use crate::pairs;
+use crate::rows;
 use cell_prepared::Prepared;
-use potentials_pair::Pull;
 use virial::Sum;
 
-fn pair(ke: f64, cutoff: f64, p: Prepared, charges: &[f64], xs: &[f64], i: usize, j: usize) -> Pull
-    requires { ⌜ (i < atomsOf (now xs)) × (j < atomsOf (now xs)) ⌝ }
-    ensures { λ r. ⌜ r ≡ coulombPair (λ d. imageIn p d) ke cutoff (now (charges .entry)) (now (xs .entry)) (i, j) ⌝ }
-{
-    let a = potentials_pair::kernel::table_at(charges, i, 0.0);
-    let b = potentials_pair::kernel::table_at(charges, j, 0.0);
-    if potentials_pair::coulomb::is_neutral(a, b) {
-        return Pull::Skip;
-    }
-    let d = pairs::displacement(p, xs, i, j);
-    potentials_pair::coulomb::pull(ke, cutoff, a, b, d)
-}
-
-// One pair added.
-fn one(
+// Of n rows from `from` on those that have charges and are near, their places in order, with their charges' product and their squared distance. How many
+// they are.
+fn keep(
     ke: f64,
     cutoff: f64,
-    p: Prepared,
     charges: &[f64],
-    xs: &[f64],
-    i: usize,
-    j: usize,
-    forces: &mut [f64],
-    sum: Sum,
-) -> Sum
-    ensures { λ r. ⌜ held r (now (forces .exit)) ≡ coulombStep ke cutoff p (now (charges .entry)) (now (xs .entry)) (held sum (now (forces .entry))) (i, j) ⌝ }
-{
-    if pairs::is_absent(xs.len() / 3, i, j) {
-        return sum;
-    }
-    let pull = pair(ke, cutoff, p, charges, xs, i, j);
-    potentials_pair::kernel::apply(sum, forces, i, j, pull)
-}
-
-// One pair into place c: its charges' product and its squared distance. It stays where it is not skipped. How many places are taken then.
-fn gather(
-    ke: f64,
-    cutoff: f64,
-    p: Prepared,
-    charges: &[f64],
-    xs: &[f64],
-    i: usize,
-    j: usize,
-    c: usize,
-    atoms: &mut [usize],
-    apart: &mut [f64],
-    two: &mut [f64],
-) -> usize
-    requires { ⌜ (c < 128) × Block (now atoms) (now apart) (now two) ⌝ }
-    ensures { λ r. ⌜ PlaceAdds (blockStep coulombNear (now (atoms .entry)) (now (apart .entry)) (now (two .entry))) (blockStep coulombNear (now (atoms .exit)) (now (apart .exit)) (now (two .exit))) c r (coulombStep ke cutoff p (now (charges .entry)) (now (xs .entry))) (i, j) ⌝ }
-{
-    if pairs::is_absent(xs.len() / 3, i, j) {
-        return c;
-    }
-    let a = potentials_pair::kernel::table_at(charges, i, 0.0);
-    let b = potentials_pair::kernel::table_at(charges, j, 0.0);
-    let d = pairs::quick_displacement(p, xs, i, j);
-    let r2 = cell::vectors::norm2(d);
-    block::put(c, i, j, d, ke * a * b, r2, atoms, apart, two);
-    let neutral = potentials_pair::coulomb::is_neutral(a, b);
-    let far = potentials_pair::kernel::is_skipped(cutoff, r2);
-    block::taken(neutral | far, c)
-}
-
-// The near pairs of the rows from `from` to `to`, in their order. How many they are.
-fn sift(
-    ke: f64,
-    cutoff: f64,
-    p: Prepared,
-    charges: &[f64],
-    xs: &[f64],
     table: &[u32],
     from: usize,
-    to: usize,
-    atoms: &mut [usize],
-    apart: &mut [f64],
+    n: usize,
+    ways: &[f64],
+    kept: &mut [usize],
     two: &mut [f64],
 ) -> usize
-    requires { ⌜ (from ≤ to) × (to ≤ from + 128) × (to ≤ length (now table) / 2) × Block (now atoms) (now apart) (now two) ⌝ }
-    ensures { λ r. ⌜ Sifted (blockStep coulombNear (now (atoms .exit)) (now (apart .exit)) (now (two .exit))) r (coulombStep ke cutoff p (now (charges .entry)) (now (xs .entry))) (rows (now (table .entry))) from to ⌝ }
+    requires { ⌜ (n ≤ 128) × (from + n ≤ length (now table) / 2) × (length (now ways) ≡ 512) × (length (now kept) ≡ 128) × (length (now two) ≡ 256) ⌝ }
+    ensures { λ r. ⌜ ChargesPicked ke cutoff (now (charges .entry)) (now (table .entry)) from (now (ways .entry)) n (now (kept .exit)) (now (two .exit)) r ⌝ }
 {
     let mut c = 0;
-    let mut k = from;
-    while k < to {
-        let i = pairs::first_of(table, k);
-        let j = pairs::second_of(table, k);
-        c = gather(ke, cutoff, p, charges, xs, i, j, c, atoms, apart, two);
-        k += 1;
+    let mut t = 0;
+    while t < n {
+        let i = pairs::first_of(table, from + t);
+        let j = pairs::second_of(table, from + t);
+        let a = potentials_pair::kernel::table_at(charges, i, 0.0);
+        let b = potentials_pair::kernel::table_at(charges, j, 0.0);
+        let r2 = ways[384 + t];
+        kept[c] = t;
+        two[2 * c] = ke * a * b;
+        two[2 * c + 1] = r2;
+        let neutral = potentials_pair::coulomb::is_neutral(a, b);
+        let far = potentials_pair::kernel::is_skipped(cutoff, r2);
+        c = block::taken(neutral | far, c);
+        t += 1;
     }
     c
 }
@@ -148,6 +88,39 @@ pub(crate) fn pull_all(n: usize, two: &[f64], pulls: &mut [f64])
     }
 }
 
+// What the rows from `from` up to `to` add.
+pub(crate) fn add(
+    ke: f64,
+    cutoff: f64,
+    charges: &[f64],
+    table: &[u32],
+    from: usize,
+    to: usize,
+    ways: &[f64],
+    two: &mut [f64],
+    pulls: &mut [f64],
+    forces: &mut [f64],
+    sum: Sum,
+) -> Sum
+    requires { ⌜ (from ≤ to) × (to ≤ from + 128) × (to ≤ length (now table) / 2) × (length (now ways) ≡ 512) × (length (now two) ≡ 256) × (length (now pulls) ≡ 256) ⌝ }
+    ensures { λ r. ⌜ held r (now (forces .exit)) ≡ foldl (coulombRowed ke cutoff (now (charges .entry)) (now (table .entry)) from (now (ways .entry))) (held sum (now (forces .entry))) (upTo (to - from)) ⌝ }
+{
+    let mut kept = rows::blank_kept();
+    let n = keep(
+        ke,
+        cutoff,
+        charges,
+        table,
+        from,
+        to - from,
+        ways,
+        &mut kept,
+        two,
+    );
+    pull_all(n, two, pulls);
+    rows::add_all(n, table, from, &kept, ways, pulls, forces, sum)
+}
+
 // The rows of a list, a block after the other.
 fn by_blocks(
     ke: f64,
@@ -156,30 +129,41 @@ fn by_blocks(
     charges: &[f64],
     xs: &[f64],
     table: &[u32],
-    atoms: &mut [usize],
-    apart: &mut [f64],
+    ways: &mut [f64],
     two: &mut [f64],
     pulls: &mut [f64],
     forces: &mut [f64],
     sum: Sum,
 ) -> Sum
-    requires { ⌜ Block (now atoms) (now apart) (now two) × (length (now pulls) ≡ 256) ⌝ }
+    requires { ⌜ (length (now ways) ≡ 512) × (length (now two) ≡ 256) × (length (now pulls) ≡ 256) ⌝ }
     ensures { λ r. ⌜ held r (now (forces .exit)) ≡ foldl (coulombStep ke cutoff p (now (charges .entry)) (now (xs .entry))) (held sum (now (forces .entry))) (rows (now (table .entry))) ⌝ }
 {
     let mut s = sum;
     let mut k = 0;
+    let mut went = true;
     while k < table.len() / 2 {
         let to = block::block_end(k, table.len() / 2);
-        let n = sift(ke, cutoff, p, charges, xs, table, k, to, atoms, apart, two);
-        pull_all(n, two, pulls);
-        s = block::add_all(n, atoms, apart, pulls, forces, s);
+        went = rows::lay_rows(p, xs, table, k, to, ways, went);
+        s = add(
+            ke,
+            cutoff,
+            charges,
+            table,
+            k,
+            to,
+            ways,
+            two,
+            pulls,
+            forces,
+            s,
+        );
         k = to;
     }
     s
 }
 
 // The rows of a list, in order.
-pub(crate) fn over(
+pub fn over(
     ke: f64,
     cutoff: f64,
     p: Prepared,
@@ -191,8 +175,7 @@ pub(crate) fn over(
 ) -> Sum
     ensures { λ r. ⌜ held r (now (forces .exit)) ≡ foldl (coulombStep ke cutoff p (now (charges .entry)) (now (xs .entry))) (held sum (now (forces .entry))) (rows (now (table .entry))) ⌝ }
 {
-    let mut atoms = block::blank_atoms();
-    let mut apart = block::blank_apart();
+    let mut ways = rows::blank_ways();
     let mut two = block::blank_two();
     let mut pulls = block::blank_two();
     by_blocks(
@@ -202,55 +185,10 @@ pub(crate) fn over(
         charges,
         xs,
         table,
-        &mut atoms,
-        &mut apart,
+        &mut ways,
         &mut two,
         &mut pulls,
         forces,
         sum,
     )
-}
-
-// Atom i with each later one.
-fn above(
-    ke: f64,
-    cutoff: f64,
-    p: Prepared,
-    charges: &[f64],
-    xs: &[f64],
-    i: usize,
-    forces: &mut [f64],
-    sum: Sum,
-) -> Sum
-    requires { ⌜ i < atomsOf (now xs) ⌝ }
-    ensures { λ r. ⌜ held r (now (forces .exit)) ≡ foldl (coulombStep ke cutoff p (now (charges .entry)) (now (xs .entry))) (held sum (now (forces .entry))) (withEach i (numbers (i + 1) (atomsOf (now (xs .entry)) - (i + 1)))) ⌝ }
-{
-    let mut s = sum;
-    let mut j = i + 1;
-    while j < xs.len() / 3 {
-        s = one(ke, cutoff, p, charges, xs, i, j, forces, s);
-        j += 1;
-    }
-    s
-}
-
-// Every pair, i, then j, rising.
-pub(crate) fn all(
-    ke: f64,
-    cutoff: f64,
-    p: Prepared,
-    charges: &[f64],
-    xs: &[f64],
-    forces: &mut [f64],
-    sum: Sum,
-) -> Sum
-    ensures { λ r. ⌜ held r (now (forces .exit)) ≡ foldl (coulombStep ke cutoff p (now (charges .entry)) (now (xs .entry))) (held sum (now (forces .entry))) (allPairs (atomsOf (now (xs .entry)))) ⌝ }
-{
-    let mut s = sum;
-    let mut i = 0;
-    while i < xs.len() / 3 {
-        s = above(ke, cutoff, p, charges, xs, i, forces, s);
-        i += 1;
-    }
-    s
 }

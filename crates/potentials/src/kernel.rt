@@ -2,8 +2,7 @@
 // overwritten with the term's own, from zero. No public call.
 ghost use mathlib.Core.Path.{_≡_};
 ghost use lib.ListN.{length};
-ghost use Rattle.lists.specs.Atoms.{atomsOf};
-ghost use Rattle.lists.specs.Lists.{rows, allPairs};
+ghost use Rattle.lists.specs.Lists.{rows};
 ghost use Rattle.potentials_pair.specs.Species.{tables, lookBy};
 ghost use Rattle.potentials_pair.specs.Pull.{held};
 ghost use Rattle.potentials.specs.Terms.{ljOver, coulombOver, bondsOver};
@@ -61,36 +60,6 @@ pub fn lj_pairs(
     )
 }
 
-pub fn lj_all(
-    lj: Lj,
-    cell: Cell,
-    own_ids: &[u32],
-    own_params: &[f64],
-    ids: &[u32],
-    params: &[f64],
-    species: &[u32],
-    positions: &[f64],
-    forces: &mut [f64],
-) -> Sum
-    ensures { λ r. ⌜ held r (now (forces .exit)) ≡ ljOver (lookBy (tables (now («own_ids» .entry)) (now («own_params» .entry)) (now (ids .entry)) (now (params .entry))) lj) lj cell (now (species .entry)) (now (positions .entry)) (length (now (forces .entry))) (allPairs (atomsOf (now (positions .entry)))) ⌝ }
-{
-    virial::kernel::clear(forces);
-    let p = cell_prepared::prepare(cell);
-    let sum = virial::kernel::zero();
-    crate::lennard_jones::all(
-        lj,
-        p,
-        own_ids,
-        own_params,
-        ids,
-        params,
-        species,
-        positions,
-        forces,
-        sum,
-    )
-}
-
 pub fn coulomb_pairs(
     units: Units,
     cutoff: f64,
@@ -115,22 +84,6 @@ pub fn coulomb_pairs(
         forces,
         sum,
     )
-}
-
-pub fn coulomb_all(
-    units: Units,
-    cutoff: f64,
-    cell: Cell,
-    charges: &[f64],
-    positions: &[f64],
-    forces: &mut [f64],
-) -> Sum
-    ensures { λ r. ⌜ held r (now (forces .exit)) ≡ coulombOver (units .«ke_coulomb») cutoff cell (now (charges .entry)) (now (positions .entry)) (length (now (forces .entry))) (allPairs (atomsOf (now (positions .entry)))) ⌝ }
-{
-    virial::kernel::clear(forces);
-    let p = cell_prepared::prepare(cell);
-    let sum = virial::kernel::zero();
-    crate::coulomb::all(units.ke_coulomb, cutoff, p, charges, positions, forces, sum)
 }
 
 // `lj_pairs` into `forces` and `coulomb_pairs` into `others`, by one walk.

@@ -8,12 +8,13 @@ use virial::Sum;
 mod block;
 mod bonds;
 mod both;
-mod coulomb;
+pub mod coulomb;
 mod kept;
 pub mod kernel;
-mod lennard_jones;
+pub mod lennard_jones;
 mod pairs;
 pub mod ranged;
+mod rows;
 pub mod species;
 
 // A force constant, and a length at rest. (The Rust's `HarmonicBonds`; its tables are lent.)

@@ -43,16 +43,7 @@ pub(crate) fn spot_at(xs: &[f64], i: usize) -> Vec3
     }
 }
 
-// From atom j to atom i, by the minimum image.
-pub(crate) fn displacement(p: Prepared, xs: &[f64], i: usize, j: usize) -> Vec3
-    requires { ⌜ (i < atomsOf (now xs)) × (j < atomsOf (now xs)) ⌝ }
-    ensures { λ r. ⌜ r ≡ displaced (λ d. imageIn p d) (now (xs .entry)) (i, j) ⌝ }
-{
-    let d = cell::vectors::sub(spot_at(xs, i), spot_at(xs, j));
-    cell_prepared::image_in(p, d).diff
-}
-
-// The same by `quick_diff`, which goes into a loop over blocks.
+// From atom j to atom i, by the minimum image; by `quick_diff`, which goes into a loop over blocks.
 pub(crate) fn quick_displacement(p: Prepared, xs: &[f64], i: usize, j: usize) -> Vec3
     requires { ⌜ (i < atomsOf (now xs)) × (j < atomsOf (now xs)) ⌝ }
     ensures { λ r. ⌜ r ≡ displaced (λ d. imageIn p d) (now (xs .entry)) (i, j) ⌝ }

@@ -16,6 +16,7 @@ use virial::Summed;
 use virial::Units;
 
 mod asked;
+mod every;
 
 // A single species.
 pub fn monatomic(epsilon: f64, sigma: f64, cutoff: f64) -> LjAnswer
@@ -122,7 +123,7 @@ pub fn lj_all(
     if let Done::Refused(why) = a {
         return Summed::Refused(why);
     }
-    Summed::Answered(kernel::lj_all(
+    Summed::Answered(every::lj_all(
         lj,
         cell,
         own_ids,
@@ -210,7 +211,7 @@ pub fn coulomb_all(
     if let Done::Refused(why) = a {
         return Summed::Refused(why);
     }
-    Summed::Answered(kernel::coulomb_all(units, cutoff, cell, charges, positions, forces))
+    Summed::Answered(every::coulomb_all(units, cutoff, cell, charges, positions, forces))
 }
 
 // Harmonic bonds, two atoms a row; a bond past the end of a table takes `bond`'s own number.

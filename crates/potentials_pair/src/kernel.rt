@@ -1,9 +1,7 @@
-// What every term shares: a table's default, when a pair is skipped, and how what it adds is stored.
+// What every term shares: a table's default, and when a pair is skipped.
 ghost use mathlib.Core.Path.{_≡_};
 ghost use lib.ListN.{getD};
-ghost use Rattle.potentials_pair.specs.Pull.{skips, held, after};
-use crate::Pull;
-use virial::Sum;
+ghost use Rattle.potentials_pair.specs.Pull.{skips};
 
 // What stands at k, or `other` past the end: the Rust's `get(k).copied().unwrap_or(other)`.
 pub fn table_at(table: &[f64], k: usize, other: f64) -> f64
@@ -19,20 +17,4 @@ pub fn is_skipped(cutoff: f64, r2: f64) -> bool
     ensures { λ r. ⌜ r ≡ skips cutoff r2 ⌝ }
 {
     (r2 > cutoff * cutoff) | (r2 < 1e-12)
-}
-
-pub fn apply(sum: Sum, forces: &mut [f64], i: usize, j: usize, pull: Pull) -> Sum
-    ensures { λ r. ⌜ held r (now (forces .exit)) ≡ after (held sum (now (forces .entry))) (i, j) pull ⌝ }
-{
-    match pull {
-        Pull::Skip => sum,
-        Pull::Add { energy, d, f } => virial::kernel::add_pair_force(
-            virial::kernel::with_energy(sum, energy),
-            forces,
-            i,
-            j,
-            d,
-            f,
-        ),
-    }
 }

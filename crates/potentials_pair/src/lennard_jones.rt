@@ -1,13 +1,11 @@
-// Lennard-Jones over a difference and the numbers of two species.
+// Lennard-Jones by the numbers of two species and a squared distance: what `nearBy` is made of, which is `ljNear` of `numbers_of` (proofs/Once.antt).
 ghost use mathlib.Core.Path.{_≡_};
 ghost use Rattle.potentials_pair.specs.Lj.{sigmaOf, mixOf};
-ghost use Rattle.potentials_pair.specs.Once.{numbersOf, energyBy, slopeBy, nearBy};
+ghost use Rattle.potentials_pair.specs.Once.{numbersOf, energyBy, slopeBy};
 use crate::Lj;
 use crate::Mixed;
 use crate::Mixing;
 use crate::Numbers;
-use crate::Pull;
-use cell::Vec3;
 
 fn sigma(rule: Mixing, a: f64, b: f64) -> f64
     ensures { λ r. ⌜ r ≡ sigmaOf rule a b ⌝ }
@@ -64,15 +62,4 @@ pub fn slope(n: Numbers, r2: f64) -> f64
     let s6 = s2 * s2 * s2;
     let de_dr2 = n.depth * (-6.0 * (s6 * s6) + 3.0 * s6) * inv_r2;
     -2.0 * de_dr2
-}
-
-// Both, d the difference. Of `numbers_of` it is `ljNear` (proofs/Once.antt).
-pub fn near(shift: bool, n: Numbers, d: Vec3, r2: f64) -> Pull
-    ensures { λ r. ⌜ r ≡ nearBy shift n d r2 ⌝ }
-{
-    Pull::Add {
-        energy: energy(shift, n, r2),
-        d: d,
-        f: cell::vectors::scale(d, slope(n, r2)),
-    }
 }

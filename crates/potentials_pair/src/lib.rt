@@ -1,4 +1,4 @@
-// What one pair of atoms adds: the kernels of potentials.rs over a difference and its numbers, the species table, and one `apply`. Total, and no public call.
+// What one pair of atoms adds: the kernels of potentials.rs over a pair's numbers, and the species table. Total, and no public call.
 use cell::Vec3;
 
 pub mod bonds;
@@ -7,7 +7,7 @@ pub mod kernel;
 pub mod lennard_jones;
 pub mod species;
 
-// Nothing, or an energy and a force f on the first atom, d apart.
+// Nothing, or an energy and a force f on the first atom, d apart: the specs' word for what a pair adds; the loops hold its numbers in arrays.
 pub enum Pull {
     Skip,
     Add { energy: f64, d: Vec3, f: Vec3 },

@@ -1,32 +1,48 @@
-use Rattle.potentials_pair.specs.declared.Numbers.{Numbers}
-use Rattle.potentials.proofs.Near.{numbers-with}
+use Rattle.potentials.proofs.Near.{numbered-at}
 use borrow.Author.Needs.{needs}
-use lib.ListN.{set}
-use mathlib.Core.Path.{ap}
+use lib.ListN.{length-set}
 use native.Mathlib.Omega.{arith}
 use Rattle.potentials.proofs.lennard_jones.number_at.Statement.{statement}
 use Rattle.potentials.proofs.lennard_jones.number_at.Tie as tie
 
-mul-ds : tie.Need-mul-ds
-mul-ds c = omega (arith, c .before .before .before .before .before .before .before .before .before .before .before .before .before .before .before .before .before .before .before .before .before .before .before .before .before .before .before .before .before .before .pre .0 .0)
+add-k : tie.Need-add-k
+add-k c = omega (arith, c .before .before .before .before .before .before .before .before .before .pre .0 .1 .there (c .before .before .before .before .before .before .before .before .before .args .m) (c .before .before .before .before .before .before .before .before .before .pre .0 .0), c .before .before .before .before .before .before .before .before .before .good)
 
-slice-write-ds : tie.Need-slice-write-ds
-slice-write-ds c = omega (arith, c .before .before .before .before .before .before .before .before .before .before .before .before .before .before .before .before .before .before .before .before .before .before .before .before .before .before .before .before .before .before .pre .0 .0, c .before .before .before .before .before .before .before .before .before .before .before .before .before .before .before .before .before .before .before .before .before .before .before .before .before .before .before .before .before .before .pre .0 .2 .ds128)
+first-of-requires : tie.Need-first-of-requires
+first-of-requires c κs = c .before .before .before .before .before .before .before .before .before .pre .0 .1 .there (c .before .before .before .before .before .before .before .before .before .args .m) (c .before .before .before .before .before .before .before .before .before .pre .0 .0)
 
-mul-ss : tie.Need-mul-ss
-mul-ss c = omega (arith, c .before .before .before .before .before .before .before .before .before .before .before .before .before .before .before .before .before .before .before .before .before .before .before .before .before .before .before .before .before .before .pre .0 .0)
+second-of-requires : tie.Need-second-of-requires
+second-of-requires c κs = c .before .before .before .before .before .before .before .before .before .before .before .pre .0 .1 .there (c .before .before .before .before .before .before .before .before .before .before .before .args .m) (c .before .before .before .before .before .before .before .before .before .before .before .pre .0 .0)
 
-slice-write-ss : tie.Need-slice-write-ss
-slice-write-ss c = omega (arith, c .before .before .before .before .before .before .before .before .before .before .before .before .before .before .before .before .before .before .before .before .before .before .before .before .before .before .before .before .before .before .pre .0 .0, c .before .before .before .before .before .before .before .before .before .before .before .before .before .before .before .before .before .before .before .before .before .before .before .before .before .before .before .before .before .before .pre .0 .2 .ss128)
+add-room : tie.Need-add-room
+add-room c = omega (arith, c .before .before .before .before .before .before .before .before .before .before .before .before .before .before .before .before .before .before .before .before .pre .0 .0, c .before .before .before .before .before .before .before .before .before .before .before .before .before .before .before .before .before .before .before .before .pre .0 .1 .few)
 
-mul-hs : tie.Need-mul-hs
-mul-hs c = omega (arith, c .before .before .before .before .before .before .before .before .before .before .before .before .before .before .before .before .before .before .before .before .before .before .before .before .before .before .before .before .before .before .pre .0 .0)
+mul-room : tie.Need-mul-room
+mul-room c = omega (arith, c .before .before .before .before .before .before .before .before .before .before .before .before .before .before .before .before .before .before .before .before .pre .0 .0, c .before .before .before .before .before .before .before .before .before .before .before .before .before .before .before .before .before .before .before .before .pre .0 .1 .few)
 
-slice-write-hs : tie.Need-slice-write-hs
-slice-write-hs c = omega (arith, c .before .before .before .before .before .before .before .before .before .before .before .before .before .before .before .before .before .before .before .before .before .before .before .before .before .before .before .before .before .before .pre .0 .0, c .before .before .before .before .before .before .before .before .before .before .before .before .before .before .before .before .before .before .before .before .before .before .before .before .before .before .before .before .before .before .pre .0 .2 .hs128)
+slice-write-room : tie.Need-slice-write-room
+slice-write-room c = omega (arith, c .before .before .before .before .recall .ensures .1 .kept .block .room561, c .before .before .before .before .before .before .before .before .before .before .before .before .before .before .before .before .before .before .before .before .pre .0 .0, c .before .before .before .before .before .before .before .before .before .before .before .before .before .before .before .before .before .before .before .before .pre .0 .1 .few)
+
+add-room-2 : tie.Need-add-room-2
+add-room-2 c = omega (arith, c .before .before .before .before .before .before .before .before .before .before .before .before .before .before .before .before .before .before .before .before .pre .0 .0, c .before .before .before .before .before .before .before .before .before .before .before .before .before .before .before .before .before .before .before .before .pre .0 .1 .few)
+
+mul-room-2 : tie.Need-mul-room-2
+mul-room-2 c = omega (arith, c .before .before .before .before .before .before .before .before .before .before .before .before .before .before .before .before .before .before .before .before .pre .0 .0, c .before .before .before .before .before .before .before .before .before .before .before .before .before .before .before .before .before .before .before .before .pre .0 .1 .few)
+
+slice-write-room-2 : tie.Need-slice-write-room-2
+slice-write-room-2 c = simp length-set (omega (arith, c .before .before .before .before .recall .ensures .1 .kept .block .room561, c .before .before .before .before .before .before .before .before .before .before .before .before .before .before .before .before .before .before .before .before .pre .0 .0, c .before .before .before .before .before .before .before .before .before .before .before .before .before .before .before .before .before .before .before .before .pre .0 .1 .few))
+
+add-room-3 : tie.Need-add-room-3
+add-room-3 c = omega (arith, c .before .before .before .before .before .before .before .before .before .before .before .before .before .before .before .before .before .before .before .before .pre .0 .0, c .before .before .before .before .before .before .before .before .before .before .before .before .before .before .before .before .before .before .before .before .pre .0 .1 .few)
+
+mul-room-3 : tie.Need-mul-room-3
+mul-room-3 c = omega (arith, c .before .before .before .before .before .before .before .before .before .before .before .before .before .before .before .before .before .before .before .before .pre .0 .0, c .before .before .before .before .before .before .before .before .before .before .before .before .before .before .before .before .before .before .before .before .pre .0 .1 .few)
+
+slice-write-room-3 : tie.Need-slice-write-room-3
+slice-write-room-3 c = simp length-set (omega (arith, c .before .before .before .before .recall .ensures .1 .kept .block .room561, c .before .before .before .before .before .before .before .before .before .before .before .before .before .before .before .before .before .before .before .before .pre .0 .0, c .before .before .before .before .before .before .before .before .before .before .before .before .before .before .before .before .before .before .before .before .pre .0 .1 .few))
 
 returns : tie.Need-returns
-returns c = (c .before .before .before .before .before .before .before .before .recall .ensures .1, (ap (λ (a : Numbers). set (c .before .before .before .before .before .before .before .before .before .before .before .before .before .before .before .before .before .before .before .before .before .before .before .before .before .before .before .before .before .before .args .ds .now) (c .before .before .before .before .before .before .before .before .before .before .before .before .before .before .before .before .before .before .before .before .before .before .before .before .before .before .before .before .before .before .args .m) (a .depth)) (numbers-with _ _ (c .before .before .before .before .before .before .before .before .before .before .before .before .before .before .before .before .before .before .before .before .before .before .before .before .before .before .before .before .before .before .args .species .now) (c .before .before .before .before .before .before .before .before .before .before .before .before .before .before .before .before .before .before .before .before .before .before .before .before .before .before .before .before .before .before .args .atoms .now) (c .before .before .before .before .before .before .before .before .before .before .before .before .before .before .before .before .before .before .before .before .before .before .before .before .before .before .before .before .before .before .args .m) (c .before .before .before .before .before .before .before .before .before .before .before .before .before .before .before .species-of .ensures) (c .before .before .before .before .before .before .before .before .before .before .before .before .before .species-of2 .ensures) (c .before .before .before .before .before .before .before .before .recall .ensures .0)), (ap (λ (a : Numbers). set (c .before .before .before .before .before .before .before .before .before .before .before .before .before .before .before .before .before .before .before .before .before .before .before .before .before .before .before .before .before .before .args .ss .now) (c .before .before .before .before .before .before .before .before .before .before .before .before .before .before .before .before .before .before .before .before .before .before .before .before .before .before .before .before .before .before .args .m) (a .square)) (numbers-with _ _ (c .before .before .before .before .before .before .before .before .before .before .before .before .before .before .before .before .before .before .before .before .before .before .before .before .before .before .before .before .before .before .args .species .now) (c .before .before .before .before .before .before .before .before .before .before .before .before .before .before .before .before .before .before .before .before .before .before .before .before .before .before .before .before .before .before .args .atoms .now) (c .before .before .before .before .before .before .before .before .before .before .before .before .before .before .before .before .before .before .before .before .before .before .before .before .before .before .before .before .before .before .args .m) (c .before .before .before .before .before .before .before .before .before .before .before .before .before .before .before .species-of .ensures) (c .before .before .before .before .before .before .before .before .before .before .before .before .before .species-of2 .ensures) (c .before .before .before .before .before .before .before .before .recall .ensures .0)), ap (λ (a : Numbers). set (c .before .before .before .before .before .before .before .before .before .before .before .before .before .before .before .before .before .before .before .before .before .before .before .before .before .before .before .before .before .before .args .hs .now) (c .before .before .before .before .before .before .before .before .before .before .before .before .before .before .before .before .before .before .before .before .before .before .before .before .before .before .before .before .before .before .args .m) (a .shift)) (numbers-with _ _ (c .before .before .before .before .before .before .before .before .before .before .before .before .before .before .before .before .before .before .before .before .before .before .before .before .before .before .before .before .before .before .args .species .now) (c .before .before .before .before .before .before .before .before .before .before .before .before .before .before .before .before .before .before .before .before .before .before .before .before .before .before .before .before .before .before .args .atoms .now) (c .before .before .before .before .before .before .before .before .before .before .before .before .before .before .before .before .before .before .before .before .before .before .before .before .before .before .before .before .before .before .args .m) (c .before .before .before .before .before .before .before .before .before .before .before .before .before .before .before .species-of .ensures) (c .before .before .before .before .before .before .before .before .before .before .before .before .before .species-of2 .ensures) (c .before .before .before .before .before .before .before .before .recall .ensures .0)))))
+returns c = numbered-at _ _ (c .before .before .before .before .before .before .before .before .before .before .before .before .before .before .before .before .before .before .before .before .args .species .now) (c .before .before .before .before .before .before .before .before .before .before .before .before .before .before .before .before .before .before .before .before .args .table .now) (c .before .before .before .before .before .before .before .before .before .before .before .before .before .before .before .before .before .before .before .before .args .from) (c .before .before .before .before .before .before .before .before .before .before .before .before .before .before .before .before .before .before .before .before .args .m) (omega (arith, c .before .before .before .before .before .before .before .before .before .before .before .before .before .before .before .before .before .before .before .before .pre .0 .0, c .before .before .before .before .before .before .before .before .before .before .before .before .before .before .before .before .before .before .before .before .pre .0 .1 .few)) (c .before .before .before .before .before .before .before .before .before .before .first-of .ensures) (c .before .before .before .before .before .before .before .before .second-of .ensures) (c .before .before .before .before .before .before .before .before .before .species-of .ensures) (c .before .before .before .before .before .before .before .species-of2 .ensures) (c .before .before .before .before .recall .ensures .0) (c .before .before .before .before .recall .ensures .1)
 
 pub number-at-spec : {M : Type 1} → statement M
 number-at-spec =
@@ -34,25 +50,21 @@ number-at-spec =
     (tie.spec
     (λ c. search needs)
     (λ c. search needs)
-    (λ c. search needs)
+    add-k
+    first-of-requires
     (λ c κs. search needs)
-    (λ c. search needs)
-    (λ c. search needs)
-    (λ c. search needs)
-    (λ c. search needs)
+    second-of-requires
     (λ c κs. search needs)
     (λ c κs. search needs)
-    mul-ds
-    slice-write-ds
-    mul-ss
-    slice-write-ss
-    mul-hs
-    slice-write-hs
-    (λ c. search needs)
-    (λ c. search needs)
-    (λ c. search needs)
-    (λ c. search needs)
-    (λ c. search needs)
+    add-room
+    mul-room
+    slice-write-room
+    add-room-2
+    mul-room-2
+    slice-write-room-2
+    add-room-3
+    mul-room-3
+    slice-write-room-3
     (λ c. search needs)
     (λ c. search needs)
     returns)
