@@ -1,4 +1,5 @@
--- What lies between two differences that have one step has it too (`steady-law`): by the order, as `Keeps` has it. Assumes nothing.
+-- What lies between two differences that have one step has it too, of one place with many (`steady-law`) and of many with many (`shared-law`): by the
+-- order, as `Keeps` has it. Assumes nothing.
 use mathlib.Core.Path.{_≡_, refl, sym, ap, _∙_, subst}
 use mathlib.Core.Logic.{_⊎_, inl, inr}
 use mathlib.Core.Bool.{Bool, true, false, not, cond, _&&_, _||_, false≢true}
@@ -18,9 +19,9 @@ use Rattle.float.proofs.Branches.{yes, both-true, sign-fits}
 use Rattle.cell_axis.specs.Image.{shiftOf}
 use Rattle.cell_axis.proofs.Double.{double-below, double-reaches}
 use Rattle.cell_axis.proofs.Twice.{twice}
-use Rattle.cell_square.specs.Square.{square, smallerOf, inHalf, steadyOf, stepOf, OneStep, SteadySays, calmOf, CalmSays}
+use Rattle.cell_square.specs.Square.{square, smallerOf, inHalf, steadyOf, stepOf, OneStep, SteadySays, SharedSteady, calmOf, CalmSays}
 use Rattle.cell_square.proofs.Law.{picked, by-number, either-way}
-use Rattle.cell_square.proofs.Keeps.{Before, before-of-le, between-finite, difference-amid}
+use Rattle.cell_square.proofs.Keeps.{Before, before-self, before-of-le, le-of-before, le-through, sub-finite, between-finite, difference-amid, differences-amid}
 
 -- ---- fractions: x / p ≤ y / q < z / r
 fraction-below : (x p y q z r : ℕ) → 0 < p → x * q ≤ y * p → y * r < z * q → x * r < z * p
@@ -273,14 +274,16 @@ pub record Ordered (a b lo hi : Float) : Type 0 where
   pub first : Before (a ⊖ hi) (a ⊖ b)
   pub second : Before (a ⊖ b) (a ⊖ lo)
 
-pub differences : (l a b lo hi : Float) → le lo b ≡ true → le b hi ≡ true → steadyOf l (a ⊖ hi) (a ⊖ lo) ≡ true → Ordered a b lo hi
-differences l a b lo hi p q h =
-    let w = small-ends l (a ⊖ hi) (a ⊖ lo) h in
-    let x = small-finite (a ⊖ hi) l (w .low) in
-    let y = small-finite (a ⊖ lo) l (w .high) in
+ordered : (a b lo hi : Float) → T (finite (a ⊖ hi)) → T (finite (a ⊖ lo)) → le lo b ≡ true → le b hi ≡ true → Ordered a b lo hi
+ordered a b lo hi x y p q =
     let d = difference-amid a b lo hi x y (yes p) (yes q) in
     let m = between-finite (a ⊖ hi) (a ⊖ b) (a ⊖ lo) x y (d .low) (d .high) in
     record { low = x; mid = m; high = y; first = before-of-le (a ⊖ hi) (a ⊖ b) x m (d .low); second = before-of-le (a ⊖ b) (a ⊖ lo) m y (d .high) }
+
+pub differences : (l a b lo hi : Float) → le lo b ≡ true → le b hi ≡ true → steadyOf l (a ⊖ hi) (a ⊖ lo) ≡ true → Ordered a b lo hi
+differences l a b lo hi p q h =
+    let w = small-ends l (a ⊖ hi) (a ⊖ lo) h in
+    ordered a b lo hi (small-finite (a ⊖ hi) l (w .low)) (small-finite (a ⊖ lo) l (w .high)) p q
 
 pub steady-law : (l a b lo hi : Float) → T (fits binary64 l) → lt l (inf false) ≡ true → le lo b ≡ true → le b hi ≡ true → steadyOf l (a ⊖ hi) (a ⊖ lo) ≡ true → OneStep l a b (stepOf l (a ⊖ hi) (a ⊖ lo))
 steady-law l a b lo hi F fine p q h =
@@ -292,6 +295,33 @@ steady-law l a b lo hi F fine p q h =
 
 pub steady-says : (l a lo hi : Float) (r : Bool) → T (fits binary64 l) → r ≡ steadyOf l (a ⊖ hi) (a ⊖ lo) → SteadySays l a lo hi r
 steady-says l a lo hi r F e = record { is = e; each = λ t fine b p q. steady-law l a b lo hi F fine p q (sym e ∙ t) }
+
+-- ---- the differences of the places from c up to d and those from lo up to hi
+module _ (l c a d lo b hi : Float) (p : le c a ≡ true) (q : le a d ≡ true) (r : le lo b ≡ true) (t : le b hi ≡ true) (h : steadyOf l (c ⊖ hi) (d ⊖ lo) ≡ true) where
+  end-low : T (finite (c ⊖ hi))
+  end-low = small-finite (c ⊖ hi) l (small-ends l (c ⊖ hi) (d ⊖ lo) h .low)
+
+  end-high : T (finite (d ⊖ lo))
+  end-high = small-finite (d ⊖ lo) l (small-ends l (c ⊖ hi) (d ⊖ lo) h .high)
+
+  -- those of a with both ends of the others
+  pub shared-differences : Ordered a b lo hi
+  shared-differences =
+      let H = sub-finite c hi end-low .1 in
+      let L = sub-finite d lo end-high .1 in
+      let w = le-through lo b hi (yes r) (yes t) in
+      let x = differences-amid c a d lo hi hi end-low end-high (yes p) (yes q) w (le-of-before hi hi H H (before-self hi)) in
+      let y = differences-amid c a d lo lo hi end-low end-high (yes p) (yes q) (le-of-before lo lo L L (before-self lo)) w in
+      ordered a b lo hi (between-finite (c ⊖ hi) (a ⊖ hi) (d ⊖ lo) end-low end-high (x .low) (x .high)) (between-finite (c ⊖ hi) (a ⊖ lo) (d ⊖ lo) end-low end-high (y .low) (y .high)) r t
+
+  pub shared-law : T (fits binary64 l) → lt l (inf false) ≡ true → OneStep l a b (stepOf l (c ⊖ hi) (d ⊖ lo))
+  shared-law F fine =
+      let m = differences-amid c a d lo b hi end-low end-high (yes p) (yes q) (yes r) (yes t) in
+      let v = settled l (c ⊖ hi) (a ⊖ b) (d ⊖ lo) F (sub-fits binary64 c hi) (sub-fits binary64 a b) (sub-fits binary64 d lo) fine (m .low) (m .high) h in
+      record { short = v .short; image = λ rising. v .image ∙ either-way l a b (inf false) F rising (v .short) fine }
+
+pub shared-says : (l c d lo hi : Float) (r : Bool) → T (fits binary64 l) → r ≡ steadyOf l (c ⊖ hi) (d ⊖ lo) → SharedSteady l c d lo hi r
+shared-says l c d lo hi r F e = record { is = e; each = λ t fine a b p q u v. shared-law l c a d lo b hi p q u v (sym e ∙ t) F fine }
 
 -- ---- all within a half
 half-short : (l x : Float) → T (fits binary64 l) → T (fits binary64 x) → lt (bits 0) l ≡ true → lt l (inf false) ≡ true → inHalf l x ≡ true → lt (absOf x) l ≡ true
@@ -330,6 +360,9 @@ calm-step : (l u v : Float) → Calm l u v → stepOf l u v ≡ bits 0
 unfolding stepOf
 calm-step l u v c = rw (c .low, c .high)
 
+pub calm-nothing : (l u v : Float) → calmOf l u v ≡ true → stepOf l u v ≡ bits 0
+calm-nothing l u v h = calm-step l u v (calm-is l u v h)
+
 -- so it has one step, which is nothing
 pub record Calmed (l u v : Float) : Type 0 where
   pub steady : true ≡ steadyOf l u v
@@ -345,5 +378,5 @@ calm-says l a lo hi r F e =
     record {
       is = e;
       steady = λ t fine. steady-says l a lo hi true F (calmed l (a ⊖ hi) (a ⊖ lo) F (sub-fits binary64 a hi) (sub-fits binary64 a lo) fine (sym e ∙ t) .steady);
-      step = λ t. calm-step l (a ⊖ hi) (a ⊖ lo) (calm-is l (a ⊖ hi) (a ⊖ lo) (sym e ∙ t));
+      step = λ t. calm-nothing l (a ⊖ hi) (a ⊖ lo) (sym e ∙ t);
     }

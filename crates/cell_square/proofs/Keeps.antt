@@ -1,5 +1,5 @@
 -- Rounding keeps the order, of numbers with a sign: a number is (plusOf - minusOf) / den. Sums and differences of finite numbers keep it (`add-keeps`,
--- `sub-keeps`), and with them the order of floats (`le-through`). Assumes nothing.
+-- `differences-keep`), and with them the order of floats (`le-through`). Assumes nothing.
 use mathlib.Core.Path.{_≡_, refl, sym, ap, _∙_, subst}
 use mathlib.Core.Logic.{_⊎_, inl, inr}
 use mathlib.Core.Bool.{Bool, true, false, not, cond, _&&_, _||_}
@@ -314,10 +314,13 @@ add-keeps x y x' y' p q p' q' h k =
     (mul-pos (den-pos x) (den-pos y)) (mul-pos (den-pos x') (den-pos y')) (add-rounded x y p q) (add-rounded x' y' p' q')
     (summed (plusOf x) (minusOf x) (den x) (plusOf y) (minusOf y) (den y) (plusOf x') (minusOf x') (den x') (plusOf y') (minusOf y') (den y') (h .is) (k .is))
 
--- the more is taken away, the less is left
-pub sub-keeps : (a x y : Float) → T (finite a) → T (finite x) → T (finite y) → Before x y → T (le (sub binary64 a y) (sub binary64 a x))
+-- the more is taken away, and from the less, the less is left
+pub differences-keep : (x y x' y' : Float) → T (finite x) → T (finite y) → T (finite x') → T (finite y') → Before x x' → Before y' y → T (le (sub binary64 x y) (sub binary64 x' y'))
 unfolding sub
-sub-keeps a x y p q r h = add-keeps a (neg y) a (neg x) p (turned-finite y r) p (turned-finite x q) (before-self a) (before-turned x y q r h)
+differences-keep x y x' y' p q p' q' h k = add-keeps x (neg y) x' (neg y') p (turned-finite y q) p' (turned-finite y' q') h (before-turned y' y q' q k)
+
+pub sub-keeps : (a x y : Float) → T (finite a) → T (finite x) → T (finite y) → Before x y → T (le (sub binary64 a y) (sub binary64 a x))
+sub-keeps a x y p q r h = differences-keep a y a x p r p q (before-self a) h
 
 -- ---- what is finite
 pub sub-finite : (x y : Float) → T (finite (sub binary64 x y)) → T (finite x) × T (finite y)
@@ -348,6 +351,18 @@ between-finite (fin s m e) (fin t n d) z p q h k = tt
 pub record Amid (l x h : Float) : Type 0 where
   pub low : T (le l x)
   pub high : T (le x h)
+
+-- the differences of what lies from c up to d and what lies from lo up to hi
+pub differences-amid : (c a d lo b hi : Float) → T (finite (sub binary64 c hi)) → T (finite (sub binary64 d lo)) → T (le c a) → T (le a d) → T (le lo b) → T (le b hi) → Amid (sub binary64 c hi) (sub binary64 a b) (sub binary64 d lo)
+differences-amid c a d lo b hi x y p q r t =
+    let P = sub-finite c hi x in
+    let Q = sub-finite d lo y in
+    let A = between-finite c a d (P .0) (Q .0) p q in
+    let B = between-finite lo b hi (Q .1) (P .1) r t in
+    record {
+      low = differences-keep c hi a b (P .0) (P .1) A B (before-of-le c a (P .0) A p) (before-of-le b hi B (P .1) t);
+      high = differences-keep a b d lo A B (Q .0) (Q .1) (before-of-le a d A (Q .0) q) (before-of-le lo b (Q .1) B r);
+    }
 
 -- the differences of a and what lies from lo up to hi
 pub difference-amid : (a b lo hi : Float) → T (finite (sub binary64 a hi)) → T (finite (sub binary64 a lo)) → T (le lo b) → T (le b hi) → Amid (sub binary64 a hi) (sub binary64 a b) (sub binary64 a lo)

@@ -1,4 +1,4 @@
--- How far differences of one step are from 0 at least (`gap-law`), and sums of three squares in order (`sums-keep`). Assumes nothing.
+-- How far differences of one step are from 0 at least (`gap-law`, `shared-gap`), and sums of three squares in order (`sums-keep`). Assumes nothing.
 use mathlib.Core.Path.{_≡_, refl, sym, subst}
 use mathlib.Core.Bool.{Bool, true, false, not, cond, _&&_, false≢true}
 use Prim.Native.Nat.{ℕ, _+_, _*_, _≤_, _<_}
@@ -16,7 +16,7 @@ use Rattle.float.proofs.Branches.{zero+, yes}
 use Rattle.cell_square.specs.Square.{square, inHalf, steadyOf, stepOf, gapOf}
 use Rattle.cell_square.proofs.Law.{square-neg}
 use Rattle.cell_square.proofs.Keeps.{Before, before-self, before-of-le, le-through, le-turned, from-zero, add-keeps}
-use Rattle.cell_square.proofs.Between.{small-ends, differences}
+use Rattle.cell_square.proofs.Between.{Ordered, small-ends, differences, shared-differences}
 
 -- ---- from 0 up
 top : (x : Float) → T (le zero+ x) → T (le x (inf false))
@@ -122,19 +122,28 @@ pub steps-finite : (l low high : Float) → T (finite l) → T (finite (stepOf l
 unfolding stepOf
 steps-finite l low high p = step-finite l p (inHalf l low && inHalf l high) (not (inHalf l low) && lt (bits 0) low)
 
-pub gap-law : (l a b lo hi : Float) → lt l (inf false) ≡ true → le lo b ≡ true → le b hi ≡ true → steadyOf l (a ⊖ hi) (a ⊖ lo) ≡ true
-    → Gapped (gapOf (stepOf l (a ⊖ hi) (a ⊖ lo)) (a ⊖ hi) (a ⊖ lo)) (a ⊖ b ⊕ stepOf l (a ⊖ hi) (a ⊖ lo))
-unfolding gapOf stepOf
-gap-law l a b lo hi fine p q h =
+gap-by : (s a b lo hi : Float) → T (finite s) → Ordered a b lo hi → Gapped (gapOf s (a ⊖ hi) (a ⊖ lo)) (a ⊖ b ⊕ s)
+unfolding gapOf
+gap-by s a b lo hi F w =
     let low = a ⊖ hi in
     let high = a ⊖ lo in
-    let w = differences l a b lo hi p q h in
-    let s = stepOf l low high in
-    let F = step-finite l (length-finite l (small-ends l low high h .positive) fine) (inHalf l low && inHalf l high) (not (inHalf l low) && lt (bits 0) low) in
     gapped (low ⊕ s) (a ⊖ b ⊕ s) (high ⊕ s)
     (add-keeps low s (a ⊖ b) s (w .low) F (w .mid) F (w .first) (before-self s))
     (add-keeps (a ⊖ b) s high s (w .mid) F (w .high) F (w .second) (before-self s))
     (lt (bits 0) (low ⊕ s)) (lt (high ⊕ s) (bits 0)) refl refl
+
+pub gap-law : (l a b lo hi : Float) → lt l (inf false) ≡ true → le lo b ≡ true → le b hi ≡ true → steadyOf l (a ⊖ hi) (a ⊖ lo) ≡ true
+    → Gapped (gapOf (stepOf l (a ⊖ hi) (a ⊖ lo)) (a ⊖ hi) (a ⊖ lo)) (a ⊖ b ⊕ stepOf l (a ⊖ hi) (a ⊖ lo))
+gap-law l a b lo hi fine p q h =
+    gap-by (stepOf l (a ⊖ hi) (a ⊖ lo)) a b lo hi (steps-finite l (a ⊖ hi) (a ⊖ lo) (length-finite l (small-ends l (a ⊖ hi) (a ⊖ lo) h .positive) fine))
+    (differences l a b lo hi p q h)
+
+-- .. by a step that the differences of more places have
+pub shared-gap : (l c a d lo b hi : Float) → lt l (inf false) ≡ true → le c a ≡ true → le a d ≡ true → le lo b ≡ true → le b hi ≡ true → steadyOf l (c ⊖ hi) (d ⊖ lo) ≡ true
+    → Gapped (gapOf (stepOf l (c ⊖ hi) (d ⊖ lo)) (a ⊖ hi) (a ⊖ lo)) (a ⊖ b ⊕ stepOf l (c ⊖ hi) (d ⊖ lo))
+shared-gap l c a d lo b hi fine p q r t h =
+    gap-by (stepOf l (c ⊖ hi) (d ⊖ lo)) a b lo hi (steps-finite l (c ⊖ hi) (d ⊖ lo) (length-finite l (small-ends l (c ⊖ hi) (d ⊖ lo) h .positive) fine))
+    (shared-differences l c a d lo b hi p q r t h)
 
 -- ---- sums of what is not negative
 nothing : zero+ ⊕ zero+ ≡ zero+

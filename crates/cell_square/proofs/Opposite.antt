@@ -225,6 +225,11 @@ opposite-square x y (inr e) = rw (e .0 .1, e .1 .1) (same (e .0 .0) (e .1 .0))
     same false true = unfold mul in refl
     same false false = refl
 
+-- a difference with a step, and the other way round
+pub stepped-square : (a b p : Float) → square (b ⊖ a ⊖ p) ≡ square (a ⊖ b ⊕ p)
+unfolding sub
+stepped-square a b p = sym (opposite-square (a ⊖ b ⊕ p) (b ⊖ a ⊖ p) (opposite-sum (a ⊖ b) p (b ⊖ a) (neg p) (opposite-sub a b) (inl refl)))
+
 -- ---- the image of a fraction
 abbrev one : Float
 one = bits 0x3ff0_0000_0000_0000

@@ -1,10 +1,10 @@
--- A product with a zero may be left out of a sum, where only the magnitude is asked (`drop-zero`); and what is less than 1 away from 0, a step of 1 added,
--- is finite (`stepped-finite`). Assumes nothing.
+-- A product with a zero may be left out of a sum, where only the magnitude is asked (`drop-zero`), and so may a step of nothing (`still-square`); and what
+-- is less than 1 away from 0, a step of 1 added, is finite (`stepped-finite`). Assumes nothing.
 use mathlib.Core.Path.{_≡_, refl, sym, ap, _∙_}
 use mathlib.Core.Logic.{inl, inr}
 use mathlib.Core.Bool.{Bool, true, false, not, cond, _&&_, false≢true}
 use Prim.Native.Nat.{ℕ, _+_, _-_, _*_}
-use native.Mathlib.Nat.{mul-pos, one-mul, zero-mul, zero-lt-suc}
+use native.Mathlib.Nat.{mul-pos, mul-one, one-mul, zero-mul, zero-lt-suc}
 use native.Mathlib.Omega.{arith}
 use lib.IntN.{ℤ, pos}
 use lib.Dec.{T, eqb, eqb→eq}
@@ -16,10 +16,10 @@ use Rattle.float.specs.Def.{absOf}
 use Rattle.float.specs.Arith.{_⊕_, _⊗_, bits}
 use Rattle.float.proofs.Branches.{zero+, IsZero, yes}
 use Rattle.float.proofs.Unique.{round-own}
-use Rattle.cell_square.specs.Square.{stepOf, inHalf}
-use Rattle.cell_square.proofs.Law.{under-zero}
+use Rattle.cell_square.specs.Square.{square, stepOf, inHalf}
+use Rattle.cell_square.proofs.Law.{square-neg, under-zero}
 use Rattle.cell_square.proofs.Keeps.{plusOf, minusOf, Rounded, le-through, le-turned, add-rounded, between-finite, Amid}
-use Rattle.cell_square.proofs.Opposite.{Opposite, rounded-opposite, null}
+use Rattle.cell_square.proofs.Opposite.{Opposite, rounded-opposite, opposite-square, null}
 use Rattle.cell_square.proofs.Spread.{le-of-lt, add-amid}
 
 -- ---- a float is what it rounds to
@@ -85,6 +85,34 @@ null-sum a b = rw (a .1, b .1) (zeros-sum (a .0) (b .0))
 pub drop-zero : {z p q : Float} → IsZero z → T (fits binary64 p) → Opposite p q → Opposite (z ⊕ p) q
 drop-zero {z} {p} {q} a F (inl e) = rw (a .1, e) (zero-left (a .0) p F)
 drop-zero {z} {p} {q} a F (inr e) = inr (null-sum a (e .0), e .1)
+
+-- ---- p + 0
+cross-last : (A B Z d : ℕ) → A ≡ B → Z ≡ 0 → A * (d * 1) ≡ (B * 1 + Z * d) * d
+cross-last A B Z d e f = ap (λ (k : ℕ). A * k) (mul-one d) ∙ ap (λ (k : ℕ). k * d) (flat A B Z d e f)
+  where
+    flat : (A B Z d : ℕ) → A ≡ B → Z ≡ 0 → A ≡ B * 1 + Z * d
+    flat A B Z d e f = omega (arith, e, ap (λ (k : ℕ). k * d) f, zero-mul d)
+
+plus-zero : (t s : Bool) (m : ℕ) (e : ℤ) → T (fits binary64 (fin (not s) m e)) → Opposite (fin s m e ⊕ fin t 0 (pos 0)) (fin (not s) m e)
+plus-zero t s m e G =
+    let z = fin t 0 (pos 0) in
+    let p = fin s m e in
+    let n = fin (not s) m e in
+    rounded-opposite (p ⊕ z) n (plusOf p * 1 + plusOf z * down e) (minusOf p * 1 + minusOf z * down e) (down e * 1) (plusOf n) (minusOf n) (down e)
+    (mul-pos (down-pos e) (zero-lt-suc 0)) (down-pos e) (add-rounded p z tt tt) (own-rounded n tt G)
+    (cross-last (plusOf n) (minusOf p) (minusOf z) (down e) (plus-not s m e) (no-minus t))
+    (cross-last (minusOf n) (plusOf p) (plusOf z) (down e) (minus-not s m e) (no-plus t))
+
+zero-last : (t : Bool) (p : Float) → T (fits binary64 p) → Opposite (p ⊕ fin t 0 (pos 0)) (neg p)
+unfolding neg
+zero-last t nan F = inl (unfold add in refl)
+zero-last t (inf s) F = inl (unfold add in refl)
+zero-last t (fin s m e) F = plus-zero t s m e (neg-fits binary64 (fin s m e) F)
+
+-- a step of nothing leaves the square
+pub still-square : (x : Float) → T (fits binary64 x) → square (x ⊕ bits 0) ≡ square x
+unfolding ofBits
+still-square x F = opposite-square (x ⊕ bits 0) (neg x) (zero-last false x F) ∙ square-neg x
 
 -- ---- a product with a zero is one
 is-null : (a b : ℕ) (c : Bool) → T (eqb (a * 1) (0 * 1 * b) && c) → a ≡ 0

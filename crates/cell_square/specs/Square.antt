@@ -42,6 +42,11 @@ pub record SteadySays (len a lo hi : Float) (r : Bool) : Type 0 where
   pub is : r ≡ steadyOf len (a ⊖ hi) (a ⊖ lo)
   pub each : r ≡ true → lt len (inf false) ≡ true → (b : Float) → le lo b ≡ true → le b hi ≡ true → OneStep len a b (stepOf len (a ⊖ hi) (a ⊖ lo))
 
+-- .. of all places from c up to d and those from lo up to hi
+pub record SharedSteady (len c d lo hi : Float) (r : Bool) : Type 0 where
+  pub is : r ≡ steadyOf len (c ⊖ hi) (d ⊖ lo)
+  pub each : r ≡ true → lt len (inf false) ≡ true → (a b : Float) → le c a ≡ true → le a d ≡ true → le lo b ≡ true → le b hi ≡ true → OneStep len a b (stepOf len (c ⊖ hi) (d ⊖ lo))
+
 -- the common case, which asks less: all within a half of a length. The step is nothing then
 abbrev pub calmOf : Float → Float → Float → Bool
 calmOf len low high = lt (bits 0) len && inHalf len low && inHalf len high

@@ -6,7 +6,7 @@ ghost use mathlib.Core.Bool.{cond};
 ghost use lib.Ieee.{lt};
 ghost use Rattle.float.specs.Def.{absOf};
 ghost use Rattle.float.specs.Arith.{_⊖_};
-ghost use Rattle.cell_square.specs.Square.{SideSays, inHalf, steadyOf, stepOf, SteadySays, calmOf, CalmSays, nearerOf, gapOf, lowTimes, highTimes, lowSum, highSum};
+ghost use Rattle.cell_square.specs.Square.{SideSays, inHalf, steadyOf, stepOf, SteadySays, SharedSteady, calmOf, CalmSays, nearerOf, gapOf, lowTimes, highTimes, lowSum, highSum};
 
 // |x| as the larger of x and 0 - x: in a loop one instruction after the difference, where `float::abs` has five.
 fn magnitude(x: f64) -> f64
@@ -56,6 +56,13 @@ pub fn steady(len: f64, a: f64, lo: f64, hi: f64) -> bool
     ensures { λ r. ⌜ SteadySays len a lo hi r ⌝ }
 {
     is_steady(len, a - hi, a - lo)
+}
+
+// .. of all places from c up to d.
+pub fn shared_steady(len: f64, c: f64, d: f64, lo: f64, hi: f64) -> bool
+    ensures { λ r. ⌜ SharedSteady len c d lo hi r ⌝ }
+{
+    is_steady(len, c - hi, d - lo)
 }
 
 fn pick(test: bool, a: f64, b: f64) -> f64

@@ -1,10 +1,9 @@
 // The exclusion table as the frames ask it. No public call: every function is total on any table.
 use crate::table::is_at;
-use crate::table::place_from;
 use crate::table::place_of;
 ghost use mathlib.Core.Path.{_≡_};
 ghost use Rattle.lists.specs.Lists.{rows};
-ghost use Rattle.exclusions.specs.Table.{isTable, lookedUp, lookedFrom};
+ghost use Rattle.exclusions.specs.Table.{isTable, lookedUp};
 
 // Refusal 5 does not apply: the rows are strictly ascending, each low before high.
 pub fn is_table(table: &[u32]) -> bool
@@ -19,12 +18,4 @@ pub fn excluded(table: &[u32], low: u32, high: u32) -> bool
 {
     let n = table.len() / 2;
     is_at(table, n, place_of(table, n, low, high), low, high)
-}
-
-// The same from a row on, row by row: for a pair that no earlier row can be.
-pub fn excluded_from(table: &[u32], from: usize, low: u32, high: u32) -> bool
-    ensures { λ r. ⌜ r ≡ lookedFrom (now (table .entry)) from low high ⌝ }
-{
-    let n = table.len() / 2;
-    is_at(table, n, place_from(table, from, low, high), low, high)
 }

@@ -14,7 +14,8 @@ fn is_far_long(p: Prepared, limit: f64, a: Vec3, b: Vec3) -> bool
     limit < vectors::norm2(d)
 }
 
-fn is_bounded(l: Vec3) -> bool
+// Whether no length is an infinity.
+pub fn is_bounded(l: Vec3) -> bool
     ensures { λ r. ⌜ r ≡ bounded l ⌝ }
 {
     (l.x < 1e300) & (l.y < 1e300) & (l.z < 1e300)

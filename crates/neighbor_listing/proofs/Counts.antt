@@ -33,8 +33,8 @@ use Rattle.neighbor_grid.specs.Layout.{touchingRows}
 use Rattle.neighbor_grid.proofs.Layouts.{good-grid, placed}
 use Rattle.neighbor_listing.specs.declared.Listed.{Listed}
 use Rattle.neighbor_listing.specs.Listed.{shownOf}
-use Rattle.neighbor_listing.proofs.Leading.{looked-in}
-use Rattle.neighbor_listing.specs.Steps.{seesOf, Firsts, lookedBy, sceneBy, sightOf, atomsBy, Swept, Gridded}
+use Rattle.neighbor_listing.proofs.Partners.{looked-in}
+use Rattle.neighbor_listing.specs.Steps.{seesOf, Tops, lookedBy, sceneBy, sightOf, atomsBy, Swept, Gridded}
 
 -- ---- the loops' scene is the outcome's, the near test first
 seen-is : (cell : Cell) (r : Float) (xs : List Float) (low high : ℕ) → seesOf (sightOf cell r) (positionAt xs low) (positionAt xs high) ≡ nearOf cell r xs low high
@@ -42,15 +42,15 @@ unfolding seesOf nearOf sightOf
 seen-is cell r xs low high = ap (λ (i : Image). le (norm2Of (i .diff)) (r ⊗ r)) (prepared-image cell (subOf (positionAt xs low) (positionAt xs high)))
 
 module _ (cell : Cell) (r : Float) (xs : List Float) (table : List ℕ) (h : isTable (rows table) ≡ true) where
-  scene-is : (firsts : List ℕ) → Firsts table firsts → lookedBy (sightOf cell r) xs firsts table ≡ sceneOf cell r xs table
+  scene-is : (tops : List ℕ) → Tops table tops → lookedBy (sightOf cell r) xs tops table ≡ sceneOf cell r xs table
   unfolding lookedBy sceneOf
-  scene-is firsts w = λ i. record { excluded = λ low high. looked-in table firsts h w low high i; near = λ low high. seen-is cell r xs low high i }
+  scene-is tops w = λ i. record { excluded = λ low high. looked-in table tops w low high h i; near = λ low high. seen-is cell r xs low high i }
 
   -- ---- what any run finds
-  module _ {s : Sight} (es : s ≡ sightOf cell r) {firsts : List ℕ} (w : Firsts table firsts) {old : List ℕ} {cands : List (ℕ × ℕ)} {t : Tally} {m : List ℕ} (all : cands ≡ candidates cell r xs) (z : Ended (lookedBy s xs firsts table) old cands t m) where
-    found-is : foundOf (lookedBy s xs firsts table) cands ≡ nearPairs cell r xs table
+  module _ {s : Sight} (es : s ≡ sightOf cell r) {tops : List ℕ} (w : Tops table tops) {old : List ℕ} {cands : List (ℕ × ℕ)} {t : Tally} {m : List ℕ} (all : cands ≡ candidates cell r xs) (z : Ended (lookedBy s xs tops table) old cands t m) where
+    found-is : foundOf (lookedBy s xs tops table) cands ≡ nearPairs cell r xs table
     unfolding nearPairs
-    found-is = rw (es, scene-is firsts w, all)
+    found-is = rw (es, scene-is tops w, all)
 
     pub run-count : t .count ≡ length (nearPairs cell r xs table)
     run-count = z .count ∙ ap length found-is
@@ -85,25 +85,25 @@ pub record Ran (cell : Cell) (r : Float) (xs : List Float) (table old : List ℕ
   pub few : t .checks < 4294967296
   pub same : length m ≡ length old
 
-module _ (cell : Cell) (r : Float) (xs : List Float) (table : List ℕ) (h : isTable (rows table) ≡ true) (few : atomsOf xs ≤ 16384) {s : Sight} (es : s ≡ sightOf cell r) {firsts : List ℕ} (w : Firsts table firsts) (old : List ℕ) {t : Tally} {m : List ℕ} where
-  ran : {cands : List (ℕ × ℕ)} {e : ℕ} → cands ≡ candidates cell r xs → Ended (lookedBy s xs firsts table) old cands t m → length (candidates cell r xs) ≡ checksOf cell r xs table + e → Ran cell r xs table old t m e
+module _ (cell : Cell) (r : Float) (xs : List Float) (table : List ℕ) (h : isTable (rows table) ≡ true) (few : atomsOf xs ≤ 16384) {s : Sight} (es : s ≡ sightOf cell r) {tops : List ℕ} (w : Tops table tops) (old : List ℕ) {t : Tally} {m : List ℕ} where
+  ran : {cands : List (ℕ × ℕ)} {e : ℕ} → cands ≡ candidates cell r xs → Ended (lookedBy s xs tops table) old cands t m → length (candidates cell r xs) ≡ checksOf cell r xs table + e → Ran cell r xs table old t m e
   ran {cands} {e} all z q =
       let k = run-all cell r xs table h es w all z in
       record {
         count = run-count cell r xs table h es w all z;
         left = omega (arith, k, q);
         mem = run-mem cell r xs table h es w all z;
-        order = omega (arith, z .order, z .all, length-keep (free (lookedBy s xs firsts table)) cands);
+        order = omega (arith, z .order, z .all, length-keep (free (lookedBy s xs tops table)) cands);
         fits = omega (arith, k, q);
         few = z .few;
         same = z .same;
       }
 
   module _ (p : plainOf cell r xs ≡ true) where
-    pub plain-ran : record { tally = t; mem = m } ≡ listOf (sceneBy s xs firsts table) (emptyListing old) (allPairs (atomsOf xs)) → {e : ℕ} → e ≡ rowsBelow (atomsOf xs) (rows table) → Ran cell r xs table old t m e
+    pub plain-ran : record { tally = t; mem = m } ≡ listOf (sceneBy s xs tops table) (emptyListing old) (allPairs (atomsOf xs)) → {e : ℕ} → e ≡ rowsBelow (atomsOf xs) (rows table) → Ran cell r xs table old t m e
     unfolding sceneBy
     plain-ran q is =
-        ran (plain-cands cell r xs p) (ended (lookedBy s xs firsts table) old (allPairs (atomsOf xs)) t m q (plain-ready (lookedBy s xs firsts table) (atomsOf xs) few))
+        ran (plain-cands cell r xs p) (ended (lookedBy s xs tops table) old (allPairs (atomsOf xs)) t m q (plain-ready (lookedBy s xs tops table) (atomsOf xs) few))
         (plain-all cell r xs table h p ∙ ap (λ (k : ℕ). checksOf cell r xs table + k) (sym is))
 
 module _ {cell : Cell} {r : Float} {xs : List Float} {table : List ℕ} {g : Grid} {e : ℕ} {starts items : List ℕ} (w : Gridded cell r xs table g e starts items) where
@@ -125,12 +125,12 @@ module _ {cell : Cell} {r : Float} {xs : List Float} {table : List ℕ} {g : Gri
         rw grid-atoms
         (binned-ready (sceneOf cell r xs table) (gridOf cell r xs) (good-grid cell r xs (w .wide)) (atomsOf xs) (cellAt cell r xs) (placed cell r xs) few)
 
-    pub grid-ran : isTable (rows table) ≡ true → {s : Sight} → s ≡ sightOf cell r → {firsts : List ℕ} → Firsts table firsts → (old : List ℕ) {t : Tally} {m : List ℕ}
-        → record { tally = t; mem = m } ≡ listOf (sceneBy s xs firsts table) (emptyListing old) (pairsOf g (atomsBy g starts items)) → Ran cell r xs table old t m e
+    pub grid-ran : isTable (rows table) ≡ true → {s : Sight} → s ≡ sightOf cell r → {tops : List ℕ} → Tops table tops → (old : List ℕ) {t : Tally} {m : List ℕ}
+        → record { tally = t; mem = m } ≡ listOf (sceneBy s xs tops table) (emptyListing old) (pairsOf g (atomsBy g starts items)) → Ran cell r xs table old t m e
     unfolding sceneBy touchingRows
-    grid-ran h {s} es {firsts} v old {t} {m} q =
+    grid-ran h {s} es {tops} v old {t} {m} q =
         ran cell r xs table h few es v old grid-cands
-        (ended (lookedBy s xs firsts table) old (pairsOf g (atomsBy g starts items)) t m q grid-ready)
+        (ended (lookedBy s xs tops table) old (pairsOf g (atomsBy g starts items)) t m q grid-ready)
         (grid-all cell r xs table h (w .wide) (good-grid cell r xs (w .wide)) (placed cell r xs) ∙ ap (λ (k : ℕ). checksOf cell r xs table + k) (sym (w .counted)))
 
 pub shown-is : {a : Listed} {count checks room c k l : ℕ} (fallback : Bool) → a ≡ shownOf count checks room fallback → count ≡ c → checks ≡ k → room ≡ l → a ≡ shownOf c k l fallback

@@ -1,6 +1,6 @@
 -- The loops over atoms side by side: their places, their flags, those whose flag is 1, and what these list. Assumes nothing.
 use Prim.Native.Nat.{ℕ, suc, _+_, _-_, _≤_, _<_}
-use mathlib.Core.Path.{_≡_, refl, sym, ap, _∙_}
+use mathlib.Core.Path.{_≡_, refl, sym, ap, _∙_, subst}
 use mathlib.Core.Logic.{_⊎_, inl, inr}
 use mathlib.Core.Bool.{Bool, true, false, cond, _&&_}
 use mathlib.Core.List.{List, [], _∷_, _++_}
@@ -24,7 +24,7 @@ use Rattle.neighbor_listing.specs.declared.sight.Sight.{Sight}
 use Rattle.neighbor_listing.specs.Steps.{nearTo, sceneBy, chosenBy}
 use Rattle.neighbor_listing.specs.declared.side.Bounds.{Bounds}
 use Rattle.neighbor_listing.specs.declared.side.Reach.{Reach}
-use Rattle.neighbor_listing.specs.Sides.{SideRooms, spotIn, LaidOut, Enclosed, isEnclosed, AllEnclosed, Bounded, Reaches, turned, seesApart, boxHolds, BoxSays, tiltedHolds, TiltedSays, sighted, Flagged, Flags, Say, Bits, FlagsTaken}
+use Rattle.neighbor_listing.specs.Sides.{SideRooms, spotIn, LaidOut, Enclosed, isEnclosed, AllEnclosed, Bounded, AllWithin, Framed, Reaches, turned, seesApart, boxHolds, BoxSays, tiltedHolds, TiltedSays, sighted, Flagged, Flags, Say, Bits, FlagsTaken}
 use Rattle.neighbor_listing.proofs.Sifted.{kept-next, most-one, near-is, few-listed, ready-near}
 use Rattle.neighbor_listing.proofs.Shortcuts.{box-turn, tilted-turn, turned-sees}
 
@@ -118,6 +118,39 @@ bounds-are u =
           record { x-low = v .x-low; x-high = v .x-high; y-low = v .y-low; y-high = v .y-high; z-low = v .z-low; z-high = v .z-high };
     }
 
+-- ---- .. of a part's atoms where they lie
+pub within-begin : {xs : List Float} {part : List ℕ} {v : Bounds} → AllWithin xs part 0 v true
+within-begin = record { are = λ e m h. absurd (none m h) }
+  where
+    none : (m : ℕ) → m < 0 → ⊥
+    none m h = omega arith
+
+module _ {xs : List Float} {part : List ℕ} {k : ℕ} {v : Bounds} {ok : Bool} (u : AllWithin xs part k v ok) where
+  pub within-turn : {r : Bool} {b : Vec3} → b ≡ positionAt xs (getD part k 0) → r ≡ isEnclosed v b → AllWithin xs part (k + 1) v (ok && r)
+  within-turn {r} {b} eb e =
+      record {
+        are =
+            λ t m h.
+            let p = both-true ok r t in
+            elim (last-or-before m k h) [ inl z ↦ rw (z, ← eb) (enclosed-is v b (sym e ∙ p .1)) | inr z ↦ u .are (p .0) m z ];
+      }
+
+  pub within-end : length part ≤ k → AllWithin xs part (length part) v ok
+  within-end h = record { are = λ t m q. u .are t m (omega (arith, h, q)) }
+
+pub frame-is : {xs : List Float} {part : List ℕ} {v : Bounds} {r : Bool} → AllWithin xs part (length part) v r → Framed xs part (record { lo = v .lo; hi = v .hi; sound = r })
+frame-is u =
+    record {
+      are =
+          λ t m h.
+          let e = u .are t m h in
+          record { x-low = e .x-low; x-high = e .x-high; y-low = e .y-low; y-high = e .y-high; z-low = e .z-low; z-high = e .z-high };
+    }
+
+-- .. and of those that are laid out
+pub laid-framed : {xs bx by bz : List Float} {part : List ℕ} {w : Bounds} → LaidOut xs part bx by bz (length part) → Bounded bx by bz (length part) w → Framed xs part w
+laid-framed {w = w} u n = record { are = λ t m h. subst (λ (b : Vec3). Enclosed w b) (u .are m h) (n .are t m h) }
+
 -- ---- the flags: those from `from` up to k are set
 pub record Flagging (s : Sight) (i : ℕ) (a : Vec3) (part : List ℕ) (bx by bz : List Float) (start now : List ℕ) (from k : ℕ) (ok : Bool) : Type 0 where
   pub begun : from ≤ k
@@ -208,10 +241,10 @@ module _ (s : Sight) (xs : List Float) (i : ℕ) (part : List ℕ) {bx by bz : L
     pub kept-ready : {t : Tally} → Ready t (length (withEach i (drop from part))) → Ready t (length (withEach i (take count room)))
     kept-ready h = ready-near i (nearTo s xs i) (take count room) (drop from part) kept-near h
 
-    pub side-listed : (firsts table : List ℕ) (t q : Tally) (old new : List ℕ)
-        → record { tally = q; mem = new } ≡ listOf (chosenBy firsts table) (record { tally = t; mem = old }) (withEach i (take count room))
-        → record { tally = record { count = q .count; checks = t .checks + (length part - from) }; mem = new } ≡ listOf (sceneBy s xs firsts table) (record { tally = t; mem = old }) (withEach i (drop from part))
-    side-listed firsts table t q old new e = rw (← length-drop from part) (few-listed s xs firsts table i (drop from part) (take count room) t q old new kept-near e)
+    pub side-listed : (tops table : List ℕ) (t q : Tally) (old new : List ℕ)
+        → record { tally = q; mem = new } ≡ listOf (chosenBy tops table) (record { tally = t; mem = old }) (withEach i (take count room))
+        → record { tally = record { count = q .count; checks = t .checks + (length part - from) }; mem = new } ≡ listOf (sceneBy s xs tops table) (record { tally = t; mem = old }) (withEach i (drop from part))
+    side-listed tops table t q old new e = rw (← length-drop from part) (few-listed s xs tops table i (drop from part) (take count room) t q old new kept-near e)
 
 -- ---- none of them is near
 keep-none : (q : ℕ → Bool) (l : List ℕ) → ((m : ℕ) → m < length l → q (getD l m 0) ≡ false) → keep q l ≡ []
@@ -232,10 +265,10 @@ module _ (s : Sight) (xs : List Float) (i : ℕ) (part : List ℕ) {bx by bz : L
         ∙ sym (near-is s xs i j (ltb i j) refl ea (u .are (from + m) l) (turned-sees s (ltb i j) a (spotIn bx by bz (from + m))))
         ∙ w (from + m) l (ltb i j))
 
-    pub none-listed : (firsts table : List ℕ) (t : Tally) (old : List ℕ)
-        → record { tally = record { count = t .count; checks = t .checks + (length part - from) }; mem = old } ≡ listOf (sceneBy s xs firsts table) (record { tally = t; mem = old }) (withEach i (drop from part))
+    pub none-listed : (tops table : List ℕ) (t : Tally) (old : List ℕ)
+        → record { tally = record { count = t .count; checks = t .checks + (length part - from) }; mem = old } ≡ listOf (sceneBy s xs tops table) (record { tally = t; mem = old }) (withEach i (drop from part))
     unfolding withEach
-    none-listed firsts table t old = rw (← length-drop from part) (few-listed s xs firsts table i (drop from part) [] t t old old (sym none-near) refl)
+    none-listed tops table t old = rw (← length-drop from part) (few-listed s xs tops table i (drop from part) [] t t old old (sym none-near) refl)
 
 -- the front of a room of 64
 module _ {part flags room : List ℕ} {from count : ℕ} (g : FlagsTaken part from flags count room) (h : length part ≤ 64) (l : length room ≡ 64) where

@@ -1,7 +1,7 @@
 pub mod Considered
 pub mod Counts
 pub mod Flagging
-pub mod Leading
+pub mod Partners
 pub mod Outcomes
 pub mod Numbered
 pub mod Shortcuts

@@ -7,22 +7,25 @@ use mathlib.Core.List.{List}
 use native.Mathlib.Omega.{arith}
 use borrow.Author.Tests.{not-true, ltb-false}
 use lib.Dec.{T, ltb, ltb→lt, not-T}
+use lib.ListN.{length, getD}
 use lib.IntN.{ℤ}
 use lib.Ieee.{Float, nan, inf, fin, binary64, up, down, lt, le, fits, ofBits}
 use lib.Ieee.Bits.{is-false}
-use lib.Ieee.Fits.{add-fits}
+use lib.Ieee.Fits.{add-fits, sub-fits}
 use Rattle.float.specs.Arith.{_⊕_, _⊖_, _⊗_, bits, at, row}
 use Rattle.float.specs.Def.{absOf}
 use Rattle.float.proofs.Branches.{both-true, yes}
 use Rattle.cell_axis.specs.Image.{nearestOf, fractionOf, nearAxisOf, NearSays}
 use Rattle.cell_axis.proofs.Law.{bounded, near-apart}
 use Rattle.cell_axis.proofs.Unit.{nearest-one}
-use Rattle.cell_square.specs.Square.{SideSays, OneStep, SteadySays, CalmSays}
+use Rattle.cell_square.specs.Square.{stepOf, calmOf, gapOf, SideSays, OneStep, SteadySays, SharedSteady, CalmSays}
 use Rattle.cell_square.proofs.Law.{abs-turned}
-use Rattle.cell_square.proofs.Least.{gap-law, sums-keep}
-use Rattle.cell_square.proofs.Opposite.{Opposite, opposite-sub, opposite-three, opposite-abs, opposite-square, near-opposite}
+use Rattle.cell_square.proofs.Least.{Gapped, gap-law, shared-gap, sums-keep}
+use Rattle.cell_square.proofs.Opposite.{Opposite, opposite-sub, opposite-three, opposite-abs, opposite-square, stepped-square, near-opposite}
+use Rattle.cell_square.proofs.Between.{calm-nothing}
+use Rattle.cell_square.proofs.Zeros.{still-square}
 use Rattle.cell.specs.declared.Vec3.{Vec3}
-use Rattle.cell.specs.Vec.{subOf, dotOf, norm2Of}
+use Rattle.cell.specs.Vec.{subOf, dotOf, norm2Of, positionAt}
 use Rattle.cell.specs.Matrix.{Matrix, matrixOf, timesRow, timesOf}
 use Rattle.cell.specs.Cell.{roundAxisOf}
 use Rattle.cell.specs.General.{generalBy, imageBy, roundedBy}
@@ -31,7 +34,8 @@ use Rattle.neighbor_listing.specs.declared.sight.Sight.{Sight}
 use Rattle.neighbor_listing.specs.Steps.{seesOf}
 use Rattle.neighbor_listing.specs.declared.side.Bounds.{Bounds}
 use Rattle.neighbor_listing.specs.declared.side.Reach.{Reach}
-use Rattle.neighbor_listing.specs.Sides.{spotIn, turned, seesApart, isFinite, boxHolds, BoxSays, Enclosed, Bounded, steppedSees, stepIn, gapIn, isBeyond, SingleSays, StillSays, ReachSays, Reaches, fractionsOf, inUnit, isTilted, tiltedHolds, TiltedSays}
+use Rattle.neighbor_asked.specs.Strays.{bounded as isBounded}
+use Rattle.neighbor_listing.specs.Sides.{spotIn, turned, seesApart, boxHolds, BoxSays, Enclosed, Bounded, steppedSees, noStep, stillSees, stepIn, gapIn, isBeyond, SingleSays, StillSays, SharedAt, SharedSays, Framed, Shares, ReachSays, Reaches, fractionsOf, inUnit, isTilted, tiltedHolds, TiltedSays}
 
 abbrev pub one : Float
 one = bits 0x3ff0_0000_0000_0000
@@ -44,6 +48,28 @@ pub record Three (a b c : Bool) : Type 0 where
 
 three : (a b c : Bool) → a && b && c ≡ true → Three a b c
 three a b c h = let p = both-true (a && b) c h in let q = both-true a b (p .0) in record { x = q .0; y = q .1; z = p .1 }
+
+-- five, of two bounds' soundness, the lengths and the axes
+record Five (a f i j k : Bool) : Type 0 where
+  sound : a ≡ true
+  fine : f ≡ true
+  x : i ≡ true
+  y : j ≡ true
+  z : k ≡ true
+
+five : (a f x y z : Bool) → a && f && x && y && z ≡ true → Five a f x y z
+five a f x y z h =
+    let p3 = both-true (a && f && x && y) z h in
+    let p2 = both-true (a && f && x) y (p3 .0) in
+    let p1 = both-true (a && f) x (p2 .0) in
+    let p0 = both-true a f (p1 .0) in
+    record { sound = p0 .0; fine = p0 .1; x = p1 .1; y = p2 .1; z = p3 .1 }
+
+-- lengths that are no infinity
+lengths : (l : Vec3) → isBounded l ≡ true → Three (lt (l .x) (inf false)) (lt (l .y) (inf false)) (lt (l .z) (inf false))
+lengths l h =
+    let g = three (lt (l .x) huge) (lt (l .y) huge) (lt (l .z) huge) h in
+    record { x = bounded (l .x) huge (g .x); y = bounded (l .y) huge (g .y); z = bounded (l .z) huge (g .z) }
 
 -- ---- a box
 short-is : (len x : Float) → lt len huge ≡ true → shortAxis len x ≡ nearestOf len x
@@ -76,12 +102,31 @@ module _ (s : Sight) (a b : Vec3) where
   squared : (len v : Float) → lt len huge ≡ true → nearestOf len v ⊗ nearestOf len v ≡ shortAxis len v ⊗ shortAxis len v
   squared len v h = ap (λ (q : Float). q ⊗ q) (sym (short-is len v h))
 
+  -- the step added to a less b
+  stepped-is : (p : Vec3) → steppedSees s a p b ≡ le (norm2Of (record { x = a .x ⊖ b .x ⊕ p .x; y = a .y ⊖ b .y ⊕ p .y; z = a .z ⊖ b .z ⊕ p .z })) (s .limit)
+  stepped-is p =
+      ap (λ (q : Float). le q (s .limit))
+      (norm2-by (record { x = b .x ⊖ a .x ⊖ p .x; y = b .y ⊖ a .y ⊖ p .y; z = b .z ⊖ a .z ⊖ p .z }) (record { x = a .x ⊖ b .x ⊕ p .x; y = a .y ⊖ b .y ⊕ p .y; z = a .z ⊖ b .z ⊕ p .z })
+      (stepped-square (a .x) (b .x) (p .x)) (stepped-square (a .y) (b .y) (p .y)) (stepped-square (a .z) (b .z) (p .z)))
+
+  -- .. and a step of nothing
+  pub still-is : (q : Vec3) {p : Vec3} → p ≡ noStep → stillSees s a q b ≡ steppedSees s a p b
+  still-is q {p} e =
+      ap (λ (q : Float). le q (s .limit))
+      (norm2-by (record { x = b .x ⊖ a .x; y = b .y ⊖ a .y; z = b .z ⊖ a .z }) (record { x = a .x ⊖ b .x ⊕ bits 0; y = a .y ⊖ b .y ⊕ bits 0; z = a .z ⊖ b .z ⊕ bits 0 })
+      (axis (a .x) (b .x)) (axis (a .y) (b .y)) (axis (a .z) (b .z)))
+      ∙ sym (stepped-is noStep) ∙ ap (λ (z : Vec3). steppedSees s a z b) (sym e)
+    where
+      axis : (u v : Float) → (v ⊖ u) ⊗ (v ⊖ u) ≡ (u ⊖ v ⊕ bits 0) ⊗ (u ⊖ v ⊕ bits 0)
+      axis u v = opposite-square (v ⊖ u) (u ⊖ v) (opposite-sub v u) ∙ sym (still-square (u ⊖ v) (sub-fits binary64 u v))
+
   -- one step on each axis
-  pub stepped-law : (p : Vec3) → OneStep (l .x) (a .x) (b .x) (p .x) → OneStep (l .y) (a .y) (b .y) (p .y) → OneStep (l .z) (a .z) (b .z) (p .z) → isFinite l ≡ true → (rising : Bool) → steppedSees s a p b ≡ seesApart s (turned rising a b)
+  pub stepped-law : (p : Vec3) → OneStep (l .x) (a .x) (b .x) (p .x) → OneStep (l .y) (a .y) (b .y) (p .y) → OneStep (l .z) (a .z) (b .z) (p .z) → isBounded l ≡ true → (rising : Bool) → steppedSees s a p b ≡ seesApart s (turned rising a b)
   stepped-law p nx ny nz h rising =
       let f = three (lt (l .x) huge) (lt (l .y) huge) (lt (l .z) huge) h in
       let d = turned rising a b in
-      ap (λ (q : Float). le q (s .limit))
+      stepped-is p
+      ∙ ap (λ (q : Float). le q (s .limit))
       (norm2-by (record { x = a .x ⊖ b .x ⊕ p .x; y = a .y ⊖ b .y ⊕ p .y; z = a .z ⊖ b .z ⊕ p .z }) (shortImage l d)
       (nx .image rising ∙ squared (l .x) (d .x) (f .x))
       (ny .image rising ∙ squared (l .y) (d .y) (f .y))
@@ -93,9 +138,9 @@ module _ (s : Sight) (a b : Vec3) where
     where
       go : (rising : Bool) → boxHolds s a b ≡ true → r ≡ seesApart s (turned rising a b)
       go rising h =
-          let p3 = both-true (isFinite l && lt (absOf (a .x ⊖ b .x)) (l .x) && lt (absOf (a .y ⊖ b .y)) (l .y)) (lt (absOf (a .z ⊖ b .z)) (l .z)) h in
-          let p2 = both-true (isFinite l && lt (absOf (a .x ⊖ b .x)) (l .x)) (lt (absOf (a .y ⊖ b .y)) (l .y)) (p3 .0) in
-          let p1 = both-true (isFinite l) (lt (absOf (a .x ⊖ b .x)) (l .x)) (p2 .0) in
+          let p3 = both-true (isBounded l && lt (absOf (a .x ⊖ b .x)) (l .x) && lt (absOf (a .y ⊖ b .y)) (l .y)) (lt (absOf (a .z ⊖ b .z)) (l .z)) h in
+          let p2 = both-true (isBounded l && lt (absOf (a .x ⊖ b .x)) (l .x)) (lt (absOf (a .y ⊖ b .y)) (l .y)) (p3 .0) in
+          let p1 = both-true (isBounded l) (lt (absOf (a .x ⊖ b .x)) (l .x)) (p2 .0) in
           let f = three (lt (l .x) huge) (lt (l .y) huge) (lt (l .z) huge) (p1 .0) in
           let d = turned rising a b in
           e
@@ -111,68 +156,72 @@ module _ (s : Sight) (a : Vec3) (w : Bounds) where
   abbrev L : Vec3
   L = s .prepared .short
 
-  pub single-says : {f x y z : Bool} → f ≡ isFinite L → SteadySays (L .x) (a .x) (w .lo .x) (w .hi .x) x → SteadySays (L .y) (a .y) (w .lo .y) (w .hi .y) y → SteadySays (L .z) (a .z) (w .lo .z) (w .hi .z) z
-      → SingleSays s a w (w .sound && f && x && y && z)
-  unfolding norm2Of
-  single-says {f} {x} {y} {z} ef nx ny nz =
-      record { none = out; sound = λ t. both-true (w .sound) f (both-true (w .sound && f) x (both-true (w .sound && f && x) y (both-true (w .sound && f && x && y) z t .0) .0) .0) .0; sees = go }
-    where
-      go : w .sound && f && x && y && z ≡ true → (b : Vec3) → Enclosed w b → (rising : Bool) → steppedSees s a (stepIn s a w) b ≡ seesApart s (turned rising a b)
-      go t b v rising =
-          let p3 = both-true (w .sound && f && x && y) z t in
-          let p2 = both-true (w .sound && f && x) y (p3 .0) in
-          let p1 = both-true (w .sound && f) x (p2 .0) in
-          let h : isFinite L ≡ true = sym ef ∙ both-true (w .sound) f (p1 .0) .1 in
-          let g = three (lt (L .x) huge) (lt (L .y) huge) (lt (L .z) huge) h in
-          stepped-law s a b (stepIn s a w)
-          (nx .each (p1 .1) (bounded (L .x) huge (g .x)) (b .x) (v .x-low) (v .x-high))
-          (ny .each (p2 .1) (bounded (L .y) huge (g .y)) (b .y) (v .y-low) (v .y-high))
-          (nz .each (p3 .1) (bounded (L .z) huge (g .z)) (b .z) (v .z-low) (v .z-high))
-          h rising
+  -- by a step on each axis, and how far the places are at least
+  record Stepped (p b : Vec3) : Type 0 where
+    x : OneStep (L .x) (a .x) (b .x) (p .x)
+    y : OneStep (L .y) (a .y) (b .y) (p .y)
+    z : OneStep (L .z) (a .z) (b .z) (p .z)
+    x-gap : Gapped (gapOf (p .x) (a .x ⊖ w .hi .x) (a .x ⊖ w .lo .x)) (a .x ⊖ b .x ⊕ p .x)
+    y-gap : Gapped (gapOf (p .y) (a .y ⊖ w .hi .y) (a .y ⊖ w .lo .y)) (a .y ⊖ b .y ⊕ p .y)
+    z-gap : Gapped (gapOf (p .z) (a .z ⊖ w .hi .z) (a .z ⊖ w .lo .z)) (a .z ⊖ b .z ⊕ p .z)
 
-      out : w .sound && f && x && y && z ≡ true → isBeyond s (stepIn s a w) a w ≡ true → (b : Vec3) → Enclosed w b → (rising : Bool) → seesApart s (turned rising a b) ≡ false
+  single-by : (p : Vec3) {r : Bool} → (r ≡ true → w .sound ≡ true) → (r ≡ true → isBounded L ≡ true) → (r ≡ true → (b : Vec3) → Enclosed w b → Stepped p b) → SingleSays s a p w r
+  unfolding norm2Of
+  single-by p {r} n f g = record { sound = n; sees = go; none = out }
+    where
+      go : r ≡ true → (b : Vec3) → Enclosed w b → (rising : Bool) → steppedSees s a p b ≡ seesApart s (turned rising a b)
+      go t b v rising = let u = g t b v in stepped-law s a b p (u .x) (u .y) (u .z) (f t) rising
+
+      out : r ≡ true → isBeyond s p a w ≡ true → (b : Vec3) → Enclosed w b → (rising : Bool) → seesApart s (turned rising a b) ≡ false
       out t o b v rising =
-          let p3 = both-true (w .sound && f && x && y) z t in
-          let p2 = both-true (w .sound && f && x) y (p3 .0) in
-          let p1 = both-true (w .sound && f) x (p2 .0) in
-          let g = three (lt (L .x) huge) (lt (L .y) huge) (lt (L .z) huge) (sym ef ∙ both-true (w .sound) f (p1 .0) .1) in
-          sym (go t b v rising)
-          ∙ sums-keep (s .limit)
-          (gap-law (L .x) (a .x) (b .x) (w .lo .x) (w .hi .x) (bounded (L .x) huge (g .x)) (v .x-low) (v .x-high) (sym (nx .is) ∙ p1 .1))
-          (gap-law (L .y) (a .y) (b .y) (w .lo .y) (w .hi .y) (bounded (L .y) huge (g .y)) (v .y-low) (v .y-high) (sym (ny .is) ∙ p2 .1))
-          (gap-law (L .z) (a .z) (b .z) (w .lo .z) (w .hi .z) (bounded (L .z) huge (g .z)) (v .z-low) (v .z-high) (sym (nz .is) ∙ p3 .1))
-          (not-true (le (norm2Of (gapIn (stepIn s a w) a w)) (s .limit)) o)
+          let u = g t b v in
+          sym (go t b v rising) ∙ stepped-is s a b p ∙ sums-keep (s .limit) (u .x-gap) (u .y-gap) (u .z-gap) (not-true (le (norm2Of (gapIn p a w)) (s .limit)) o)
+
+  pub single-says : {f x y z : Bool} → f ≡ isBounded L → SteadySays (L .x) (a .x) (w .lo .x) (w .hi .x) x → SteadySays (L .y) (a .y) (w .lo .y) (w .hi .y) y → SteadySays (L .z) (a .z) (w .lo .z) (w .hi .z) z
+      → SingleSays s a (stepIn s a w) w (w .sound && f && x && y && z)
+  single-says {f} {x} {y} {z} ef nx ny nz = single-by (stepIn s a w) (λ t. five (w .sound) f x y z t .sound) (λ t. sym ef ∙ five (w .sound) f x y z t .fine) go
+    where
+      go : w .sound && f && x && y && z ≡ true → (b : Vec3) → Enclosed w b → Stepped (stepIn s a w) b
+      go t b v =
+          let p = five (w .sound) f x y z t in
+          let g = lengths L (sym ef ∙ p .fine) in
+          record {
+            x = nx .each (p .x) (g .x) (b .x) (v .x-low) (v .x-high);
+            y = ny .each (p .y) (g .y) (b .y) (v .y-low) (v .y-high);
+            z = nz .each (p .z) (g .z) (b .z) (v .z-low) (v .z-high);
+            x-gap = gap-law (L .x) (a .x) (b .x) (w .lo .x) (w .hi .x) (g .x) (v .x-low) (v .x-high) (sym (nx .is) ∙ p .x);
+            y-gap = gap-law (L .y) (a .y) (b .y) (w .lo .y) (w .hi .y) (g .y) (v .y-low) (v .y-high) (sym (ny .is) ∙ p .y);
+            z-gap = gap-law (L .z) (a .z) (b .z) (w .lo .z) (w .hi .z) (g .z) (v .z-low) (v .z-high) (sym (nz .is) ∙ p .z);
+          }
 
   -- the common case: the steps are nothing
-  pub still-says : {f x y z : Bool} → f ≡ isFinite L → CalmSays (L .x) (a .x) (w .lo .x) (w .hi .x) x → CalmSays (L .y) (a .y) (w .lo .y) (w .hi .y) y → CalmSays (L .z) (a .z) (w .lo .z) (w .hi .z) z
+  pub still-says : {f x y z : Bool} → f ≡ isBounded L → CalmSays (L .x) (a .x) (w .lo .x) (w .hi .x) x → CalmSays (L .y) (a .y) (w .lo .y) (w .hi .y) y → CalmSays (L .z) (a .z) (w .lo .z) (w .hi .z) z
       → StillSays s a w (w .sound && f && x && y && z)
   still-says {f} {x} {y} {z} ef nx ny nz = record { single = go; step = steps }
     where
-      steps : w .sound && f && x && y && z ≡ true → record { x = bits 0; y = bits 0; z = bits 0 } ≡ stepIn s a w
-      steps t =
-          let p3 = both-true (w .sound && f && x && y) z t in
-          let p2 = both-true (w .sound && f && x) y (p3 .0) in
-          let p1 = both-true (w .sound && f) x (p2 .0) in
-          sym (λ i. record { x = nx .step (p1 .1) i; y = ny .step (p2 .1) i; z = nz .step (p3 .1) i })
+      steps : w .sound && f && x && y && z ≡ true → noStep ≡ stepIn s a w
+      steps t = let p = five (w .sound) f x y z t in sym (λ i. record { x = nx .step (p .x) i; y = ny .step (p .y) i; z = nz .step (p .z) i })
 
-      go : w .sound && f && x && y && z ≡ true → SingleSays s a w true
+      go : w .sound && f && x && y && z ≡ true → SingleSays s a (stepIn s a w) w true
       go t =
-          let p3 = both-true (w .sound && f && x && y) z t in
-          let p2 = both-true (w .sound && f && x) y (p3 .0) in
-          let p1 = both-true (w .sound && f) x (p2 .0) in
-          let p0 = both-true (w .sound) f (p1 .0) in
-          let g = three (lt (L .x) huge) (lt (L .y) huge) (lt (L .z) huge) (sym ef ∙ p0 .1) in
-          subst (λ (q : Bool). SingleSays s a w q) (rw (p0 .0, p0 .1) (refl {A = Bool} {a = true}))
-          (single-says ef (nx .steady (p1 .1) (bounded (L .x) huge (g .x))) (ny .steady (p2 .1) (bounded (L .y) huge (g .y))) (nz .steady (p3 .1) (bounded (L .z) huge (g .z))))
+          let p = five (w .sound) f x y z t in
+          let g = lengths L (sym ef ∙ p .fine) in
+          subst (λ (q : Bool). SingleSays s a (stepIn s a w) w q) (rw (p .sound, p .fine) (refl {A = Bool} {a = true}))
+          (single-says ef (nx .steady (p .x) (g .x)) (ny .steady (p .y) (g .y)) (nz .steady (p .z) (g .z)))
 
-  pub reach-says : {x o : Bool} {p : Vec3} → SingleSays s a w x → p ≡ stepIn s a w → o ≡ isBeyond s p a w → ReachSays steppedSees s a w (record { single = x; step = p; beyond = x && o })
-  reach-says {x} {o} {p} n e h =
+  pub reach-says : {x o i : Bool} {p q : Vec3} → SingleSays s a q w x → p ≡ q → o ≡ isBeyond s p a w → (i ≡ true → p ≡ noStep) → ReachSays steppedSees s a w (record { single = x; still = i; step = p; beyond = x && o })
+  reach-says {x} {o} {i} {p} n e h still =
       record {
         sound = n .sound;
         sees = λ t b v rising. ap (λ (q : Vec3). steppedSees s a q b) e ∙ n .sees t b v rising;
         only = λ t. both-true x o t .0;
         none = λ t b v rising. let q = both-true x o t in n .none (q .0) (sym (h ∙ ap (λ (z : Vec3). isBeyond s z a w) e) ∙ q .1) b v rising;
+        still = still;
       }
+
+  -- .. by a step that is shared
+  pub shared-reach : {r : Reach} {o : Bool} → SharedAt s a w r → r .single ≡ true → o ≡ isBeyond s (r .step) a w → ReachSays steppedSees s a w (record { single = true; still = r .still; step = r .step; beyond = o })
+  shared-reach {r} {o} n t h = reach-says (subst (λ (q : Bool). SingleSays s a (r .step) w q) t (n .single)) refl h (n .still)
 
   -- .. by any sight of one step
   module _ {see : Sight → Vec3 → Vec3 → Vec3 → Bool} {bx by bz : List Float} {k : ℕ} {r : Reach} (u : Bounded bx by bz k w) (n : ReachSays see s a w r) where
@@ -180,7 +229,68 @@ module _ (s : Sight) (a : Vec3) (w : Bounds) where
     none-reached t m h rising = n .none t (spotIn bx by bz m) (u .are (n .sound (n .only t)) m h) rising
 
     pub reaches : Reaches see s a bx by bz k r
-    reaches = record { sees = λ t m h rising. n .sees t (spotIn bx by bz m) (u .are (n .sound t) m h) rising }
+    reaches = record { sees = λ t m h rising. n .sees t (spotIn bx by bz m) (u .are (n .sound t) m h) rising; still = n .still }
+
+-- .. by a step of nothing
+pub still-reaches : {s : Sight} {a : Vec3} {bx by bz : List Float} {k : ℕ} {r : Reach} → Reaches steppedSees s a bx by bz k r → r .still ≡ true → Reaches stillSees s a bx by bz k r
+still-reaches {s} {a} {bx} {by} {bz} {k} {r} n e = record { sees = λ t m h rising. still-is s a (spotIn bx by bz m) (r .step) (n .still e) ∙ n .sees t m h rising; still = n .still }
+
+-- ---- of every place within the bounds of two bins
+module _ (s : Sight) (v w : Bounds) where
+  abbrev M : Vec3
+  M = s .prepared .short
+
+  pub shared-says : {f x y z i j k : Bool} {px py pz : Float} → f ≡ isBounded M
+      → SharedSteady (M .x) (v .lo .x) (v .hi .x) (w .lo .x) (w .hi .x) x → SharedSteady (M .y) (v .lo .y) (v .hi .y) (w .lo .y) (w .hi .y) y → SharedSteady (M .z) (v .lo .z) (v .hi .z) (w .lo .z) (w .hi .z) z
+      → px ≡ stepOf (M .x) (v .lo .x ⊖ w .hi .x) (v .hi .x ⊖ w .lo .x) → py ≡ stepOf (M .y) (v .lo .y ⊖ w .hi .y) (v .hi .y ⊖ w .lo .y) → pz ≡ stepOf (M .z) (v .lo .z ⊖ w .hi .z) (v .hi .z ⊖ w .lo .z)
+      → i ≡ calmOf (M .x) (v .lo .x ⊖ w .hi .x) (v .hi .x ⊖ w .lo .x) → j ≡ calmOf (M .y) (v .lo .y ⊖ w .hi .y) (v .hi .y ⊖ w .lo .y) → k ≡ calmOf (M .z) (v .lo .z ⊖ w .hi .z) (v .hi .z ⊖ w .lo .z)
+      → SharedSays s v w (record { single = v .sound && w .sound && f && x && y && z; still = i && j && k; step = record { x = px; y = py; z = pz }; beyond = false })
+  shared-says {f} {x} {y} {z} {i} {j} {k} {px} {py} {pz} ef nx ny nz ex ey ez ei ej ek =
+      rw (ex, ey, ez)
+      (record {
+        still =
+            λ t.
+            let c = three i j k t in
+            λ n. record {
+              x = calm-nothing (M .x) (v .lo .x ⊖ w .hi .x) (v .hi .x ⊖ w .lo .x) (sym ei ∙ c .x) n;
+              y = calm-nothing (M .y) (v .lo .y ⊖ w .hi .y) (v .hi .y ⊖ w .lo .y) (sym ej ∙ c .y) n;
+              z = calm-nothing (M .z) (v .lo .z ⊖ w .hi .z) (v .hi .z ⊖ w .lo .z) (sym ek ∙ c .z) n;
+            };
+        sound = λ t. both-true (v .sound) (w .sound) (five (v .sound && w .sound) f x y z t .sound) .0;
+        each = λ a u. single-by s a w step (λ t. both-true (v .sound) (w .sound) (five (v .sound && w .sound) f x y z t .sound) .1) (λ t. sym ef ∙ five (v .sound && w .sound) f x y z t .fine) (go a u);
+      })
+    where
+      step : Vec3
+      step =
+          record {
+            x = stepOf (M .x) (v .lo .x ⊖ w .hi .x) (v .hi .x ⊖ w .lo .x);
+            y = stepOf (M .y) (v .lo .y ⊖ w .hi .y) (v .hi .y ⊖ w .lo .y);
+            z = stepOf (M .z) (v .lo .z ⊖ w .hi .z) (v .hi .z ⊖ w .lo .z);
+          }
+
+      go : (a : Vec3) → Enclosed v a → v .sound && w .sound && f && x && y && z ≡ true → (b : Vec3) → Enclosed w b → Stepped s a w step b
+      go a u t b e =
+          let p = five (v .sound && w .sound) f x y z t in
+          let g = lengths M (sym ef ∙ p .fine) in
+          record {
+            x = nx .each (p .x) (g .x) (a .x) (b .x) (u .x-low) (u .x-high) (e .x-low) (e .x-high);
+            y = ny .each (p .y) (g .y) (a .y) (b .y) (u .y-low) (u .y-high) (e .y-low) (e .y-high);
+            z = nz .each (p .z) (g .z) (a .z) (b .z) (u .z-low) (u .z-high) (e .z-low) (e .z-high);
+            x-gap = shared-gap (M .x) (v .lo .x) (a .x) (v .hi .x) (w .lo .x) (b .x) (w .hi .x) (g .x) (u .x-low) (u .x-high) (e .x-low) (e .x-high) (sym (nx .is) ∙ p .x);
+            y-gap = shared-gap (M .y) (v .lo .y) (a .y) (v .hi .y) (w .lo .y) (b .y) (w .hi .y) (g .y) (u .y-low) (u .y-high) (e .y-low) (e .y-high) (sym (ny .is) ∙ p .y);
+            z-gap = shared-gap (M .z) (v .lo .z) (a .z) (v .hi .z) (w .lo .z) (b .z) (w .hi .z) (g .z) (u .z-low) (u .z-high) (e .z-low) (e .z-high) (sym (nz .is) ∙ p .z);
+          }
+
+-- so of each atom of a part that is within the first
+pub shares-all : {s : Sight} {xs : List Float} {part : List ℕ} {v w : Bounds} {r : Reach} → SharedSays s v w r → Framed xs part v → Shares s xs part w r
+shares-all {s} {xs} {part} {v} {w} {r} n u =
+    record { are = λ m h. record { single = record { sound = λ t. one m h t .sound t; sees = λ t. one m h t .sees t; none = λ t. one m h t .none t }; still = n .still } }
+  where
+    one : (m : ℕ) → m < length part → r .single ≡ true → SingleSays s (positionAt xs (getD part m 0)) (r .step) w (r .single)
+    one m h t = n .each (positionAt xs (getD part m 0)) (u .are (n .sound t) m h)
+
+pub shared-at : {s : Sight} {a b : Vec3} {w : Bounds} {r : Reach} → a ≡ b → SharedAt s b w r → SharedAt s a w r
+shared-at {s} {a} {b} {w} {r} e n = subst (λ (q : Vec3). SharedAt s q w r) (sym e) n
 
 -- ---- a tilted cell
 not-above-zero : (n : ℕ) (d : ℤ) → lt (bits 0) (fin false n d) ≡ false → n * up d ≡ 0

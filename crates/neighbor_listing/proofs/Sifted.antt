@@ -21,7 +21,6 @@ use Rattle.bins.specs.declared.Tally.{Tally}
 use Rattle.bins.specs.Listing.{Scene, Listing, pushed, considerOf, listOf, Ready, Below}
 use Rattle.bins.proofs.Runs.{Run, run-part, ready-first, ready-less}
 use Rattle.candidates.specs.Checks.{lazy}
-use Rattle.exclusions.specs.Table.{lookedFrom}
 use Rattle.neighbor_listing.specs.declared.sight.Sight.{Sight}
 use Rattle.neighbor_listing.specs.Steps.{seesOf, lookedIn, lookedBy, sceneBy, chosenBy, nearTo, Gathered}
 
@@ -65,15 +64,15 @@ module _ {q : ℕ → Bool} {part start now : List ℕ} {count k : ℕ} (u : Sif
       append-nil (a ∷ l) = ap (λ (t : List ℕ). a ∷ t) (append-nil l)
 
 -- ---- one near pair, for the code: excluded, or listed
-module _ (firsts table : List ℕ) (s : Listing) (i j : ℕ) {low high from : ℕ} (lo : low ≡ min i j) (hi : high ≡ max i j) (at : from ≡ getD firsts low 0) {x : Bool} (is : x ≡ lookedFrom table from low high) where
-  pub pair-skipped : x ≡ true → s ≡ considerOf (chosenBy firsts table) s (ordered i j)
-  unfolding considerOf chosenBy lookedIn ordered
-  pair-skipped e = rw (← lo, ← hi, ← at, ← is, e)
+module _ (tops table : List ℕ) (s : Listing) (i j : ℕ) {low high : ℕ} (lo : low ≡ min i j) (hi : high ≡ max i j) {x : Bool} (is : x ≡ lookedIn tops table low high) where
+  pub pair-skipped : x ≡ true → s ≡ considerOf (chosenBy tops table) s (ordered i j)
+  unfolding considerOf chosenBy ordered
+  pair-skipped e = rw (← lo, ← hi, ← is, e)
 
   pub pair-listed : x ≡ false → (m : List ℕ) → m ≡ pushed (s .mem) (s .tally .count) low high
-      → record { tally = record { count = s .tally .count + 1; checks = s .tally .checks + 1 }; mem = m } ≡ considerOf (chosenBy firsts table) s (ordered i j)
-  unfolding considerOf chosenBy lookedIn ordered
-  pair-listed e m q = rw (← lo, ← hi, ← at, ← is, e, q)
+      → record { tally = record { count = s .tally .count + 1; checks = s .tally .checks + 1 }; mem = m } ≡ considerOf (chosenBy tops table) s (ordered i j)
+  unfolding considerOf chosenBy ordered
+  pair-listed e m q = rw (← lo, ← hi, ← is, e, q)
 
 -- the near test of the code, low minus high
 pub near-is : (v : Sight) (xs : List Float) (i j : ℕ) (rising : Bool) → rising ≡ ltb i j → {a b : Vec3} → a ≡ positionAt xs i → b ≡ positionAt xs j → {x : Bool} → x ≡ seesOf v (cond rising a b) (cond rising b a) → x ≡ nearTo v xs i j
@@ -94,12 +93,12 @@ pub record Alike (a b : Listing) : Type 0 where
   pub count : a .tally .count ≡ b .tally .count
   pub mem : a .mem ≡ b .mem
 
-module _ (v : Sight) (xs : List Float) (firsts table : List ℕ) (i : ℕ) where
-  far-alike : (j : ℕ) (a b : Listing) → nearTo v xs i j ≡ false → Alike a b → Alike (considerOf (sceneBy v xs firsts table) a (ordered i j)) b
+module _ (v : Sight) (xs : List Float) (tops table : List ℕ) (i : ℕ) where
+  far-alike : (j : ℕ) (a b : Listing) → nearTo v xs i j ≡ false → Alike a b → Alike (considerOf (sceneBy v xs tops table) a (ordered i j)) b
   unfolding considerOf sceneBy lookedBy lazy nearTo ordered
   far-alike j a b e w = rw e (record { count = w .count; mem = w .mem })
 
-  near-alike : (j : ℕ) (a b : Listing) → nearTo v xs i j ≡ true → Alike a b → Alike (considerOf (sceneBy v xs firsts table) a (ordered i j)) (considerOf (chosenBy firsts table) b (ordered i j))
+  near-alike : (j : ℕ) (a b : Listing) → nearTo v xs i j ≡ true → Alike a b → Alike (considerOf (sceneBy v xs tops table) a (ordered i j)) (considerOf (chosenBy tops table) b (ordered i j))
   unfolding considerOf sceneBy lookedBy chosenBy lazy nearTo ordered
   near-alike j a b e w =
       rw e
@@ -109,36 +108,36 @@ module _ (v : Sight) (xs : List Float) (firsts table : List ℕ) (i : ℕ) where
       (record { tally = record { count = a .tally .count + 1; checks = a .tally .checks + 1 }; mem = pushed (a .mem) (a .tally .count) (min i j) (max i j) })
       (record { tally = record { count = a .tally .count; checks = a .tally .checks + 1 }; mem = a .mem }))
       (cond x b (record { tally = record { count = b .tally .count + 1; checks = b .tally .checks + 1 }; mem = pushed (b .mem) (b .tally .count) (min i j) (max i j) })))
-      (lookedIn firsts table (min i j) (max i j))
+      (lookedIn tops table (min i j) (max i j))
       (λ _. record { count = w .count; mem = w .mem })
       (λ _. record { count = ap (λ (n : ℕ). n + 1) (w .count); mem = rw (w .count, w .mem) }))
 
-  checks-step : (j : ℕ) (a : Listing) → considerOf (sceneBy v xs firsts table) a (ordered i j) .tally .checks ≡ a .tally .checks + 1
+  checks-step : (j : ℕ) (a : Listing) → considerOf (sceneBy v xs tops table) a (ordered i j) .tally .checks ≡ a .tally .checks + 1
   unfolding considerOf sceneBy lazy
   checks-step j a =
       by-test
       (λ x. cond {A = Listing} x
       (record { tally = record { count = a .tally .count + 1; checks = a .tally .checks + 1 }; mem = pushed (a .mem) (a .tally .count) (ordered i j .0) (ordered i j .1) })
       (record { tally = record { count = a .tally .count; checks = a .tally .checks + 1 }; mem = a .mem }) .tally .checks ≡ a .tally .checks + 1)
-      (lookedBy v xs firsts table .near (ordered i j .0) (ordered i j .1) && not (lookedBy v xs firsts table .excluded (ordered i j .0) (ordered i j .1)))
+      (lookedBy v xs tops table .near (ordered i j .0) (ordered i j .1) && not (lookedBy v xs tops table .excluded (ordered i j .0) (ordered i j .1)))
       (λ _. refl)
       (λ _. refl)
 
-  pub all-checked : (part : List ℕ) (a : Listing) → listOf (sceneBy v xs firsts table) a (withEach i part) .tally .checks ≡ a .tally .checks + length part
+  pub all-checked : (part : List ℕ) (a : Listing) → listOf (sceneBy v xs tops table) a (withEach i part) .tally .checks ≡ a .tally .checks + length part
   unfolding withEach
   all-checked [] a = sym (add-zero (a .tally .checks))
   all-checked (j ∷ part) a =
-      let e = all-checked part (considerOf (sceneBy v xs firsts table) a (ordered i j)) in
+      let e = all-checked part (considerOf (sceneBy v xs tops table) a (ordered i j)) in
       omega (arith, e, checks-step j a)
 
-  pub sifted-alike : (part : List ℕ) (a b : Listing) → Alike a b → Alike (listOf (sceneBy v xs firsts table) a (withEach i part)) (listOf (chosenBy firsts table) b (withEach i (keep (nearTo v xs i) part)))
+  pub sifted-alike : (part : List ℕ) (a b : Listing) → Alike a b → Alike (listOf (sceneBy v xs tops table) a (withEach i part)) (listOf (chosenBy tops table) b (withEach i (keep (nearTo v xs i) part)))
   unfolding withEach keep
   sifted-alike [] a b w = w
   sifted-alike (j ∷ part) a b w =
       by-test
       (λ x. nearTo v xs i j ≡ x
-      → Alike (listOf (sceneBy v xs firsts table) (considerOf (sceneBy v xs firsts table) a (ordered i j)) (map (ordered i) part))
-      (listOf (chosenBy firsts table) b (map (ordered i) (cond x (j ∷ keep (nearTo v xs i) part) (keep (nearTo v xs i) part)))))
+      → Alike (listOf (sceneBy v xs tops table) (considerOf (sceneBy v xs tops table) a (ordered i j)) (map (ordered i) part))
+      (listOf (chosenBy tops table) b (map (ordered i) (cond x (j ∷ keep (nearTo v xs i) part) (keep (nearTo v xs i) part)))))
       (nearTo v xs i j)
       (λ _ e. sifted-alike part _ _ (near-alike j a b e w))
       (λ _ e. sifted-alike part _ _ (far-alike j a b e w))
@@ -146,8 +145,8 @@ module _ (v : Sight) (xs : List Float) (firsts table : List ℕ) (i : ℕ) where
 
   -- the part listed, from its near ones
   pub few-listed : (part near : List ℕ) (t r : Tally) (old new : List ℕ) → near ≡ keep (nearTo v xs i) part
-      → record { tally = r; mem = new } ≡ listOf (chosenBy firsts table) (record { tally = t; mem = old }) (withEach i near)
-      → record { tally = record { count = r .count; checks = t .checks + length part }; mem = new } ≡ listOf (sceneBy v xs firsts table) (record { tally = t; mem = old }) (withEach i part)
+      → record { tally = r; mem = new } ≡ listOf (chosenBy tops table) (record { tally = t; mem = old }) (withEach i near)
+      → record { tally = record { count = r .count; checks = t .checks + length part }; mem = new } ≡ listOf (sceneBy v xs tops table) (record { tally = t; mem = old }) (withEach i part)
   few-listed part near t r old new e q =
       let s : Listing = record { tally = t; mem = old } in
       let w = sifted-alike part s s (record { count = refl; mem = refl }) in

@@ -1,7 +1,7 @@
 -- What the bounds of a part say of all differences with an atom in a tilted cell (`slant-reach`): the least and the greatest fractions have one step, and the
 -- images of what lies between them are no nearer than the ends say. Assumes nothing.
 use mathlib.Core.Path.{_≡_, refl, sym, ap, _∙_}
-use mathlib.Core.Bool.{Bool, true, false, cond, not, _&&_}
+use mathlib.Core.Bool.{Bool, true, false, cond, not, _&&_, false≢true}
 use borrow.Author.Tests.{not-true}
 use lib.Dec.{T}
 use lib.Ieee.{Float, le, ofBits}
@@ -214,7 +214,7 @@ module _ (s : Sight) (a : Vec3) (w : Bounds) where
         go true e = upper-sees e
         go false e = refl
 
-  slant-says : ReachSays slopeSees s a w (record { single = isSlanted s w L H; step = P; beyond = isSlanted s w L H && isOutside s (addOf L P) (addOf H P) })
+  slant-says : ReachSays slopeSees s a w (record { single = isSlanted s w L H; still = false; step = P; beyond = isSlanted s w L H && isOutside s (addOf L P) (addOf H P) })
   slant-says =
       record {
         sound = λ t. slant-is t .sound;
@@ -225,12 +225,13 @@ module _ (s : Sight) (a : Vec3) (w : Bounds) where
             let q = both-true (isSlanted s w L H) (isOutside s (addOf L P) (addOf H P)) t in
             let u = slant-is (q .0) in
             sym (slanted-sees u b v rising) ∙ slanted-none u b v (q .1);
+        still = λ t. absurd (false≢true t);
       }
 
   -- as the code has it
   pub slant-reach : {f t l h g k : Vec3} {r : Reach} {o : Bool} → f ≡ subOf a (w .hi) → t ≡ subOf a (w .lo) → l ≡ leastFractions s f t → h ≡ greatestFractions s f t
       → SlantSays s w l h r → g ≡ addOf l (r .step) → k ≡ addOf h (r .step) → o ≡ isOutside s g k
-      → ReachSays slopeSees s a w (record { single = r .single; step = r .step; beyond = r .single && o })
+      → ReachSays slopeSees s a w (record { single = r .single; still = false; step = r .step; beyond = r .single && o })
   slant-reach ef et el eh n eg ek eo = rw (eo, eg, ek, n .step, n .single, eh, el, et, ef) slant-says
 
 -- ---- the common case: the step is nothing
@@ -248,7 +249,7 @@ fit-ends s f t el eh =
       z-high = high-fits (g .iz .x) (g .iz .y) (g .iz .z) (f .x) (t .x) (f .y) (t .y) (f .z) (t .z);
     })
 
-pub level-says : (s : Sight) (w : Bounds) (low high : Vec3) {p : Vec3} → FitEnds low high → isLevel s w low high ≡ true → p ≡ zeroVec → SlantSays s w low high (record { single = true; step = p; beyond = false })
+pub level-says : (s : Sight) (w : Bounds) (low high : Vec3) {p : Vec3} → FitEnds low high → isLevel s w low high ≡ true → p ≡ zeroVec → SlantSays s w low high (record { single = true; still = false; step = p; beyond = false })
 unfolding isLevel isSlanted wholeStep
 level-says s w low high f h e =
     let X = calmOf one (low .x) (high .x) in

@@ -8,6 +8,7 @@ use lib.ListN.{length, getD, take, drop}
 use lib.Ieee.{Float, binary64, lt, le, eq, fits}
 use Rattle.float.specs.Arith.{_⊕_, _⊖_, _⊗_, at, bits}
 use Rattle.float.specs.Def.{absOf}
+use Rattle.float.specs.Literals.{f1}
 use Rattle.lists.specs.Lists.{keep}
 use Rattle.cell.specs.declared.Vec3.{Vec3}
 use Rattle.cell.specs.declared.Lattice.{Lattice}
@@ -16,6 +17,7 @@ use Rattle.cell.specs.Vec.{subOf, addOf, dotOf, norm2Of, positionAt}
 use Rattle.cell.specs.Matrix.{matrixOf, timesOf}
 use Rattle.cell_prepared.specs.Facts.{huge, imageIn}
 use Rattle.cell_square.specs.Square.{steadyOf, stepOf, calmOf, nearerOf, gapOf, lowSum, highSum}
+use Rattle.neighbor_asked.specs.Strays.{bounded}
 use Rattle.neighbor_listing.specs.declared.sight.Sight.{Sight}
 use Rattle.neighbor_listing.specs.declared.side.Bounds.{Bounds}
 use Rattle.neighbor_listing.specs.declared.side.Reach.{Reach}
@@ -49,12 +51,9 @@ unfoldable pub seesApart : Sight → Vec3 → Bool
 seesApart s d = le (norm2Of (imageIn (s .prepared) d .diff)) (s .limit)
 
 -- a box of finite lengths, and two atoms in it that are less than a length apart on each axis
-abbrev pub isFinite : Vec3 → Bool
-isFinite l = lt (l .x) huge && lt (l .y) huge && lt (l .z) huge
-
 abbrev pub boxHolds : Sight → Vec3 → Vec3 → Bool
 boxHolds s a b =
-    isFinite (s .prepared .short) && lt (absOf (a .x ⊖ b .x)) (s .prepared .short .x) && lt (absOf (a .y ⊖ b .y)) (s .prepared .short .y)
+    bounded (s .prepared .short) && lt (absOf (a .x ⊖ b .x)) (s .prepared .short .x) && lt (absOf (a .y ⊖ b .y)) (s .prepared .short .y)
     && lt (absOf (a .z ⊖ b .z)) (s .prepared .short .z)
 
 -- whichever atom is the low one
@@ -66,7 +65,7 @@ abbrev pub fractionsOf : Sight → Vec3 → Vec3
 fractionsOf s d = record { x = dotOf (s .prepared .general .ix) d; y = dotOf (s .prepared .general .iy) d; z = dotOf (s .prepared .general .iz) d }
 
 abbrev pub inUnit : Vec3 → Bool
-inUnit f = lt (absOf (f .x)) (bits 0x3ff0_0000_0000_0000) && lt (absOf (f .y)) (bits 0x3ff0_0000_0000_0000) && lt (absOf (f .z)) (bits 0x3ff0_0000_0000_0000)
+inUnit f = lt (absOf (f .x)) f1 && lt (absOf (f .y)) f1 && lt (absOf (f .z)) f1
 
 -- a cell that always takes the general way, periodic on each axis
 abbrev pub isTilted : Sight → Bool
@@ -99,9 +98,16 @@ pub record Bounded (bx by bz : List Float) (k : ℕ) (w : Bounds) : Type 0 where
 abbrev pub isEnclosed : Bounds → Vec3 → Bool
 isEnclosed w b = le (w .lo .x) (b .x) && le (b .x) (w .hi .x) && le (w .lo .y) (b .y) && le (b .y) (w .hi .y) && le (w .lo .z) (b .z) && le (b .z) (w .hi .z)
 
--- whether a place is seen from a, by a step on each axis
+-- whether a place is seen from a, by a step on each axis: the step is added to a less b, or taken off b less a, which has the same square
 abbrev pub steppedSees : Sight → Vec3 → Vec3 → Vec3 → Bool
-steppedSees s a p b = le (norm2Of (record { x = a .x ⊖ b .x ⊕ p .x; y = a .y ⊖ b .y ⊕ p .y; z = a .z ⊖ b .z ⊕ p .z })) (s .limit)
+steppedSees s a p b = le (norm2Of (record { x = b .x ⊖ a .x ⊖ p .x; y = b .y ⊖ a .y ⊖ p .y; z = b .z ⊖ a .z ⊖ p .z })) (s .limit)
+
+-- .. by a step of nothing
+abbrev pub noStep : Vec3
+noStep = record { x = bits 0; y = bits 0; z = bits 0 }
+
+abbrev pub stillSees : Sight → Vec3 → Vec3 → Vec3 → Bool
+stillSees s a p b = le (norm2Of (record { x = b .x ⊖ a .x; y = b .y ⊖ a .y; z = b .z ⊖ a .z })) (s .limit)
 
 -- the step of the differences of a and what is within the bounds
 abbrev pub stepIn : Sight → Vec3 → Bounds → Vec3
@@ -124,15 +130,38 @@ gapIn p a w =
 abbrev pub isBeyond : Sight → Vec3 → Vec3 → Bounds → Bool
 isBeyond s p a w = not (le (norm2Of (gapIn p a w)) (s .limit))
 
--- whichever atom is the low one, of every place within the bounds
-pub record SingleSays (s : Sight) (a : Vec3) (w : Bounds) (r : Bool) : Type 0 where
+-- whichever atom is the low one, of every place within the bounds, by the step p
+pub record SingleSays (s : Sight) (a p : Vec3) (w : Bounds) (r : Bool) : Type 0 where
   pub sound : r ≡ true → w .sound ≡ true
-  pub sees : r ≡ true → (b : Vec3) → Enclosed w b → (rising : Bool) → steppedSees s a (stepIn s a w) b ≡ seesApart s (turned rising a b)
-  pub none : r ≡ true → isBeyond s (stepIn s a w) a w ≡ true → (b : Vec3) → Enclosed w b → (rising : Bool) → seesApart s (turned rising a b) ≡ false
+  pub sees : r ≡ true → (b : Vec3) → Enclosed w b → (rising : Bool) → steppedSees s a p b ≡ seesApart s (turned rising a b)
+  pub none : r ≡ true → isBeyond s p a w ≡ true → (b : Vec3) → Enclosed w b → (rising : Bool) → seesApart s (turned rising a b) ≡ false
 
 pub record StillSays (s : Sight) (a : Vec3) (w : Bounds) (r : Bool) : Type 0 where
-  pub single : r ≡ true → SingleSays s a w true
-  pub step : r ≡ true → record { x = bits 0; y = bits 0; z = bits 0 } ≡ stepIn s a w
+  pub single : r ≡ true → SingleSays s a (stepIn s a w) w true
+  pub step : r ≡ true → noStep ≡ stepIn s a w
+
+-- .. and of a step that is shared
+pub record SharedAt (s : Sight) (a : Vec3) (w : Bounds) (r : Reach) : Type 0 where
+  pub single : SingleSays s a (r .step) w (r .single)
+  pub still : r .still ≡ true → r .step ≡ noStep
+
+-- ---- two bins: one step for all that is within v and all that is within w
+pub record SharedSays (s : Sight) (v w : Bounds) (r : Reach) : Type 0 where
+  pub sound : r .single ≡ true → v .sound ≡ true
+  pub each : (a : Vec3) → Enclosed v a → SingleSays s a (r .step) w (r .single)
+  pub still : r .still ≡ true → r .step ≡ noStep
+
+-- the first k atoms of a part are within the bounds
+pub record AllWithin (xs : List Float) (part : List ℕ) (k : ℕ) (v : Bounds) (r : Bool) : Type 0 where
+  pub are : r ≡ true → (m : ℕ) → m < k → Enclosed v (positionAt xs (getD part m 0))
+
+-- .. all of them, where they are sound
+pub record Framed (xs : List Float) (part : List ℕ) (v : Bounds) : Type 0 where
+  pub are : v .sound ≡ true → (m : ℕ) → m < length part → Enclosed v (positionAt xs (getD part m 0))
+
+-- so each atom of the part has that step with all that is within w
+pub record Shares (s : Sight) (xs : List Float) (part : List ℕ) (w : Bounds) (r : Reach) : Type 0 where
+  pub are : (m : ℕ) → m < length part → SharedAt s (positionAt xs (getD part m 0)) w r
 
 -- ---- in a tilted cell: a row's products with what lies from low up to high, the least and the greatest
 abbrev pub lowBy : Vec3 → Vec3 → Vec3 → Float
@@ -157,22 +186,22 @@ greatestFractions s low high = greatestRows (s .prepared .general .ix) (s .prepa
 -- one step takes fractions from low up to high to their nearest
 unfoldable pub isSlanted : Sight → Bounds → Vec3 → Vec3 → Bool
 isSlanted s w low high =
-    w .sound && isTilted s && steadyOf (bits 0x3ff0_0000_0000_0000) (low .x) (high .x) && steadyOf (bits 0x3ff0_0000_0000_0000) (low .y) (high .y)
-    && steadyOf (bits 0x3ff0_0000_0000_0000) (low .z) (high .z)
+    w .sound && isTilted s && steadyOf f1 (low .x) (high .x) && steadyOf f1 (low .y) (high .y)
+    && steadyOf f1 (low .z) (high .z)
 
 unfoldable pub wholeStep : Vec3 → Vec3 → Vec3
 wholeStep low high =
     record {
-      x = stepOf (bits 0x3ff0_0000_0000_0000) (low .x) (high .x);
-      y = stepOf (bits 0x3ff0_0000_0000_0000) (low .y) (high .y);
-      z = stepOf (bits 0x3ff0_0000_0000_0000) (low .z) (high .z);
+      x = stepOf f1 (low .x) (high .x);
+      y = stepOf f1 (low .y) (high .y);
+      z = stepOf f1 (low .z) (high .z);
     }
 
 -- .. which is nothing
 unfoldable pub isLevel : Sight → Bounds → Vec3 → Vec3 → Bool
 isLevel s w low high =
-    w .sound && isTilted s && calmOf (bits 0x3ff0_0000_0000_0000) (low .x) (high .x) && calmOf (bits 0x3ff0_0000_0000_0000) (low .y) (high .y)
-    && calmOf (bits 0x3ff0_0000_0000_0000) (low .z) (high .z)
+    w .sound && isTilted s && calmOf f1 (low .x) (high .x) && calmOf f1 (low .y) (high .y)
+    && calmOf f1 (low .z) (high .z)
 
 -- .. of what is a float's value
 pub record FitEnds (low high : Vec3) : Type 0 where
@@ -237,10 +266,12 @@ pub record ReachSays (see : Sight → Vec3 → Vec3 → Vec3 → Bool) (s : Sigh
   pub sees : r .single ≡ true → (b : Vec3) → Enclosed w b → (rising : Bool) → see s a (r .step) b ≡ seesApart s (turned rising a b)
   pub only : r .beyond ≡ true → r .single ≡ true
   pub none : r .beyond ≡ true → (b : Vec3) → Enclosed w b → (rising : Bool) → seesApart s (turned rising a b) ≡ false
+  pub still : r .still ≡ true → r .step ≡ noStep
 
 -- .. and so of the first k places
 pub record Reaches (see : Sight → Vec3 → Vec3 → Vec3 → Bool) (s : Sight) (a : Vec3) (bx by bz : List Float) (k : ℕ) (r : Reach) : Type 0 where
   pub sees : r .single ≡ true → (m : ℕ) → m < k → (rising : Bool) → see s a (r .step) (spotIn bx by bz m) ≡ seesApart s (turned rising a (spotIn bx by bz m))
+  pub still : r .still ≡ true → r .step ≡ noStep
 
 -- whether atom i at a sees atom j at b: low less high
 abbrev pub sighted : Sight → ℕ → Vec3 → ℕ → Vec3 → Bool

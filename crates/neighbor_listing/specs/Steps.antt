@@ -1,8 +1,9 @@
 -- What the private functions ask and say of themselves: nobody has to believe it. Definitions only.
 use Prim.Native.Nat.{ℕ, _/_, _≤_, _<_, min, max}
 use mathlib.Core.Path.{_≡_}
-use mathlib.Core.Bool.{Bool, true, false}
+use mathlib.Core.Bool.{Bool, true, false, cond, _&&_}
 use mathlib.Core.List.{List}
+use lib.Dec.{ltb}
 use lib.ListN.{length, getD, take}
 use Rattle.lists.specs.Atoms.{atomsOf}
 use Rattle.lists.specs.Lists.{keep}
@@ -20,7 +21,7 @@ use Rattle.bins.specs.Sort.{atomsIn}
 use Rattle.bins.specs.Traversal.{bin}
 use Rattle.bins.specs.Listing.{Scene, listOf, Below}
 use Rattle.candidates.specs.Checks.{lazy}
-use Rattle.exclusions.specs.Table.{rowAt, lookedFrom}
+use Rattle.exclusions.specs.Table.{rowAt, lookedUp}
 use Rattle.neighbor_grid.specs.Grid.{gridOf, cellAt, plainOf}
 use Rattle.neighbor_grid.specs.Layout.{touchingRows}
 use Rattle.neighbor_listing.specs.declared.loops.Tried.{Tried}
@@ -30,30 +31,29 @@ use Rattle.neighbor_listing.specs.declared.sight.Sight.{Sight}
 unfoldable pub seesOf : Sight → Vec3 → Vec3 → Bool
 seesOf s a b = le (norm2Of (imageIn (s .prepared) (subOf a b) .diff)) (s .limit)
 
--- every row before k is of a low atom below a
-pub record Under (table : List ℕ) (a k : ℕ) : Type 0 where
-  pub within : k ≤ length table / 2
-  pub low : (j : ℕ) → j < k → rowAt table j .0 < a
+-- each low atom's highest partner in the table, or more
+pub record Tops (table tops : List ℕ) : Type 0 where
+  pub at : (k : ℕ) → k < length table / 2 → rowAt table k .0 < length tops → rowAt table k .1 ≤ getD tops (rowAt table k .0) 0
 
--- so it is at each atom's number; an atom past the last has row 0
-pub record Firsts (table firsts : List ℕ) : Type 0 where
-  pub at : (a : ℕ) → Under table a (getD firsts a 0)
+-- past it no pair is a row
+unfoldable pub clearOf : List ℕ → ℕ → ℕ → Bool
+clearOf tops low high = ltb low (length tops) && ltb (getD tops low 0) high
 
--- a pair's lookup from its low atom's row
+-- a pair's lookup
 unfoldable pub lookedIn : List ℕ → List ℕ → ℕ → ℕ → Bool
-unfolding lookedFrom
-lookedIn firsts table low high = lookedFrom table (getD firsts low 0) low high
+unfolding clearOf lookedUp
+lookedIn tops table low high = cond (clearOf tops low high) false (lookedUp table low high)
 
 -- what is excluded and what is near, as the loops find it; the near test first; and the scene of pairs that are near
 unfoldable pub lookedBy : Sight → List Float → List ℕ → List ℕ → Scene
-lookedBy s xs firsts table = record { excluded = lookedIn firsts table; near = λ low high. seesOf s (positionAt xs low) (positionAt xs high) }
+lookedBy s xs tops table = record { excluded = lookedIn tops table; near = λ low high. seesOf s (positionAt xs low) (positionAt xs high) }
 
 unfoldable pub sceneBy : Sight → List Float → List ℕ → List ℕ → Scene
 unfolding lazy lookedBy
-sceneBy s xs firsts table = lazy (lookedBy s xs firsts table)
+sceneBy s xs tops table = lazy (lookedBy s xs tops table)
 
 unfoldable pub chosenBy : List ℕ → List ℕ → Scene
-chosenBy firsts table = record { excluded = lookedIn firsts table; near = λ low high. true }
+chosenBy tops table = record { excluded = lookedIn tops table; near = λ low high. true }
 
 -- whether j is near i
 unfoldable pub nearTo : Sight → List Float → ℕ → ℕ → Bool
@@ -66,11 +66,11 @@ pub record Gathered (q : ℕ → Bool) (part : List ℕ) (r : ℕ) (mem : List �
 
 -- from a tally t and a memory, the candidates lead to the tally r and the new memory
 abbrev pub Lists : Sight → List Float → List ℕ → List ℕ → Tally → List ℕ → List (ℕ × ℕ) → Tally → List ℕ → Type 0
-Lists s xs firsts table t old cands r new = record { tally = r; mem = new } ≡ listOf (sceneBy s xs firsts table) (record { tally = t; mem = old }) cands
+Lists s xs tops table t old cands r new = record { tally = r; mem = new } ≡ listOf (sceneBy s xs tops table) (record { tally = t; mem = old }) cands
 
 -- so it is where it is done, and else the memory is as it was
-pub record TriedSays (s : Sight) (xs : List Float) (firsts table : List ℕ) (t : Tally) (old : List ℕ) (cands : List (ℕ × ℕ)) (r : Tried) (new : List ℕ) : Type 0 where
-  pub lists : r .done ≡ true → Lists s xs firsts table t old cands (r .tally) new
+pub record TriedSays (s : Sight) (xs : List Float) (tops table : List ℕ) (t : Tally) (old : List ℕ) (cands : List (ℕ × ℕ)) (r : Tried) (new : List ℕ) : Type 0 where
+  pub lists : r .done ≡ true → Lists s xs tops table t old cands (r .tally) new
   pub kept : r .done ≡ false → new ≡ old
 
 -- the atoms of a cell, as the tables hand them out

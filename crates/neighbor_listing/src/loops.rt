@@ -1,11 +1,12 @@
 // The candidate pairs: an atom with the atoms of a bin, which lie side by side where they are at most 64; else, and where a difference goes the long way,
 // with a part of a bin, at most 32 at a time. The near ones are gathered without a branch; of these, what is not excluded is stored where there is room.
-use crate::firsts::first_of;
 use crate::side;
 use crate::side::Bounds;
+use crate::side::Reach;
 use crate::sight::Sight;
 use crate::sight::sees;
 use crate::sight::spot_at;
+use crate::tops::is_excluded;
 use bins::Tally;
 use cell::Vec3;
 ghost use mathlib.Core.Path.{_≡_};
@@ -15,7 +16,7 @@ ghost use Rattle.cell.specs.Vec.{positionAt};
 ghost use Rattle.lists.specs.Lists.{ordered, withEach, inside, across};
 ghost use Rattle.bins.specs.Listing.{considerOf, listOf, Ready, Below};
 ghost use mathlib.Core.Bool.{cond};
-ghost use Rattle.neighbor_listing.specs.Sides.{SideRooms, LaidOut, Bounded};
+ghost use Rattle.neighbor_listing.specs.Sides.{SideRooms, LaidOut, Bounded, Framed, SharedAt, Shares};
 ghost use Rattle.neighbor_listing.specs.Steps.{chosenBy, nearTo, Gathered, Lists, TriedSays};
 
 fn lower(i: u32, j: u32) -> u32
@@ -24,7 +25,7 @@ fn lower(i: u32, j: u32) -> u32
     if i < j { i } else { j }
 }
 
-fn higher(i: u32, j: u32) -> u32
+pub(crate) fn higher(i: u32, j: u32) -> u32
     ensures { λ r. ⌜ r ≡ max i j ⌝ }
 {
     if i < j { j } else { i }
@@ -38,13 +39,13 @@ fn one(test: bool) -> usize
 }
 
 // A near pair: listed where it is not excluded.
-fn settle(table: &[u32], firsts: &[u32], pairs: &mut [u32], t: Tally, i: u32, j: u32) -> Tally
+fn settle(table: &[u32], tops: &[u32], pairs: &mut [u32], t: Tally, i: u32, j: u32) -> Tally
     requires { ⌜ Ready t 1 ⌝ }
-    ensures { λ r. ⌜ record { tally = r; mem = now (pairs .exit) } ≡ considerOf (chosenBy (now (firsts .entry)) (now (table .entry))) (record { tally = t; mem = now (pairs .entry) }) (ordered i j) ⌝ }
+    ensures { λ r. ⌜ record { tally = r; mem = now (pairs .exit) } ≡ considerOf (chosenBy (now (tops .entry)) (now (table .entry))) (record { tally = t; mem = now (pairs .entry) }) (ordered i j) ⌝ }
 {
     let low = lower(i, j);
     let high = higher(i, j);
-    if exclusions::kernel::excluded_from(table, first_of(firsts, low), low, high) {
+    if is_excluded(table, tops, low, high) {
         return t;
     }
     let count = t.count;
@@ -58,19 +59,19 @@ fn settle(table: &[u32], firsts: &[u32], pairs: &mut [u32], t: Tally, i: u32, j:
 // An atom with each that is near.
 fn settle_all(
     table: &[u32],
-    firsts: &[u32],
+    tops: &[u32],
     pairs: &mut [u32],
     t: Tally,
     i: u32,
     near: &[u32],
 ) -> Tally
     requires { ⌜ Ready t (length (withEach i (now near))) ⌝ }
-    ensures { λ r. ⌜ record { tally = r; mem = now (pairs .exit) } ≡ listOf (chosenBy (now (firsts .entry)) (now (table .entry))) (record { tally = t; mem = now (pairs .entry) }) (withEach i (now (near .entry))) ⌝ }
+    ensures { λ r. ⌜ record { tally = r; mem = now (pairs .exit) } ≡ listOf (chosenBy (now (tops .entry)) (now (table .entry))) (record { tally = t; mem = now (pairs .entry) }) (withEach i (now (near .entry))) ⌝ }
 {
     let mut now = t;
     let mut k = 0;
     while k < near.len() {
-        now = settle(table, firsts, pairs, now, i, near[k]);
+        now = settle(table, tops, pairs, now, i, near[k]);
         k += 1;
     }
     now
@@ -104,7 +105,7 @@ fn consider_few(
     s: Sight,
     xs: &[f64],
     table: &[u32],
-    firsts: &[u32],
+    tops: &[u32],
     pairs: &mut [u32],
     t: Tally,
     i: u32,
@@ -112,12 +113,12 @@ fn consider_few(
     part: &[u32],
 ) -> Tally
     requires { ⌜ (length (now part) ≤ 32) × Below (length (now xs) / 3) (now part) × (a ≡ positionAt (now xs) i) × Ready t (length (withEach i (now part))) ⌝ }
-    ensures { λ r. ⌜ Lists s (now (xs .entry)) (now (firsts .entry)) (now (table .entry)) t (now (pairs .entry)) (withEach i (now (part .entry))) r (now (pairs .exit)) ⌝ }
+    ensures { λ r. ⌜ Lists s (now (xs .entry)) (now (tops .entry)) (now (table .entry)) t (now (pairs .entry)) (withEach i (now (part .entry))) r (now (pairs .exit)) ⌝ }
 {
     let n = part.len();
     let mut room = blank();
     let count = sift(s, xs, i, a, part, &mut room[..n]);
-    let near = settle_all(table, firsts, pairs, t, i, &room[..count]);
+    let near = settle_all(table, tops, pairs, t, i, &room[..count]);
     Tally {
         count: near.count,
         checks: t.checks + n,
@@ -140,21 +141,21 @@ fn consider_part(
     s: Sight,
     xs: &[f64],
     table: &[u32],
-    firsts: &[u32],
+    tops: &[u32],
     pairs: &mut [u32],
     t: Tally,
     i: u32,
     part: &[u32],
 ) -> Tally
     requires { ⌜ (i < length (now xs) / 3) × Below (length (now xs) / 3) (now part) × Ready t (length (withEach i (now part))) ⌝ }
-    ensures { λ r. ⌜ Lists s (now (xs .entry)) (now (firsts .entry)) (now (table .entry)) t (now (pairs .entry)) (withEach i (now (part .entry))) r (now (pairs .exit)) ⌝ }
+    ensures { λ r. ⌜ Lists s (now (xs .entry)) (now (tops .entry)) (now (table .entry)) t (now (pairs .entry)) (withEach i (now (part .entry))) r (now (pairs .exit)) ⌝ }
 {
     let a = spot_at(xs, i as usize);
     let mut now = t;
     let mut k = 0;
     while k < part.len() {
         let to = part_end(k, part.len());
-        now = consider_few(s, xs, table, firsts, pairs, now, i, a, &part[k..to]);
+        now = consider_few(s, xs, table, tops, pairs, now, i, a, &part[k..to]);
         k = to;
     }
     now
@@ -171,7 +172,7 @@ fn try_side(
     s: Sight,
     xs: &[f64],
     table: &[u32],
-    firsts: &[u32],
+    tops: &[u32],
     pairs: &mut [u32],
     t: Tally,
     i: u32,
@@ -183,12 +184,13 @@ fn try_side(
     flags: &mut [usize],
     room: &mut [u32],
     w: Bounds,
+    p: Reach,
 ) -> Tried
-    requires { ⌜ (i < length (now xs) / 3) × Below (length (now xs) / 3) (now part) × (from ≤ length (now part)) × (length (now part) ≤ 64) × LaidOut (now xs) (now part) (now bx) (now by) (now bz) (length (now part)) × (length (now flags) ≡ 64) × (length (now room) ≡ 64) × Ready t (length (withEach i (drop from (now part)))) × Bounded (now bx) (now by) (now bz) (length (now part)) w ⌝ }
-    ensures { λ r. ⌜ TriedSays s (now (xs .entry)) (now (firsts .entry)) (now (table .entry)) t (now (pairs .entry)) (withEach i (drop from (now (part .entry)))) r (now (pairs .exit)) ⌝ }
+    requires { ⌜ (i < length (now xs) / 3) × Below (length (now xs) / 3) (now part) × (from ≤ length (now part)) × (length (now part) ≤ 64) × LaidOut (now xs) (now part) (now bx) (now by) (now bz) (length (now part)) × (length (now flags) ≡ 64) × (length (now room) ≡ 64) × Ready t (length (withEach i (drop from (now part)))) × Bounded (now bx) (now by) (now bz) (length (now part)) w × SharedAt s (positionAt (now xs) i) w p ⌝ }
+    ensures { λ r. ⌜ TriedSays s (now (xs .entry)) (now (tops .entry)) (now (table .entry)) t (now (pairs .entry)) (withEach i (drop from (now (part .entry)))) r (now (pairs .exit)) ⌝ }
 {
     let a = spot_at(xs, i as usize);
-    let r = side::reach_of(s, a, w);
+    let r = side::reach_by(s, a, w, p);
     if r.beyond {
         return Tried {
             done: true,
@@ -205,7 +207,7 @@ fn try_side(
         };
     }
     let count = side::gather(from, part, flags, room);
-    let near = settle_all(table, firsts, pairs, t, i, &room[..count]);
+    let near = settle_all(table, tops, pairs, t, i, &room[..count]);
     Tried {
         done: true,
         tally: Tally {
@@ -220,7 +222,7 @@ fn try_skewed(
     s: Sight,
     xs: &[f64],
     table: &[u32],
-    firsts: &[u32],
+    tops: &[u32],
     pairs: &mut [u32],
     t: Tally,
     i: u32,
@@ -234,7 +236,7 @@ fn try_skewed(
     w: Bounds,
 ) -> Tried
     requires { ⌜ (i < length (now xs) / 3) × Below (length (now xs) / 3) (now part) × (from ≤ length (now part)) × (length (now part) ≤ 64) × LaidOut (now xs) (now part) (now bx) (now by) (now bz) (length (now part)) × (length (now flags) ≡ 64) × (length (now room) ≡ 64) × Ready t (length (withEach i (drop from (now part)))) × Bounded (now bx) (now by) (now bz) (length (now part)) w ⌝ }
-    ensures { λ r. ⌜ TriedSays s (now (xs .entry)) (now (firsts .entry)) (now (table .entry)) t (now (pairs .entry)) (withEach i (drop from (now (part .entry)))) r (now (pairs .exit)) ⌝ }
+    ensures { λ r. ⌜ TriedSays s (now (xs .entry)) (now (tops .entry)) (now (table .entry)) t (now (pairs .entry)) (withEach i (drop from (now (part .entry)))) r (now (pairs .exit)) ⌝ }
 {
     let a = spot_at(xs, i as usize);
     let r = side::tilted_reach(s, a, w);
@@ -254,7 +256,7 @@ fn try_skewed(
         };
     }
     let count = side::gather(from, part, flags, room);
-    let near = settle_all(table, firsts, pairs, t, i, &room[..count]);
+    let near = settle_all(table, tops, pairs, t, i, &room[..count]);
     Tried {
         done: true,
         tally: Tally {
@@ -270,7 +272,7 @@ fn consider_side(
     s: Sight,
     xs: &[f64],
     table: &[u32],
-    firsts: &[u32],
+    tops: &[u32],
     pairs: &mut [u32],
     t: Tally,
     i: u32,
@@ -282,16 +284,17 @@ fn consider_side(
     flags: &mut [usize],
     room: &mut [u32],
     w: Bounds,
+    p: Reach,
 ) -> Tally
-    requires { ⌜ (i < length (now xs) / 3) × Below (length (now xs) / 3) (now part) × (from ≤ length (now part)) × (length (now part) ≤ 64) × LaidOut (now xs) (now part) (now bx) (now by) (now bz) (length (now part)) × (length (now flags) ≡ 64) × (length (now room) ≡ 64) × Ready t (length (withEach i (drop from (now part)))) × Bounded (now bx) (now by) (now bz) (length (now part)) w ⌝ }
-    ensures { λ r. ⌜ Lists s (now (xs .entry)) (now (firsts .entry)) (now (table .entry)) t (now (pairs .entry)) (withEach i (drop from (now (part .entry)))) r (now (pairs .exit)) ⌝ }
+    requires { ⌜ (i < length (now xs) / 3) × Below (length (now xs) / 3) (now part) × (from ≤ length (now part)) × (length (now part) ≤ 64) × LaidOut (now xs) (now part) (now bx) (now by) (now bz) (length (now part)) × (length (now flags) ≡ 64) × (length (now room) ≡ 64) × Ready t (length (withEach i (drop from (now part)))) × Bounded (now bx) (now by) (now bz) (length (now part)) w × SharedAt s (positionAt (now xs) i) w p ⌝ }
+    ensures { λ r. ⌜ Lists s (now (xs .entry)) (now (tops .entry)) (now (table .entry)) t (now (pairs .entry)) (withEach i (drop from (now (part .entry)))) r (now (pairs .exit)) ⌝ }
 {
     if s.prepared.general.skewed {
         let o = try_skewed(
             s,
             xs,
             table,
-            firsts,
+            tops,
             pairs,
             t,
             i,
@@ -307,13 +310,13 @@ fn consider_side(
         if o.done {
             return o.tally;
         }
-        return consider_part(s, xs, table, firsts, pairs, t, i, &part[from..]);
+        return consider_part(s, xs, table, tops, pairs, t, i, &part[from..]);
     }
     let o = try_side(
         s,
         xs,
         table,
-        firsts,
+        tops,
         pairs,
         t,
         i,
@@ -325,11 +328,12 @@ fn consider_side(
         flags,
         room,
         w,
+        p,
     );
     if o.done {
         return o.tally;
     }
-    consider_part(s, xs, table, firsts, pairs, t, i, &part[from..])
+    consider_part(s, xs, table, tops, pairs, t, i, &part[from..])
 }
 
 // .. with each of a whole part.
@@ -337,7 +341,7 @@ fn consider_whole(
     s: Sight,
     xs: &[f64],
     table: &[u32],
-    firsts: &[u32],
+    tops: &[u32],
     pairs: &mut [u32],
     t: Tally,
     i: u32,
@@ -348,16 +352,17 @@ fn consider_whole(
     flags: &mut [usize],
     room: &mut [u32],
     w: Bounds,
+    p: Reach,
 ) -> Tally
-    requires { ⌜ (i < length (now xs) / 3) × Below (length (now xs) / 3) (now part) × (length (now part) ≤ 64) × LaidOut (now xs) (now part) (now bx) (now by) (now bz) (length (now part)) × (length (now flags) ≡ 64) × (length (now room) ≡ 64) × Ready t (length (withEach i (now part))) × Bounded (now bx) (now by) (now bz) (length (now part)) w ⌝ }
-    ensures { λ r. ⌜ Lists s (now (xs .entry)) (now (firsts .entry)) (now (table .entry)) t (now (pairs .entry)) (withEach i (now (part .entry))) r (now (pairs .exit)) ⌝ }
+    requires { ⌜ (i < length (now xs) / 3) × Below (length (now xs) / 3) (now part) × (length (now part) ≤ 64) × LaidOut (now xs) (now part) (now bx) (now by) (now bz) (length (now part)) × (length (now flags) ≡ 64) × (length (now room) ≡ 64) × Ready t (length (withEach i (now part))) × Bounded (now bx) (now by) (now bz) (length (now part)) w × SharedAt s (positionAt (now xs) i) w p ⌝ }
+    ensures { λ r. ⌜ Lists s (now (xs .entry)) (now (tops .entry)) (now (table .entry)) t (now (pairs .entry)) (withEach i (now (part .entry))) r (now (pairs .exit)) ⌝ }
 {
     if s.prepared.general.skewed {
         let o = try_skewed(
             s,
             xs,
             table,
-            firsts,
+            tops,
             pairs,
             t,
             i,
@@ -373,13 +378,13 @@ fn consider_whole(
         if o.done {
             return o.tally;
         }
-        return consider_part(s, xs, table, firsts, pairs, t, i, part);
+        return consider_part(s, xs, table, tops, pairs, t, i, part);
     }
     let o = try_side(
         s,
         xs,
         table,
-        firsts,
+        tops,
         pairs,
         t,
         i,
@@ -391,11 +396,12 @@ fn consider_whole(
         flags,
         room,
         w,
+        p,
     );
     if o.done {
         return o.tally;
     }
-    consider_part(s, xs, table, firsts, pairs, t, i, part)
+    consider_part(s, xs, table, tops, pairs, t, i, part)
 }
 
 // Each atom of a bin with each of another, which lies side by side.
@@ -403,7 +409,7 @@ fn cross_side(
     s: Sight,
     xs: &[f64],
     table: &[u32],
-    firsts: &[u32],
+    tops: &[u32],
     pairs: &mut [u32],
     t: Tally,
     home: &[u32],
@@ -414,9 +420,10 @@ fn cross_side(
     flags: &mut [usize],
     room: &mut [u32],
     w: Bounds,
+    p: Reach,
 ) -> Tally
-    requires { ⌜ Below (length (now xs) / 3) (now home) × Below (length (now xs) / 3) (now other) × (length (now other) ≤ 64) × LaidOut (now xs) (now other) (now bx) (now by) (now bz) (length (now other)) × (length (now flags) ≡ 64) × (length (now room) ≡ 64) × Ready t (length (across (now home) (now other))) × Bounded (now bx) (now by) (now bz) (length (now other)) w ⌝ }
-    ensures { λ r. ⌜ Lists s (now (xs .entry)) (now (firsts .entry)) (now (table .entry)) t (now (pairs .entry)) (across (now (home .entry)) (now (other .entry))) r (now (pairs .exit)) ⌝ }
+    requires { ⌜ Below (length (now xs) / 3) (now home) × Below (length (now xs) / 3) (now other) × (length (now other) ≤ 64) × LaidOut (now xs) (now other) (now bx) (now by) (now bz) (length (now other)) × (length (now flags) ≡ 64) × (length (now room) ≡ 64) × Ready t (length (across (now home) (now other))) × Bounded (now bx) (now by) (now bz) (length (now other)) w × Shares s (now xs) (now home) w p ⌝ }
+    ensures { λ r. ⌜ Lists s (now (xs .entry)) (now (tops .entry)) (now (table .entry)) t (now (pairs .entry)) (across (now (home .entry)) (now (other .entry))) r (now (pairs .exit)) ⌝ }
 {
     let mut now = t;
     let mut k = 0;
@@ -426,7 +433,7 @@ fn cross_side(
             s,
             xs,
             table,
-            firsts,
+            tops,
             pairs,
             now,
             i,
@@ -437,6 +444,7 @@ fn cross_side(
             flags,
             room,
             w,
+            p,
         );
         k += 1;
     }
@@ -448,7 +456,7 @@ fn home_side(
     s: Sight,
     xs: &[f64],
     table: &[u32],
-    firsts: &[u32],
+    tops: &[u32],
     pairs: &mut [u32],
     t: Tally,
     home: &[u32],
@@ -458,9 +466,10 @@ fn home_side(
     flags: &mut [usize],
     room: &mut [u32],
     w: Bounds,
+    p: Reach,
 ) -> Tally
-    requires { ⌜ Below (length (now xs) / 3) (now home) × (length (now home) ≤ 64) × LaidOut (now xs) (now home) (now bx) (now by) (now bz) (length (now home)) × (length (now flags) ≡ 64) × (length (now room) ≡ 64) × Ready t (length (inside (now home))) × Bounded (now bx) (now by) (now bz) (length (now home)) w ⌝ }
-    ensures { λ r. ⌜ Lists s (now (xs .entry)) (now (firsts .entry)) (now (table .entry)) t (now (pairs .entry)) (inside (now (home .entry))) r (now (pairs .exit)) ⌝ }
+    requires { ⌜ Below (length (now xs) / 3) (now home) × (length (now home) ≤ 64) × LaidOut (now xs) (now home) (now bx) (now by) (now bz) (length (now home)) × (length (now flags) ≡ 64) × (length (now room) ≡ 64) × Ready t (length (inside (now home))) × Bounded (now bx) (now by) (now bz) (length (now home)) w × Shares s (now xs) (now home) w p ⌝ }
+    ensures { λ r. ⌜ Lists s (now (xs .entry)) (now (tops .entry)) (now (table .entry)) t (now (pairs .entry)) (inside (now (home .entry))) r (now (pairs .exit)) ⌝ }
 {
     let mut now = t;
     let mut k = 0;
@@ -470,7 +479,7 @@ fn home_side(
             s,
             xs,
             table,
-            firsts,
+            tops,
             pairs,
             now,
             i,
@@ -482,6 +491,7 @@ fn home_side(
             flags,
             room,
             w,
+            p,
         );
         k += 1;
     }
@@ -493,14 +503,15 @@ fn cross_few(
     s: Sight,
     xs: &[f64],
     table: &[u32],
-    firsts: &[u32],
+    tops: &[u32],
     pairs: &mut [u32],
     t: Tally,
     home: &[u32],
     other: &[u32],
+    v: Bounds,
 ) -> Tally
-    requires { ⌜ Below (length (now xs) / 3) (now home) × Below (length (now xs) / 3) (now other) × (length (now other) ≤ 64) × Ready t (length (across (now home) (now other))) ⌝ }
-    ensures { λ r. ⌜ Lists s (now (xs .entry)) (now (firsts .entry)) (now (table .entry)) t (now (pairs .entry)) (across (now (home .entry)) (now (other .entry))) r (now (pairs .exit)) ⌝ }
+    requires { ⌜ Below (length (now xs) / 3) (now home) × Below (length (now xs) / 3) (now other) × (length (now other) ≤ 64) × Ready t (length (across (now home) (now other))) × Framed (now xs) (now home) v ⌝ }
+    ensures { λ r. ⌜ Lists s (now (xs .entry)) (now (tops .entry)) (now (table .entry)) t (now (pairs .entry)) (across (now (home .entry)) (now (other .entry))) r (now (pairs .exit)) ⌝ }
 {
     let mut bx = side::blank_places();
     let mut by = side::blank_places();
@@ -509,11 +520,12 @@ fn cross_few(
     let mut room = side::blank_room();
     side::lay_out(xs, other, &mut bx, &mut by, &mut bz);
     let w = side::bounds_of(other.len(), &bx, &by, &bz);
+    let p = side::shared_of(s, v, w);
     cross_side(
         s,
         xs,
         table,
-        firsts,
+        tops,
         pairs,
         t,
         home,
@@ -524,6 +536,7 @@ fn cross_few(
         &mut flags,
         &mut room,
         w,
+        p,
     )
 }
 
@@ -531,13 +544,13 @@ fn home_few(
     s: Sight,
     xs: &[f64],
     table: &[u32],
-    firsts: &[u32],
+    tops: &[u32],
     pairs: &mut [u32],
     t: Tally,
     home: &[u32],
 ) -> Tally
     requires { ⌜ Below (length (now xs) / 3) (now home) × (length (now home) ≤ 64) × Ready t (length (inside (now home))) ⌝ }
-    ensures { λ r. ⌜ Lists s (now (xs .entry)) (now (firsts .entry)) (now (table .entry)) t (now (pairs .entry)) (inside (now (home .entry))) r (now (pairs .exit)) ⌝ }
+    ensures { λ r. ⌜ Lists s (now (xs .entry)) (now (tops .entry)) (now (table .entry)) t (now (pairs .entry)) (inside (now (home .entry))) r (now (pairs .exit)) ⌝ }
 {
     let mut bx = side::blank_places();
     let mut by = side::blank_places();
@@ -546,11 +559,12 @@ fn home_few(
     let mut room = side::blank_room();
     side::lay_out(xs, home, &mut bx, &mut by, &mut bz);
     let w = side::bounds_of(home.len(), &bx, &by, &bz);
+    let p = side::shared_of(s, w, w);
     home_side(
         s,
         xs,
         table,
-        firsts,
+        tops,
         pairs,
         t,
         home,
@@ -560,6 +574,7 @@ fn home_few(
         &mut flags,
         &mut room,
         w,
+        p,
     )
 }
 
@@ -568,20 +583,20 @@ fn cross_many(
     s: Sight,
     xs: &[f64],
     table: &[u32],
-    firsts: &[u32],
+    tops: &[u32],
     pairs: &mut [u32],
     t: Tally,
     home: &[u32],
     other: &[u32],
 ) -> Tally
     requires { ⌜ Below (length (now xs) / 3) (now home) × Below (length (now xs) / 3) (now other) × Ready t (length (across (now home) (now other))) ⌝ }
-    ensures { λ r. ⌜ Lists s (now (xs .entry)) (now (firsts .entry)) (now (table .entry)) t (now (pairs .entry)) (across (now (home .entry)) (now (other .entry))) r (now (pairs .exit)) ⌝ }
+    ensures { λ r. ⌜ Lists s (now (xs .entry)) (now (tops .entry)) (now (table .entry)) t (now (pairs .entry)) (across (now (home .entry)) (now (other .entry))) r (now (pairs .exit)) ⌝ }
 {
     let mut now = t;
     let mut k = 0;
     while k < home.len() {
         let i = home[k];
-        now = consider_part(s, xs, table, firsts, pairs, now, i, other);
+        now = consider_part(s, xs, table, tops, pairs, now, i, other);
         k += 1;
     }
     now
@@ -592,42 +607,43 @@ fn home_many(
     s: Sight,
     xs: &[f64],
     table: &[u32],
-    firsts: &[u32],
+    tops: &[u32],
     pairs: &mut [u32],
     t: Tally,
     home: &[u32],
 ) -> Tally
     requires { ⌜ Below (length (now xs) / 3) (now home) × Ready t (length (inside (now home))) ⌝ }
-    ensures { λ r. ⌜ Lists s (now (xs .entry)) (now (firsts .entry)) (now (table .entry)) t (now (pairs .entry)) (inside (now (home .entry))) r (now (pairs .exit)) ⌝ }
+    ensures { λ r. ⌜ Lists s (now (xs .entry)) (now (tops .entry)) (now (table .entry)) t (now (pairs .entry)) (inside (now (home .entry))) r (now (pairs .exit)) ⌝ }
 {
     let mut now = t;
     let mut k = 0;
     while k < home.len() {
         let i = home[k];
-        now = consider_part(s, xs, table, firsts, pairs, now, i, &home[k + 1..]);
+        now = consider_part(s, xs, table, tops, pairs, now, i, &home[k + 1..]);
         k += 1;
     }
     now
 }
 
-// Each atom of a bin with each of another.
+// Each atom of a bin, whose bounds are v, with each of another.
 pub(crate) fn consider_cross(
     s: Sight,
     xs: &[f64],
     table: &[u32],
-    firsts: &[u32],
+    tops: &[u32],
     pairs: &mut [u32],
     t: Tally,
     home: &[u32],
     other: &[u32],
+    v: Bounds,
 ) -> Tally
-    requires { ⌜ Below (length (now xs) / 3) (now home) × Below (length (now xs) / 3) (now other) × Ready t (length (across (now home) (now other))) ⌝ }
-    ensures { λ r. ⌜ Lists s (now (xs .entry)) (now (firsts .entry)) (now (table .entry)) t (now (pairs .entry)) (across (now (home .entry)) (now (other .entry))) r (now (pairs .exit)) ⌝ }
+    requires { ⌜ Below (length (now xs) / 3) (now home) × Below (length (now xs) / 3) (now other) × Ready t (length (across (now home) (now other))) × Framed (now xs) (now home) v ⌝ }
+    ensures { λ r. ⌜ Lists s (now (xs .entry)) (now (tops .entry)) (now (table .entry)) t (now (pairs .entry)) (across (now (home .entry)) (now (other .entry))) r (now (pairs .exit)) ⌝ }
 {
     if other.len() <= 64 {
-        return cross_few(s, xs, table, firsts, pairs, t, home, other);
+        return cross_few(s, xs, table, tops, pairs, t, home, other, v);
     }
-    cross_many(s, xs, table, firsts, pairs, t, home, other)
+    cross_many(s, xs, table, tops, pairs, t, home, other)
 }
 
 // Each pair of a bin, the earlier atom first.
@@ -635,16 +651,16 @@ pub(crate) fn consider_home(
     s: Sight,
     xs: &[f64],
     table: &[u32],
-    firsts: &[u32],
+    tops: &[u32],
     pairs: &mut [u32],
     t: Tally,
     home: &[u32],
 ) -> Tally
     requires { ⌜ Below (length (now xs) / 3) (now home) × Ready t (length (inside (now home))) ⌝ }
-    ensures { λ r. ⌜ Lists s (now (xs .entry)) (now (firsts .entry)) (now (table .entry)) t (now (pairs .entry)) (inside (now (home .entry))) r (now (pairs .exit)) ⌝ }
+    ensures { λ r. ⌜ Lists s (now (xs .entry)) (now (tops .entry)) (now (table .entry)) t (now (pairs .entry)) (inside (now (home .entry))) r (now (pairs .exit)) ⌝ }
 {
     if home.len() <= 64 {
-        return home_few(s, xs, table, firsts, pairs, t, home);
+        return home_few(s, xs, table, tops, pairs, t, home);
     }
-    home_many(s, xs, table, firsts, pairs, t, home)
+    home_many(s, xs, table, tops, pairs, t, home)
 }

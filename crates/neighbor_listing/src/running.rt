@@ -1,9 +1,9 @@
 // A run over the candidates: all pairs, or the grid's.
 use crate::Listed;
-use crate::firsts::first_rows;
 use crate::loops::consider_home;
 use crate::sight::sight_of;
 use crate::sweep::sweep_all;
+use crate::tops::raise_all;
 use bins::Grid;
 use bins::Tally;
 use cell::Cell;
@@ -78,12 +78,12 @@ pub(crate) fn run_plain(
     ensures { λ _. ⌜ now (pairs .exit) ≡ laidOf (now (pairs .entry)) (nearPairs cell radius (now (xs .entry)) (now (table .entry))) ⌝ }
 {
     let n = xs.len() / 3;
-    let mut firsts = blank();
-    first_rows(table, &mut firsts[..n]);
+    let mut tops = blank();
+    raise_all(table, &mut tops[..n]);
     let mut atoms = blank();
     number(&mut atoms[..n]);
     let s = sight_of(cell, radius);
-    let t = consider_home(s, xs, table, &firsts[..n], pairs, none(), &atoms[..n]);
+    let t = consider_home(s, xs, table, &tops[..n], pairs, none(), &atoms[..n]);
     let excluded = candidates::kernel::rows_below(table, n);
     finish(t, excluded, pairs.len() / 2, true)
 }
@@ -105,14 +105,14 @@ pub(crate) fn run_grid(
     ensures { λ _. ⌜ now (pairs .exit) ≡ laidOf (now (pairs .entry)) (nearPairs cell radius (now (xs .entry)) (now (table .entry))) ⌝ }
 {
     let n = xs.len() / 3;
-    let mut firsts = blank();
-    first_rows(table, &mut firsts[..n]);
+    let mut tops = blank();
+    raise_all(table, &mut tops[..n]);
     let t = sweep_all(
         sight_of(cell, radius),
         g,
         xs,
         table,
-        &firsts[..n],
+        &tops[..n],
         pairs,
         starts,
         items,

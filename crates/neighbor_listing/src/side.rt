@@ -1,17 +1,19 @@
 // The atoms of a bin side by side, at most 64. An atom is held against them in a loop that has no call and no branch, so that two go in an instruction;
 // it is right where every difference goes a short way, and says whether that is so. The bounds of their places say it once for all of them, and the way,
-// and whether any can be in sight: rounding keeps the order. In a box by the differences' own bounds, in a tilted cell by those of their fractions.
+// and whether any can be in sight: rounding keeps the order. In a box by the differences' own bounds, and most often once for all atoms of a second bin; in
+// a tilted cell by the bounds of their fractions.
 use crate::sight::Sight;
 use crate::sight::spot_at;
 use cell::Vec3;
 use cell::matrices;
 use cell::vectors;
+use neighbor_asked::strays::is_bounded;
 ghost use mathlib.Core.Path.{_≡_};
 ghost use mathlib.Core.Bool.{cond, true, false};
 ghost use Prim.Native.Nat.{_/_, _≤_, _<_};
 ghost use lib.ListN.{length};
 ghost use Rattle.bins.specs.Listing.{Below};
-ghost use Rattle.neighbor_listing.specs.Sides.{SideRooms, LaidOut, BoxSays, isFinite, boxHolds, TiltedSays, fractionsOf, inUnit, isTilted, tiltedHolds, isEnclosed, AllEnclosed, Bounded, stepIn, gapIn, isBeyond, SingleSays, StillSays, steppedSees, leastRows, greatestRows, isLevel, FitEnds, SlantSays, isOutside, slantedSees, isUpper, upperSees, slopeSees, ReachSays, Reaches, Flagged, Flags, Bits, FlagsTaken};
+ghost use Rattle.neighbor_listing.specs.Sides.{SideRooms, LaidOut, BoxSays, boxHolds, TiltedSays, fractionsOf, inUnit, isTilted, tiltedHolds, isEnclosed, AllEnclosed, Bounded, AllWithin, Framed, stepIn, gapIn, isBeyond, SingleSays, StillSays, SharedAt, SharedSays, steppedSees, stillSees, leastRows, greatestRows, isLevel, FitEnds, SlantSays, isOutside, slantedSees, isUpper, upperSees, slopeSees, ReachSays, Reaches, Flagged, Flags, Bits, FlagsTaken};
 
 // The least and the greatest coordinates of a part's places, and whether each lies between them: not where one is not a number.
 pub struct Bounds {
@@ -20,10 +22,11 @@ pub struct Bounds {
     pub sound: bool,
 }
 
-// What the bounds say of all their places: whether one step on each axis takes the differences with an atom to their images, that step (of a tilted cell:
-// of the fractions), and whether all of them are out of sight then.
+// What the bounds say of all their places: whether one step on each axis takes the differences with an atom to their images, in a box whether it is known
+// to be nothing, that step (of a tilted cell: of the fractions), and whether all of them are out of sight then.
 pub struct Reach {
     pub single: bool,
+    pub still: bool,
     pub step: Vec3,
     pub beyond: bool,
 }
@@ -161,6 +164,64 @@ pub(crate) fn bounds_of(n: usize, bx: &[f64], by: &[f64], bz: &[f64]) -> Bounds
     }
 }
 
+// The bounds of a part's atoms where they lie, for those that are not laid out.
+fn ends_at(xs: &[f64], part: &[u32]) -> Bounds
+    requires { ⌜ Below (length (now xs) / 3) (now part) ⌝ }
+{
+    let far = 1.0 / 0.0;
+    let mut lo = Vec3 {
+        x: far,
+        y: far,
+        z: far,
+    };
+    let mut hi = Vec3 {
+        x: -far,
+        y: -far,
+        z: -far,
+    };
+    let mut k = 0;
+    while k < part.len() {
+        let b = spot_at(xs, part[k] as usize);
+        lo = least(lo, b);
+        hi = greatest(hi, b);
+        k += 1;
+    }
+    Bounds {
+        lo: lo,
+        hi: hi,
+        sound: true,
+    }
+}
+
+fn all_within(xs: &[f64], part: &[u32], v: Bounds) -> bool
+    requires { ⌜ Below (length (now xs) / 3) (now part) ⌝ }
+    ensures { λ r. ⌜ AllWithin (now (xs .entry)) (now (part .entry)) (length (now (part .entry))) v r ⌝ }
+{
+    let mut ok = true;
+    let mut k = 0;
+    while k < part.len() {
+        let b = spot_at(xs, part[k] as usize);
+        ok = ok & is_enclosed(v, b);
+        k += 1;
+    }
+    ok
+}
+
+pub(crate) fn bounds_at(xs: &[f64], part: &[u32]) -> Bounds
+    requires { ⌜ Below (length (now xs) / 3) (now part) ⌝ }
+    ensures { λ r. ⌜ Framed (now (xs .entry)) (now (part .entry)) r ⌝ }
+{
+    let v = ends_at(xs, part);
+    let sound = all_within(xs, part, v);
+    let lo = v.lo;
+    let hi = v.hi;
+    Bounds {
+        lo: lo,
+        hi: hi,
+        sound: sound,
+    }
+}
+
 fn one(test: bool) -> usize
     ensures { λ r. ⌜ r ≡ cond test 1 0 ⌝ }
 {
@@ -180,17 +241,11 @@ fn box_sees(s: Sight, a: Vec3, b: Vec3) -> bool
     vectors::norm2(d) <= s.limit
 }
 
-fn is_finite(l: Vec3) -> bool
-    ensures { λ r. ⌜ r ≡ isFinite l ⌝ }
-{
-    (l.x < 1e300) & (l.y < 1e300) & (l.z < 1e300)
-}
-
 fn box_holds(s: Sight, a: Vec3, b: Vec3) -> bool
     ensures { λ r. ⌜ r ≡ boxHolds s a b ⌝ }
 {
     let l = s.prepared.short;
-    is_finite(l)
+    is_bounded(l)
         & cell_square::in_length(l.x, a.x, b.x)
         & cell_square::in_length(l.y, a.y, b.y)
         & cell_square::in_length(l.z, a.z, b.z)
@@ -198,11 +253,11 @@ fn box_holds(s: Sight, a: Vec3, b: Vec3) -> bool
 
 // In a box, for all places within the bounds at once: by the two ends of the differences on each axis.
 fn is_single(s: Sight, a: Vec3, w: Bounds) -> bool
-    ensures { λ r. ⌜ SingleSays s a w r ⌝ }
+    ensures { λ r. ⌜ SingleSays s a (stepIn s a w) w r ⌝ }
 {
     let l = s.prepared.short;
     w.sound
-        & is_finite(l)
+        & is_bounded(l)
         & cell_square::steady(l.x, a.x, w.lo.x, w.hi.x)
         & cell_square::steady(l.y, a.y, w.lo.y, w.hi.y)
         & cell_square::steady(l.z, a.z, w.lo.z, w.hi.z)
@@ -214,7 +269,7 @@ fn is_still(s: Sight, a: Vec3, w: Bounds) -> bool
 {
     let l = s.prepared.short;
     w.sound
-        & is_finite(l)
+        & is_bounded(l)
         & cell_square::calm(l.x, a.x, w.lo.x, w.hi.x)
         & cell_square::calm(l.y, a.y, w.lo.y, w.hi.y)
         & cell_square::calm(l.z, a.z, w.lo.z, w.hi.z)
@@ -333,6 +388,7 @@ fn slant_of(s: Sight, w: Bounds, low: Vec3, high: Vec3) -> Reach
     if is_level(s, w, low, high) {
         return Reach {
             single: true,
+            still: false,
             step: vectors::zero(),
             beyond: false,
         };
@@ -348,6 +404,7 @@ fn slant_of(s: Sight, w: Bounds, low: Vec3, high: Vec3) -> Reach
             & cell_square::is_steady(1.0, low.x, high.x)
             & cell_square::is_steady(1.0, low.y, high.y)
             & cell_square::is_steady(1.0, low.z, high.z),
+        still: false,
         step: step,
         beyond: false,
     }
@@ -398,12 +455,13 @@ pub(crate) fn tilted_reach(s: Sight, a: Vec3, w: Bounds) -> Reach
     let step = r.step;
     Reach {
         single: r.single,
+        still: false,
         step: step,
         beyond: r.single & is_outside(s, vectors::add(low, step), vectors::add(high, step)),
     }
 }
 
-pub(crate) fn reach_of(s: Sight, a: Vec3, w: Bounds) -> Reach
+fn reach_of(s: Sight, a: Vec3, w: Bounds) -> Reach
     ensures { λ r. ⌜ ReachSays steppedSees s a w r ⌝ }
 {
     if is_still(s, a, w) {
@@ -414,6 +472,7 @@ pub(crate) fn reach_of(s: Sight, a: Vec3, w: Bounds) -> Reach
         };
         return Reach {
             single: true,
+            still: true,
             step: none,
             beyond: is_beyond(s, none, a, w),
         };
@@ -422,20 +481,70 @@ pub(crate) fn reach_of(s: Sight, a: Vec3, w: Bounds) -> Reach
     let step = step_of(s, a, w);
     Reach {
         single: single,
+        still: false,
         step: step,
         beyond: single & is_beyond(s, step, a, w),
     }
 }
 
+// One step for all places within v and all within w, asked once for two bins. Nothing is said of `beyond`: each atom asks that.
+pub(crate) fn shared_of(s: Sight, v: Bounds, w: Bounds) -> Reach
+    ensures { λ r. ⌜ SharedSays s v w r ⌝ }
+{
+    let l = s.prepared.short;
+    let step = Vec3 {
+        x: cell_square::step_by(l.x, v.lo.x - w.hi.x, v.hi.x - w.lo.x),
+        y: cell_square::step_by(l.y, v.lo.y - w.hi.y, v.hi.y - w.lo.y),
+        z: cell_square::step_by(l.z, v.lo.z - w.hi.z, v.hi.z - w.lo.z),
+    };
+    Reach {
+        single: v.sound
+            & w.sound
+            & is_bounded(l)
+            & cell_square::shared_steady(l.x, v.lo.x, v.hi.x, w.lo.x, w.hi.x)
+            & cell_square::shared_steady(l.y, v.lo.y, v.hi.y, w.lo.y, w.hi.y)
+            & cell_square::shared_steady(l.z, v.lo.z, v.hi.z, w.lo.z, w.hi.z),
+        still: cell_square::is_calm(l.x, v.lo.x - w.hi.x, v.hi.x - w.lo.x)
+            & cell_square::is_calm(l.y, v.lo.y - w.hi.y, v.hi.y - w.lo.y)
+            & cell_square::is_calm(l.z, v.lo.z - w.hi.z, v.hi.z - w.lo.z),
+        step: step,
+        beyond: false,
+    }
+}
+
+// What the bounds say to an atom of the one bin: by the shared step where there is one, else by a step of its own.
+pub(crate) fn reach_by(s: Sight, a: Vec3, w: Bounds, p: Reach) -> Reach
+    requires { ⌜ SharedAt s a w p ⌝ }
+    ensures { λ r. ⌜ ReachSays steppedSees s a w r ⌝ }
+{
+    if p.single {
+        let step = p.step;
+        return Reach {
+            single: true,
+            still: p.still,
+            step: step,
+            beyond: is_beyond(s, step, a, w),
+        };
+    }
+    reach_of(s, a, w)
+}
+
+// b - a, so that no instruction copies a for each of them: the square is that of a - b, with the step added.
 fn stepped_sees(s: Sight, a: Vec3, p: Vec3, b: Vec3) -> bool
     ensures { λ r. ⌜ r ≡ steppedSees s a p b ⌝ }
 {
     let d = Vec3 {
-        x: (a.x - b.x) + p.x,
-        y: (a.y - b.y) + p.y,
-        z: (a.z - b.z) + p.z,
+        x: (b.x - a.x) - p.x,
+        y: (b.y - a.y) - p.y,
+        z: (b.z - a.z) - p.z,
     };
     vectors::norm2(d) <= s.limit
+}
+
+fn still_sees(s: Sight, a: Vec3, p: Vec3, b: Vec3) -> bool
+    ensures { λ r. ⌜ r ≡ stillSees s a p b ⌝ }
+{
+    vectors::norm2(vectors::sub(b, a)) <= s.limit
 }
 
 fn slanted_sees(s: Sight, a: Vec3, p: Vec3, b: Vec3) -> bool
@@ -503,6 +612,34 @@ fn flag_stepped(
             z: bz[k],
         };
         flags[k] = one(stepped_sees(s, a, r.step, b));
+        k += 1;
+    }
+}
+
+// .. by a step of nothing.
+fn flag_still(
+    s: Sight,
+    i: u32,
+    a: Vec3,
+    r: Reach,
+    from: usize,
+    part: &[u32],
+    bx: &[f64],
+    by: &[f64],
+    bz: &[f64],
+    flags: &mut [usize],
+)
+    requires { ⌜ (from ≤ length (now part)) × (length (now part) ≤ 64) × SideRooms (now bx) (now by) (now bz) × (length (now flags) ≡ 64) × Reaches stillSees s a (now bx) (now by) (now bz) (length (now part)) r × (r .single ≡ true) ⌝ }
+    ensures { λ _. ⌜ Flagged s i a (now (part .entry)) (now (bx .entry)) (now (by .entry)) (now (bz .entry)) from (length (now (part .entry))) (now (flags .exit)) ⌝ }
+{
+    let mut k = from;
+    while k < part.len() {
+        let b = Vec3 {
+            x: bx[k],
+            y: by[k],
+            z: bz[k],
+        };
+        flags[k] = one(still_sees(s, a, r.step, b));
         k += 1;
     }
 }
@@ -637,6 +774,10 @@ pub(crate) fn flag(
     ensures { λ o. ⌜ Flags s i a (now (part .entry)) (now (bx .entry)) (now (by .entry)) (now (bz .entry)) from (length (now (part .entry))) (now (flags .exit)) o ⌝ }
 {
     if r.single {
+        if r.still {
+            flag_still(s, i, a, r, from, part, bx, by, bz, flags);
+            return true;
+        }
         flag_stepped(s, i, a, r, from, part, bx, by, bz, flags);
         return true;
     }

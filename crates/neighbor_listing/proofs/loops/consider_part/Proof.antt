@@ -10,10 +10,10 @@ use Rattle.neighbor_listing.proofs.loops.consider_part.Statement.{state
 use Rattle.neighbor_listing.proofs.loops.consider_part.Tie as tie
 
 abbrev Inv-loop : tie.InvT-loop
-Inv-loop s xs table firsts pairs₀ i part a now₀ k₀ pairs now k = (k ≤ length part) × (length pairs ≡ length pairs₀) × Run (sceneBy s xs firsts table) (record { tally = now₀; mem = pairs₀ }) (record { tally = now; mem = pairs }) (withEach i part) (withEach i (drop k part))
+Inv-loop s xs table tops pairs₀ i part a now₀ k₀ pairs now k = (k ≤ length part) × (length pairs ≡ length pairs₀) × Run (sceneBy s xs tops table) (record { tally = now₀; mem = pairs₀ }) (record { tally = now; mem = pairs }) (withEach i part) (withEach i (drop k part))
 
 abbrev μ-loop : tie.MeasureT-loop
-μ-loop s xs table firsts pairs₀ i part a now₀ k₀ pairs now k = length part - k
+μ-loop s xs table tops pairs₀ i part a now₀ k₀ pairs now k = length part - k
 
 spot-at-requires : tie.Need-spot-at-requires Inv-loop μ-loop
 spot-at-requires c κs = c .before .before .before .before .before .pre .0

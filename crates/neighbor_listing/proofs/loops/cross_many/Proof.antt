@@ -10,10 +10,10 @@ use Rattle.neighbor_listing.proofs.loops.cross_many.Statement.{statemen
 use Rattle.neighbor_listing.proofs.loops.cross_many.Tie as tie
 
 abbrev Inv-loop : tie.InvT-loop
-Inv-loop s xs table firsts pairs₀ home other now₀ k₀ pairs now k = (k ≤ length home) × (length pairs ≡ length pairs₀) × Run (sceneBy s xs firsts table) (record { tally = now₀; mem = pairs₀ }) (record { tally = now; mem = pairs }) (across home other) (across (drop k home) other)
+Inv-loop s xs table tops pairs₀ home other now₀ k₀ pairs now k = (k ≤ length home) × (length pairs ≡ length pairs₀) × Run (sceneBy s xs tops table) (record { tally = now₀; mem = pairs₀ }) (record { tally = now; mem = pairs }) (across home other) (across (drop k home) other)
 
 abbrev μ-loop : tie.MeasureT-loop
-μ-loop s xs table firsts pairs₀ home other now₀ k₀ pairs now k = length home - k
+μ-loop s xs table tops pairs₀ home other now₀ k₀ pairs now k = length home - k
 
 loop-holds : tie.Need-loop-holds Inv-loop μ-loop
 loop-holds c = (omega arith, refl, run-begin _ (c .before .before .before .before .before .before .pre .2))

@@ -10,10 +10,10 @@ use Rattle.neighbor_listing.proofs.loops.cross_side.Statement.{statemen
 use Rattle.neighbor_listing.proofs.loops.cross_side.Tie as tie
 
 abbrev Inv-loop : tie.InvT-loop
-Inv-loop s xs table firsts pairs₀ home other bx by bz flags₀ room₀ w now₀ k₀ pairs flags room now k = (k ≤ length home) × (length pairs ≡ length pairs₀) × (length flags ≡ 64) × (length room ≡ 64) × Run (sceneBy s xs firsts table) (record { tally = now₀; mem = pairs₀ }) (record { tally = now; mem = pairs }) (across home other) (across (drop k home) other)
+Inv-loop s xs table tops pairs₀ home other bx by bz flags₀ room₀ w p now₀ k₀ pairs flags room now k = (k ≤ length home) × (length pairs ≡ length pairs₀) × (length flags ≡ 64) × (length room ≡ 64) × Run (sceneBy s xs tops table) (record { tally = now₀; mem = pairs₀ }) (record { tally = now; mem = pairs }) (across home other) (across (drop k home) other)
 
 abbrev μ-loop : tie.MeasureT-loop
-μ-loop s xs table firsts pairs₀ home other bx by bz flags₀ room₀ w now₀ k₀ pairs flags room now k = length home - k
+μ-loop s xs table tops pairs₀ home other bx by bz flags₀ room₀ w p now₀ k₀ pairs flags room now k = length home - k
 
 loop-holds : tie.Need-loop-holds Inv-loop μ-loop
 loop-holds c = (omega arith, refl, c .before .before .before .before .before .before .before .before .before .before .before .pre .4, c .before .before .before .before .before .before .before .before .before .before .before .pre .5, run-begin _ (c .before .before .before .before .before .before .before .before .before .before .before .pre .6))
@@ -22,7 +22,7 @@ shared-slice-read-i : tie.Need-shared-slice-read-i Inv-loop μ-loop
 shared-slice-read-i c = omega (arith, c .before .loop-test .taken)
 
 consider-whole-requires : tie.Need-consider-whole-requires Inv-loop μ-loop
-consider-whole-requires c κs = (c .before .before .before .before .before .before .before .before .before .before .before .before .before .before .before .before .before .pre .0 _ (c .before .before .before .before .loop-test .taken), c .before .before .before .before .before .before .before .before .before .before .before .before .before .before .before .before .before .pre .1, c .before .before .before .before .before .before .before .before .before .before .before .before .before .before .before .before .before .pre .2, c .before .before .before .before .before .before .before .before .before .before .before .before .before .before .before .before .before .pre .3, c .before .before .before .before .before .loop .inv .2, c .before .before .before .before .before .loop .inv .3, ready-across _ _ _ (c .before .before .before .before .loop-test .taken) (c .before .before .before .before .before .loop .inv .4 .ready), c .before .before .before .before .before .before .before .before .before .before .before .before .before .before .before .before .before .pre .7)
+consider-whole-requires c κs = (c .before .before .before .before .before .before .before .before .before .before .before .before .before .before .before .before .before .pre .0 _ (c .before .before .before .before .loop-test .taken), c .before .before .before .before .before .before .before .before .before .before .before .before .before .before .before .before .before .pre .1, c .before .before .before .before .before .before .before .before .before .before .before .before .before .before .before .before .before .pre .2, c .before .before .before .before .before .before .before .before .before .before .before .before .before .before .before .before .before .pre .3, c .before .before .before .before .before .loop .inv .2, c .before .before .before .before .before .loop .inv .3, ready-across _ _ _ (c .before .before .before .before .loop-test .taken) (c .before .before .before .before .before .loop .inv .4 .ready), c .before .before .before .before .before .before .before .before .before .before .before .before .before .before .before .before .before .pre .7, c .before .before .before .before .before .before .before .before .before .before .before .before .before .before .before .before .before .pre .8 .are (c .before .before .before .before .before .loop .k) (c .before .before .before .before .loop-test .taken))
 
 add-k : tie.Need-add-k Inv-loop μ-loop
 add-k c = omega (arith, c .before .before .before .before .before .before .before .before .before .before .before .loop-test .taken, c .before .before .before .before .before .before .before .before .before .before .before .before .before .before .before .before .before .before .before .before .before .before .before .before .good .1 .1 .1 .1 .1 .1 .0 .0)

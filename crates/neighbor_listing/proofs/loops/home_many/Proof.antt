@@ -11,10 +11,10 @@ use Rattle.neighbor_listing.proofs.loops.home_many.Statement.{statement
 use Rattle.neighbor_listing.proofs.loops.home_many.Tie as tie
 
 abbrev Inv-loop : tie.InvT-loop
-Inv-loop s xs table firsts pairs₀ home now₀ k₀ pairs now k = (k ≤ length home) × (length pairs ≡ length pairs₀) × Run (sceneBy s xs firsts table) (record { tally = now₀; mem = pairs₀ }) (record { tally = now; mem = pairs }) (inside home) (inside (drop k home))
+Inv-loop s xs table tops pairs₀ home now₀ k₀ pairs now k = (k ≤ length home) × (length pairs ≡ length pairs₀) × Run (sceneBy s xs tops table) (record { tally = now₀; mem = pairs₀ }) (record { tally = now; mem = pairs }) (inside home) (inside (drop k home))
 
 abbrev μ-loop : tie.MeasureT-loop
-μ-loop s xs table firsts pairs₀ home now₀ k₀ pairs now k = length home - k
+μ-loop s xs table tops pairs₀ home now₀ k₀ pairs now k = length home - k
 
 loop-holds : tie.Need-loop-holds Inv-loop μ-loop
 loop-holds c = (omega arith, refl, run-begin _ (c .before .before .before .before .before .pre .1))

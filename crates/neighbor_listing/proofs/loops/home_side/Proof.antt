@@ -12,10 +12,10 @@ use Rattle.neighbor_listing.proofs.loops.home_side.Statement.{statement
 use Rattle.neighbor_listing.proofs.loops.home_side.Tie as tie
 
 abbrev Inv-loop : tie.InvT-loop
-Inv-loop s xs table firsts pairs₀ home bx by bz flags₀ room₀ w now₀ k₀ pairs flags room now k = (k ≤ length home) × (length pairs ≡ length pairs₀) × (length flags ≡ 64) × (length room ≡ 64) × Run (sceneBy s xs firsts table) (record { tally = now₀; mem = pairs₀ }) (record { tally = now; mem = pairs }) (inside home) (inside (drop k home))
+Inv-loop s xs table tops pairs₀ home bx by bz flags₀ room₀ w p now₀ k₀ pairs flags room now k = (k ≤ length home) × (length pairs ≡ length pairs₀) × (length flags ≡ 64) × (length room ≡ 64) × Run (sceneBy s xs tops table) (record { tally = now₀; mem = pairs₀ }) (record { tally = now; mem = pairs }) (inside home) (inside (drop k home))
 
 abbrev μ-loop : tie.MeasureT-loop
-μ-loop s xs table firsts pairs₀ home bx by bz flags₀ room₀ w now₀ k₀ pairs flags room now k = length home - k
+μ-loop s xs table tops pairs₀ home bx by bz flags₀ room₀ w p now₀ k₀ pairs flags room now k = length home - k
 
 loop-holds : tie.Need-loop-holds Inv-loop μ-loop
 loop-holds c = (omega arith, refl, c .before .before .before .before .before .before .before .before .before .before .pre .3, c .before .before .before .before .before .before .before .before .before .before .pre .4, run-begin _ (c .before .before .before .before .before .before .before .before .before .before .pre .5))
@@ -27,7 +27,7 @@ add-consider-side : tie.Need-add-consider-side Inv-loop μ-loop
 add-consider-side c = omega (arith, c .before .before .loop-test .taken, c .before .before .before .before .before .before .before .before .before .before .before .before .before .before .pre .1)
 
 consider-side-requires : tie.Need-consider-side-requires Inv-loop μ-loop
-consider-side-requires c κs = (c .before .before .before .before .before .before .before .before .before .before .before .before .before .before .before .before .pre .0 _ (c .before .before .before .before .loop-test .taken), c .before .before .before .before .before .before .before .before .before .before .before .before .before .before .before .before .pre .0, omega (arith, c .before .before .before .before .loop-test .taken), c .before .before .before .before .before .before .before .before .before .before .before .before .before .before .before .before .pre .1, c .before .before .before .before .before .before .before .before .before .before .before .before .before .before .before .before .pre .2, c .before .before .before .before .before .loop .inv .2, c .before .before .before .before .before .loop .inv .3, inside-ready _ _ (c .before .before .before .before .loop-test .taken) (c .before .before .before .before .before .loop .inv .4 .ready), c .before .before .before .before .before .before .before .before .before .before .before .before .before .before .before .before .pre .6)
+consider-side-requires c κs = (c .before .before .before .before .before .before .before .before .before .before .before .before .before .before .before .before .pre .0 _ (c .before .before .before .before .loop-test .taken), c .before .before .before .before .before .before .before .before .before .before .before .before .before .before .before .before .pre .0, omega (arith, c .before .before .before .before .loop-test .taken), c .before .before .before .before .before .before .before .before .before .before .before .before .before .before .before .before .pre .1, c .before .before .before .before .before .before .before .before .before .before .before .before .before .before .before .before .pre .2, c .before .before .before .before .before .loop .inv .2, c .before .before .before .before .before .loop .inv .3, inside-ready _ _ (c .before .before .before .before .loop-test .taken) (c .before .before .before .before .before .loop .inv .4 .ready), c .before .before .before .before .before .before .before .before .before .before .before .before .before .before .before .before .pre .6, c .before .before .before .before .before .before .before .before .before .before .before .before .before .before .before .before .pre .7 .are (c .before .before .before .before .before .loop .k) (c .before .before .before .before .loop-test .taken))
 
 add-k : tie.Need-add-k Inv-loop μ-loop
 add-k c = omega (arith, c .before .before .before .before .before .before .before .before .before .before .before .loop-test .taken, c .before .before .before .before .before .before .before .before .before .before .before .before .before .before .before .before .before .before .before .before .before .before .before .pre .1)

@@ -9,8 +9,7 @@ use Rattle.neighbor_listing.proofs.loops.settle.Reads as reads
 use Rattle.neighbor_listing.proofs.loops.settle.Lts as lts
 use Rattle.bins.proofs.kernel.push.Reads as push-reads
 use Rattle.bins_rules.proofs.one_more.Reads as one-more-reads
-use Rattle.exclusions.proofs.kernel.excluded_from.Reads as excluded-from-reads
-use Rattle.neighbor_listing.proofs.firsts.first_of.Reads as first-of-reads
+use Rattle.neighbor_listing.proofs.tops.is_excluded.Reads as is-excluded-reads
 use Rattle.neighbor_listing.proofs.loops.higher.Reads as higher-reads
 use Rattle.neighbor_listing.proofs.loops.lower.Reads as lower-reads
 
@@ -22,17 +21,13 @@ lower-requires c κs = search needs
 higher-requires : tie.Need-higher-requires
 higher-requires c κs = search needs
 
--- src/loops.rt:47:49
-first-of-requires : tie.Need-first-of-requires
-first-of-requires c κs = search needs
-
 -- src/loops.rt:47:8
-excluded-from-requires : tie.Need-excluded-from-requires
-excluded-from-requires c κs = search needs
+is-excluded-requires : tie.Need-is-excluded-requires
+is-excluded-requires c κs = search needs
 
 -- src/loops.rt:48:9
 returns : tie.Need-returns
-returns c = pair-skipped _ _ _ _ _ (c .before .before .before .before .lower .ensures) (c .before .before .before .higher .ensures) (c .before .before .first-of .ensures) (c .before .excluded-from .ensures) (c .if1 .taken)
+returns c = pair-skipped _ _ _ _ _ (c .before .before .before .lower .ensures) (c .before .before .higher .ensures) (c .before .is-excluded .ensures) (c .if1 .taken)
 
 -- src/loops.rt:51:5
 push-requires : tie.Need-push-requires
@@ -52,7 +47,7 @@ same-length c = search needs
 
 -- src/loops.rt:41:1
 returns-2 : tie.Need-returns-2
-returns-2 c = let e : c .before .one-more .result ≡ c .before .before .before .before .before .before .before .before .before .before .before .before .before .before .args .t .count + 1 = omega (arith, c .before .one-more .ensures, c .before .before .before .before .before .before .before .before .before .before .before .before .before .before .pre .count, c .before .before .before .before .before .before .before .before .before .before .before .before .before .before .pre .checks) in rw e (pair-listed _ _ _ _ _ (c .before .before .before .before .before .before .before .before .before .before .lower .ensures) (c .before .before .before .before .before .before .before .before .before .higher .ensures) (c .before .before .before .before .before .before .before .before .first-of .ensures) (c .before .before .before .before .before .before .before .excluded-from .ensures) (c .before .before .before .before .before .before .if1 .left) _ (c .before .before .before .before .push .ensures))
+returns-2 c = let e : c .before .one-more .result ≡ c .before .before .before .before .before .before .before .before .before .before .before .before .before .args .t .count + 1 = omega (arith, c .before .one-more .ensures, c .before .before .before .before .before .before .before .before .before .before .before .before .before .pre .count, c .before .before .before .before .before .before .before .before .before .before .before .before .before .pre .checks) in rw e (pair-listed _ _ _ _ _ (c .before .before .before .before .before .before .before .before .before .lower .ensures) (c .before .before .before .before .before .before .before .before .higher .ensures) (c .before .before .before .before .before .before .before .is-excluded .ensures) (c .before .before .before .before .before .before .if1 .left) _ (c .before .before .before .before .push .ensures))
 
 pub settle-spec : {M : Type 1} → statement M
 settle-spec =
@@ -60,8 +55,7 @@ settle-spec =
     (tie.spec
     lower-requires
     higher-requires
-    first-of-requires
-    excluded-from-requires
+    is-excluded-requires
     returns
     push-requires
     one-more-requires

@@ -10,10 +10,10 @@ use Rattle.neighbor_listing.proofs.loops.settle_all.Statement.{statemen
 use Rattle.neighbor_listing.proofs.loops.settle_all.Tie as tie
 
 abbrev Inv-loop : tie.InvT-loop
-Inv-loop table firsts pairs₀ i near now₀ k₀ pairs now k = (k ≤ length near) × (length pairs ≡ length pairs₀) × Run (chosenBy firsts table) (record { tally = now₀; mem = pairs₀ }) (record { tally = now; mem = pairs }) (withEach i near) (withEach i (drop k near))
+Inv-loop table tops pairs₀ i near now₀ k₀ pairs now k = (k ≤ length near) × (length pairs ≡ length pairs₀) × Run (chosenBy tops table) (record { tally = now₀; mem = pairs₀ }) (record { tally = now; mem = pairs }) (withEach i near) (withEach i (drop k near))
 
 abbrev μ-loop : tie.MeasureT-loop
-μ-loop table firsts pairs₀ i near now₀ k₀ pairs now k = length near - k
+μ-loop table tops pairs₀ i near now₀ k₀ pairs now k = length near - k
 
 loop-holds : tie.Need-loop-holds Inv-loop μ-loop
 loop-holds c = (omega arith, refl, run-begin _ (c .before .before .before .before .pre))

@@ -1,5 +1,5 @@
 use Rattle.neighbor_listing.proofs.Flagging.{flags-bits, kept-ready, side-listed, taken-within, taken-count, rest-fits, none-listed}
-use Rattle.neighbor_listing.proofs.Shortcuts.{reaches, none-reached}
+use Rattle.neighbor_listing.proofs.Shortcuts.{reaches, none-reached, shared-at}
 use borrow.Author.Needs.{needs}
 use borrow.Author.Tests.{not-false}
 use mathlib.Core.Bool.{true≢false, false≢true}
@@ -11,17 +11,20 @@ use Rattle.neighbor_listing.proofs.loops.try_side.Tie as tie
 spot-at-requires : tie.Need-spot-at-requires
 spot-at-requires c κs = c .before .before .before .before .before .before .before .before .before .before .pre .0
 
-sub-t23 : tie.Need-sub-t23
-sub-t23 c = omega (arith, c .before .before .before .before .before .before .before .before .before .before .before .before .before .pre .2)
+reach-by-requires : tie.Need-reach-by-requires
+reach-by-requires c κs = shared-at (c .spot-at .ensures) (c .before .before .before .before .before .before .before .before .before .before .before .pre .9)
 
-add-t24 : tie.Need-add-t24
-add-t24 c = omega (arith, rest-fits (c .before .before .before .before .before .before .before .before .before .before .before .before .before .before .args .i) (c .before .before .before .before .before .before .before .before .before .before .before .before .before .before .args .part .now) (c .before .before .before .before .before .before .before .before .before .before .before .before .before .before .args .from) (c .before .before .before .before .before .before .before .before .before .before .before .before .before .before .pre .7))
+sub-t24 : tie.Need-sub-t24
+sub-t24 c = omega (arith, c .before .before .before .before .before .before .before .before .before .before .before .before .before .pre .2)
+
+add-t25 : tie.Need-add-t25
+add-t25 c = omega (arith, rest-fits (c .before .before .before .before .before .before .before .before .before .before .before .before .before .before .args .i) (c .before .before .before .before .before .before .before .before .before .before .before .before .before .before .args .part .now) (c .before .before .before .before .before .before .before .before .before .before .before .before .before .before .args .from) (c .before .before .before .before .before .before .before .before .before .before .before .before .before .before .pre .7))
 
 returns : tie.Need-returns
-returns c = record { lists = λ e. none-listed (c .before .before .before .before .before .before .before .before .before .before .before .before .before .before .args .s) (c .before .before .before .before .before .before .before .before .before .before .before .before .before .before .args .xs .now) (c .before .before .before .before .before .before .before .before .before .before .before .before .before .before .args .i) (c .before .before .before .before .before .before .before .before .before .before .before .before .before .before .args .part .now) (c .before .before .before .before .before .before .before .before .before .before .before .before .before .before .args .from) (c .before .before .before .spot-at .ensures) (c .before .before .before .before .before .before .before .before .before .before .before .before .before .before .pre .4) (none-reached (c .before .before .before .before .before .before .before .before .before .before .before .before .before .before .args .s) (c .before .before .before .spot-at .result) (c .before .before .before .before .before .before .before .before .before .before .before .before .before .before .args .w) (c .before .before .before .before .before .before .before .before .before .before .before .before .before .before .pre .8) (c .before .before .reach-of .ensures) (c .before .if1 .taken)) (c .before .before .before .before .before .before .before .before .before .before .before .before .before .before .args .firsts .now) (c .before .before .before .before .before .before .before .before .before .before .before .before .before .before .args .table .now) (c .before .before .before .before .before .before .before .before .before .before .before .before .before .before .args .t) (c .before .before .before .before .before .before .before .before .before .before .before .before .before .before .args .pairs .now); kept = λ e. absurd (true≢false e) }
+returns c = record { lists = λ e. none-listed (c .before .before .before .before .before .before .before .before .before .before .before .before .before .before .args .s) (c .before .before .before .before .before .before .before .before .before .before .before .before .before .before .args .xs .now) (c .before .before .before .before .before .before .before .before .before .before .before .before .before .before .args .i) (c .before .before .before .before .before .before .before .before .before .before .before .before .before .before .args .part .now) (c .before .before .before .before .before .before .before .before .before .before .before .before .before .before .args .from) (c .before .before .before .spot-at .ensures) (c .before .before .before .before .before .before .before .before .before .before .before .before .before .before .pre .4) (none-reached (c .before .before .before .before .before .before .before .before .before .before .before .before .before .before .args .s) (c .before .before .before .spot-at .result) (c .before .before .before .before .before .before .before .before .before .before .before .before .before .before .args .w) (c .before .before .before .before .before .before .before .before .before .before .before .before .before .before .pre .8) (c .before .before .reach-by .ensures) (c .before .if1 .taken)) (c .before .before .before .before .before .before .before .before .before .before .before .before .before .before .args .tops .now) (c .before .before .before .before .before .before .before .before .before .before .before .before .before .before .args .table .now) (c .before .before .before .before .before .before .before .before .before .before .before .before .before .before .args .t) (c .before .before .before .before .before .before .before .before .before .before .before .before .before .before .args .pairs .now); kept = λ e. absurd (true≢false e) }
 
 flag-requires : tie.Need-flag-requires
-flag-requires c κs = (c .before .before .before .before .before .before .before .before .before .before .before .before .before .before .pre .2, c .before .before .before .before .before .before .before .before .before .before .before .before .before .before .pre .3, c .before .before .before .before .before .before .before .before .before .before .before .before .before .before .pre .4 .rooms, c .before .before .before .before .before .before .before .before .before .before .before .before .before .before .pre .5, reaches (c .before .before .before .before .before .before .before .before .before .before .before .before .before .before .args .s) (c .before .before .before .spot-at .result) (c .before .before .before .before .before .before .before .before .before .before .before .before .before .before .args .w) (c .before .before .before .before .before .before .before .before .before .before .before .before .before .before .pre .8) (c .before .before .reach-of .ensures))
+flag-requires c κs = (c .before .before .before .before .before .before .before .before .before .before .before .before .before .before .pre .2, c .before .before .before .before .before .before .before .before .before .before .before .before .before .before .pre .3, c .before .before .before .before .before .before .before .before .before .before .before .before .before .before .pre .4 .rooms, c .before .before .before .before .before .before .before .before .before .before .before .before .before .before .pre .5, reaches (c .before .before .before .before .before .before .before .before .before .before .before .before .before .before .args .s) (c .before .before .before .spot-at .result) (c .before .before .before .before .before .before .before .before .before .before .before .before .before .before .args .w) (c .before .before .before .before .before .before .before .before .before .before .before .before .before .before .pre .8) (c .before .before .reach-by .ensures))
 
 same-length : tie.Need-same-length
 same-length c = c .before .before .before .flag .kept .1 .1 .1 .1 .1 .1 .1 .1 .0
@@ -41,11 +44,11 @@ slice-aggregate-settle-all c = taken-count (c .before .before .before .before .g
 settle-all-requires : tie.Need-settle-all-requires
 settle-all-requires c κs = kept-ready _ _ _ _ _ _ (c .before .before .before .before .before .before .before .before .before .before .before .before .before .before .spot-at .ensures) (c .before .before .before .before .before .before .before .before .before .before .before .before .before .before .before .before .before .before .before .before .before .before .before .before .before .pre .4) (c .before .before .before .before .before .before .before .before .before .before .flag .ensures) (not-false _ (c .before .before .before .before .before .before .before .if2 .left)) (c .before .before .before .before .gather .ensures) (c .before .before .before .before .before .before .before .before .before .before .before .before .before .before .before .before .before .before .before .before .before .before .before .before .before .pre .7)
 
-sub-t37 : tie.Need-sub-t37
-sub-t37 c = omega (arith, c .before .before .before .before .before .before .before .before .before .before .before .before .before .before .before .before .before .before .before .before .before .before .before .before .before .before .before .before .pre .2)
+sub-t38 : tie.Need-sub-t38
+sub-t38 c = omega (arith, c .before .before .before .before .before .before .before .before .before .before .before .before .before .before .before .before .before .before .before .before .before .before .before .before .before .before .before .before .pre .2)
 
-add-t38 : tie.Need-add-t38
-add-t38 c = omega (arith, rest-fits (c .before .before .before .before .before .before .before .before .before .before .before .before .before .before .before .before .before .before .before .before .before .before .before .before .before .before .before .before .before .args .i) (c .before .before .before .before .before .before .before .before .before .before .before .before .before .before .before .before .before .before .before .before .before .before .before .before .before .before .before .before .before .args .part .now) (c .before .before .before .before .before .before .before .before .before .before .before .before .before .before .before .before .before .before .before .before .before .before .before .before .before .before .before .before .before .args .from) (c .before .before .before .before .before .before .before .before .before .before .before .before .before .before .before .before .before .before .before .before .before .before .before .before .before .before .before .before .before .pre .7))
+add-t39 : tie.Need-add-t39
+add-t39 c = omega (arith, rest-fits (c .before .before .before .before .before .before .before .before .before .before .before .before .before .before .before .before .before .before .before .before .before .before .before .before .before .before .before .before .before .args .i) (c .before .before .before .before .before .before .before .before .before .before .before .before .before .before .before .before .before .before .before .before .before .before .before .before .before .before .before .before .before .args .part .now) (c .before .before .before .before .before .before .before .before .before .before .before .before .before .before .before .before .before .before .before .before .before .before .before .before .before .before .before .before .before .args .from) (c .before .before .before .before .before .before .before .before .before .before .before .before .before .before .before .before .before .before .before .before .before .before .before .before .before .before .before .before .before .pre .7))
 
 same-length-2 : tie.Need-same-length-2
 same-length-2 c = c .before .before .before .settle-all .kept .1 .1 .0
@@ -64,9 +67,9 @@ try-side-spec =
     tie.close
     (tie.spec
     spot-at-requires
-    (λ c κs. search needs)
-    sub-t23
-    add-t24
+    reach-by-requires
+    sub-t24
+    add-t25
     returns
     flag-requires
     same-length
@@ -75,8 +78,8 @@ try-side-spec =
     slice-reshare-prefix-settle-all
     slice-aggregate-settle-all
     settle-all-requires
-    sub-t37
-    add-t38
+    sub-t38
+    add-t39
     same-length-2
     same-length-3
     same-length-4

@@ -4,7 +4,7 @@ use Rattle.neighbor_listing.proofs.side.is_still.Statement.{statement}
 use Rattle.neighbor_listing.proofs.side.is_still.Tie as tie
 
 returns : tie.Need-returns
-returns c = still-says (c .before .before .before .before .before .before .args .s) (c .before .before .before .before .before .before .args .a) (c .before .before .before .before .before .before .args .w) (c .before .before .before .before .is-finite .ensures) (c .before .before .calm .ensures) (c .before .calm2 .ensures) (c .calm3 .ensures)
+returns c = still-says (c .before .before .before .before .before .before .args .s) (c .before .before .before .before .before .before .args .a) (c .before .before .before .before .before .before .args .w) (c .before .before .before .before .is-bounded .ensures) (c .before .before .calm .ensures) (c .before .calm2 .ensures) (c .calm3 .ensures)
 
 pub is-still-spec : {M : Type 1} → statement M
 is-still-spec =

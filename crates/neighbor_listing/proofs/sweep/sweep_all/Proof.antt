@@ -11,10 +11,10 @@ use Rattle.neighbor_listing.proofs.sweep.sweep_all.Statement.{statement
 use Rattle.neighbor_listing.proofs.sweep.sweep_all.Tie as tie
 
 abbrev Inv-loop : tie.InvT-loop
-Inv-loop s g xs table firsts pairs₀ starts items count now₀ h₀ pairs now h = (h ≤ count) × (length pairs ≡ length pairs₀) × Run (sceneBy s xs firsts table) (record { tally = now₀; mem = pairs₀ }) (record { tally = now; mem = pairs }) (pairsOf g (atomsBy g starts items)) (cellsFrom g (atomsBy g starts items) h)
+Inv-loop s g xs table tops pairs₀ starts items count now₀ h₀ pairs now h = (h ≤ count) × (length pairs ≡ length pairs₀) × Run (sceneBy s xs tops table) (record { tally = now₀; mem = pairs₀ }) (record { tally = now; mem = pairs }) (pairsOf g (atomsBy g starts items)) (cellsFrom g (atomsBy g starts items) h)
 
 abbrev μ-loop : tie.MeasureT-loop
-μ-loop s g xs table firsts pairs₀ starts items count now₀ h₀ pairs now h = count - h
+μ-loop s g xs table tops pairs₀ starts items count now₀ h₀ pairs now h = count - h
 
 loop-holds : tie.Need-loop-holds Inv-loop μ-loop
 loop-holds c = (omega arith, refl, cells-begin _ _ (c .before .before .before .before .before .before .before .pre .1))
