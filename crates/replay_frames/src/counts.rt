@@ -5,6 +5,7 @@ use replay_words::Table;
 use replay_words::plain;
 use replay_words::tables;
 use shells::Counted;
+ghost use Prim.Native.Nat.{_≤_};
 
 // The words of a case, and room for them: the totals are a part of it.
 fn words(ws: &[u64]) -> [u64; 8192] {
@@ -39,12 +40,16 @@ fn room_u64(xs: &mut [u64], t: Table) -> &mut [u64] {
     &mut xs[0..0]
 }
 
-fn put_u64s(out: &mut [u64; 8208], at: usize, xs: &[u64]) -> usize {
+fn put_u64s(out: &mut [u64; 8208], at: usize, xs: &[u64]) -> usize
+    ensures { λ r. ⌜ r ≤ 8208 ⌝ }
+{
     let next = replay_words::put_word(out, at, xs.len() as u64);
     replay_words::put_words(out, next, xs)
 }
 
-fn tell_counted(out: &mut [u64; 8208], answer: Counted) -> usize {
+fn tell_counted(out: &mut [u64; 8208], answer: Counted) -> usize
+    ensures { λ r. ⌜ r ≤ 8208 ⌝ }
+{
     match answer {
         Counted::Answered {
             pairs,
@@ -72,7 +77,9 @@ fn told(
     i: Table,
     ws: &[u64],
     out: &mut [u64; 8208],
-) -> usize {
+) -> usize
+    ensures { λ r. ⌜ r ≤ 8208 ⌝ }
+{
     let us = tables::u32s(ws);
     let mut totals = words(ws);
     let mut pairs = tables::u32s(ws);
@@ -95,7 +102,9 @@ fn told(
     tables::put_room_u32(out, laid, items, i)
 }
 
-pub(crate) fn add_shells_case(ws: &[u64], out: &mut [u64; 8208]) -> usize {
+pub(crate) fn add_shells_case(ws: &[u64], out: &mut [u64; 8208]) -> usize
+    ensures { λ r. ⌜ r ≤ 8208 ⌝ }
+{
     let f = frames::take_frame(ws, 0);
     let width = replay_words::take_word(ws, f.next);
     let c = replay_words::take_u32s(ws, width.next);

@@ -6,6 +6,7 @@ use frame::Spot;
 use replay_words::Table;
 use replay_words::plain;
 use replay_words::tables;
+ghost use Prim.Native.Nat.{_≤_};
 
 // An argument, and the place after it; past the end where a word is missing or is no such argument.
 pub(crate) struct FrameArg {
@@ -61,7 +62,9 @@ fn take_spot(ws: &[u64], at: usize) -> SpotArg {
     }
 }
 
-fn tell_built(out: &mut [u64; 8208], answer: Built) -> usize {
+fn tell_built(out: &mut [u64; 8208], answer: Built) -> usize
+    ensures { λ r. ⌜ r ≤ 8208 ⌝ }
+{
     match answer {
         Built::Answered {
             pairs,
@@ -86,7 +89,9 @@ fn told(
     i: Table,
     ws: &[u64],
     out: &mut [u64; 8208],
-) -> usize {
+) -> usize
+    ensures { λ r. ⌜ r ≤ 8208 ⌝ }
+{
     let us = tables::u32s(ws);
     let mut pairs = tables::u32s(ws);
     let mut starts = tables::u32s(ws);
@@ -105,7 +110,9 @@ fn told(
     tables::put_room_u32(out, laid, items, i)
 }
 
-fn build_case(ws: &[u64], out: &mut [u64; 8208]) -> usize {
+fn build_case(ws: &[u64], out: &mut [u64; 8208]) -> usize
+    ensures { λ r. ⌜ r ≤ 8208 ⌝ }
+{
     let f = take_frame(ws, 0);
     let c = replay_words::take_u32s(ws, f.next);
     let e = replay_words::take_u32s(ws, c.next);
@@ -118,7 +125,9 @@ fn build_case(ws: &[u64], out: &mut [u64; 8208]) -> usize {
     told(f.value, c, e, p, s, i, ws, out)
 }
 
-fn squared_distance_case(ws: &[u64], out: &mut [u64; 8208]) -> usize {
+fn squared_distance_case(ws: &[u64], out: &mut [u64; 8208]) -> usize
+    ensures { λ r. ⌜ r ≤ 8208 ⌝ }
+{
     let f = take_frame(ws, 0);
     let a = take_spot(ws, f.next);
     let b = take_spot(ws, a.next);
@@ -128,7 +137,9 @@ fn squared_distance_case(ws: &[u64], out: &mut [u64; 8208]) -> usize {
     plain::put_whole(out, frame::squared_distance(f.value, a.value, b.value))
 }
 
-pub(crate) fn answer(call: u64, ws: &[u64], out: &mut [u64; 8208]) -> usize {
+pub(crate) fn answer(call: u64, ws: &[u64], out: &mut [u64; 8208]) -> usize
+    ensures { λ r. ⌜ r ≤ 8208 ⌝ }
+{
     match call {
         64 => build_case(ws, out),
         65 => squared_distance_case(ws, out),

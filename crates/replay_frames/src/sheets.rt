@@ -3,6 +3,7 @@ use crate::frames;
 use replay_words::Table;
 use replay_words::plain;
 use replay_words::tables;
+ghost use Prim.Native.Nat.{_≤_};
 
 fn bytes(ws: &[u64]) -> [u8; 8192] {
     let mut xs = [0u8; 8192];
@@ -46,7 +47,9 @@ fn room(xs: &mut [u8], t: Table) -> &mut [u8] {
     &mut xs[0..0]
 }
 
-fn write_case(ws: &[u64], out: &mut [u64; 8208]) -> usize {
+fn write_case(ws: &[u64], out: &mut [u64; 8208]) -> usize
+    ensures { λ r. ⌜ r ≤ 8208 ⌝ }
+{
     let f = frames::take_frame(ws, 0);
     let c = replay_words::take_u32s(ws, f.next);
     let e = replay_words::take_u32s(ws, c.next);
@@ -70,7 +73,9 @@ fn write_case(ws: &[u64], out: &mut [u64; 8208]) -> usize {
     replay_words::put_u32s(out, at, tables::part_u32(&left, o))
 }
 
-pub(crate) fn answer(call: u64, ws: &[u64], out: &mut [u64; 8208]) -> usize {
+pub(crate) fn answer(call: u64, ws: &[u64], out: &mut [u64; 8208]) -> usize
+    ensures { λ r. ⌜ r ≤ 8208 ⌝ }
+{
     match call {
         66 => write_case(ws, out),
         _ => 0,

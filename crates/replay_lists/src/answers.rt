@@ -9,9 +9,12 @@ use neighbor::State;
 use replay_words::plain;
 use virial::Sum;
 use virial::Summed;
+ghost use Prim.Native.Nat.{_≤_};
 
 // Three rows of three floats, or the refusal.
-pub fn put_rows_answer(out: &mut [u64; 8208], answer: RowsAnswer) -> usize {
+pub fn put_rows_answer(out: &mut [u64; 8208], answer: RowsAnswer) -> usize
+    ensures { λ r. ⌜ r ≤ 8208 ⌝ }
+{
     let done = answer.done;
     let rows = answer.rows;
     match done {
@@ -24,7 +27,9 @@ pub fn put_rows_answer(out: &mut [u64; 8208], answer: RowsAnswer) -> usize {
 }
 
 // A sum, or the refusal.
-pub fn put_summed(out: &mut [u64; 8208], answer: Summed) -> usize {
+pub fn put_summed(out: &mut [u64; 8208], answer: Summed) -> usize
+    ensures { λ r. ⌜ r ≤ 8208 ⌝ }
+{
     match answer {
         Summed::Answered(sum) => {
             let at = plain::put_answered(out);
@@ -35,16 +40,22 @@ pub fn put_summed(out: &mut [u64; 8208], answer: Summed) -> usize {
 }
 
 // A sum or the refusal, then the forces, whatever became of them.
-pub fn put_summed_forces(out: &mut [u64; 8208], answer: Summed, forces: &[f64]) -> usize {
+pub fn put_summed_forces(out: &mut [u64; 8208], answer: Summed, forces: &[f64]) -> usize
+    ensures { λ r. ⌜ r ≤ 8208 ⌝ }
+{
     let at = put_summed(out, answer);
     replay_words::put_floats(out, at, forces)
 }
 
-pub fn put_vec3(out: &mut [u64; 8208], at: usize, v: Vec3) -> usize {
+pub fn put_vec3(out: &mut [u64; 8208], at: usize, v: Vec3) -> usize
+    ensures { λ r. ⌜ r ≤ 8208 ⌝ }
+{
     replay_words::put_reals(out, at, &[v.x, v.y, v.z])
 }
 
-pub fn put_rows(out: &mut [u64; 8208], at: usize, rows: Rows) -> usize {
+pub fn put_rows(out: &mut [u64; 8208], at: usize, rows: Rows) -> usize
+    ensures { λ r. ⌜ r ≤ 8208 ⌝ }
+{
     let rx = rows.x;
     let ry = rows.y;
     let rz = rows.z;
@@ -53,7 +64,9 @@ pub fn put_rows(out: &mut [u64; 8208], at: usize, rows: Rows) -> usize {
     replay_words::put_reals(out, y, &rz)
 }
 
-pub fn put_lattice(out: &mut [u64; 8208], at: usize, l: Lattice) -> usize {
+pub fn put_lattice(out: &mut [u64; 8208], at: usize, l: Lattice) -> usize
+    ensures { λ r. ⌜ r ≤ 8208 ⌝ }
+{
     let a = l.a;
     let b = l.b;
     let c = l.c;
@@ -64,7 +77,9 @@ pub fn put_lattice(out: &mut [u64; 8208], at: usize, l: Lattice) -> usize {
     replay_words::put_words(out, next, &[px, py, pz])
 }
 
-pub fn put_sum(out: &mut [u64; 8208], at: usize, s: Sum) -> usize {
+pub fn put_sum(out: &mut [u64; 8208], at: usize, s: Sum) -> usize
+    ensures { λ r. ⌜ r ≤ 8208 ⌝ }
+{
     replay_words::put_reals(
         out,
         at,
@@ -83,7 +98,9 @@ pub fn put_sum(out: &mut [u64; 8208], at: usize, s: Sum) -> usize {
     )
 }
 
-pub fn put_state(out: &mut [u64; 8208], at: usize, s: State) -> usize {
+pub fn put_state(out: &mut [u64; 8208], at: usize, s: State) -> usize
+    ensures { λ r. ⌜ r ≤ 8208 ⌝ }
+{
     let next = replay_words::put_reals(out, at, &[s.cutoff, s.skin]);
     let pairs = s.pairs as u64;
     let references = s.references as u64;
@@ -93,7 +110,9 @@ pub fn put_state(out: &mut [u64; 8208], at: usize, s: State) -> usize {
     replay_words::put_words(out, next, &[pairs, references, checks, fallback, builds])
 }
 
-fn put_cell(out: &mut [u64; 8208], at: usize, cell: Cell) -> usize {
+fn put_cell(out: &mut [u64; 8208], at: usize, cell: Cell) -> usize
+    ensures { λ r. ⌜ r ≤ 8208 ⌝ }
+{
     match cell {
         Cell::Absent => replay_words::put_word(out, at, 0),
         Cell::Present(l) => {
@@ -104,7 +123,9 @@ fn put_cell(out: &mut [u64; 8208], at: usize, cell: Cell) -> usize {
 }
 
 // The same, with the remembered cell at its end where it stands in the line.
-pub fn put_state_and(cell: bool, out: &mut [u64; 8208], at: usize, s: State) -> usize {
+pub fn put_state_and(cell: bool, out: &mut [u64; 8208], at: usize, s: State) -> usize
+    ensures { λ r. ⌜ r ≤ 8208 ⌝ }
+{
     let next = put_state(out, at, s);
     if cell {
         let remembered = s.built_in;

@@ -7,10 +7,13 @@ use cell::InverseAnswer;
 use cell::LatticeAnswer;
 use cell::Vector;
 use replay_words::plain;
+ghost use Prim.Native.Nat.{_≤_};
 
 // ---- answers as words
 
-fn tell_lattice(out: &mut [u64; 8208], answer: LatticeAnswer) -> usize {
+fn tell_lattice(out: &mut [u64; 8208], answer: LatticeAnswer) -> usize
+    ensures { λ r. ⌜ r ≤ 8208 ⌝ }
+{
     match answer {
         LatticeAnswer::Answered(l) => {
             let at = plain::put_answered(out);
@@ -20,7 +23,9 @@ fn tell_lattice(out: &mut [u64; 8208], answer: LatticeAnswer) -> usize {
     }
 }
 
-fn tell_vector(out: &mut [u64; 8208], answer: Vector) -> usize {
+fn tell_vector(out: &mut [u64; 8208], answer: Vector) -> usize
+    ensures { λ r. ⌜ r ≤ 8208 ⌝ }
+{
     match answer {
         Vector::Answered(v) => {
             let at = plain::put_answered(out);
@@ -30,7 +35,9 @@ fn tell_vector(out: &mut [u64; 8208], answer: Vector) -> usize {
     }
 }
 
-fn tell_image(out: &mut [u64; 8208], answer: ImageAnswer) -> usize {
+fn tell_image(out: &mut [u64; 8208], answer: ImageAnswer) -> usize
+    ensures { λ r. ⌜ r ≤ 8208 ⌝ }
+{
     match answer {
         ImageAnswer::Answered(image) => {
             let diff = image.diff;
@@ -42,7 +49,9 @@ fn tell_image(out: &mut [u64; 8208], answer: ImageAnswer) -> usize {
 }
 
 // 0 where there is no inverse, or 1 and its rows.
-fn tell_inverse(out: &mut [u64; 8208], answer: InverseAnswer) -> usize {
+fn tell_inverse(out: &mut [u64; 8208], answer: InverseAnswer) -> usize
+    ensures { λ r. ⌜ r ≤ 8208 ⌝ }
+{
     let found = answer.found;
     let rows = answer.rows;
     match found {
@@ -60,7 +69,9 @@ fn tell_inverse(out: &mut [u64; 8208], answer: InverseAnswer) -> usize {
 
 // ---- the calls
 
-fn orthorhombic_case(ws: &[u64], out: &mut [u64; 8208]) -> usize {
+fn orthorhombic_case(ws: &[u64], out: &mut [u64; 8208]) -> usize
+    ensures { λ r. ⌜ r ≤ 8208 ⌝ }
+{
     let lx = replay_words::take_float(ws, 0);
     let ly = replay_words::take_float(ws, lx.next);
     let lz = replay_words::take_float(ws, ly.next);
@@ -70,7 +81,9 @@ fn orthorhombic_case(ws: &[u64], out: &mut [u64; 8208]) -> usize {
     tell_lattice(out, cell::orthorhombic(lx.value, ly.value, lz.value))
 }
 
-fn cubic_case(ws: &[u64], out: &mut [u64; 8208]) -> usize {
+fn cubic_case(ws: &[u64], out: &mut [u64; 8208]) -> usize
+    ensures { λ r. ⌜ r ≤ 8208 ⌝ }
+{
     let l = replay_words::take_float(ws, 0);
     if l.next != ws.len() {
         return 0;
@@ -78,7 +91,9 @@ fn cubic_case(ws: &[u64], out: &mut [u64; 8208]) -> usize {
     tell_lattice(out, cell::cubic(l.value))
 }
 
-fn is_orthorhombic_case(ws: &[u64], out: &mut [u64; 8208]) -> usize {
+fn is_orthorhombic_case(ws: &[u64], out: &mut [u64; 8208]) -> usize
+    ensures { λ r. ⌜ r ≤ 8208 ⌝ }
+{
     let l = records::take_lattice(ws, 0);
     if l.next != ws.len() {
         return 0;
@@ -86,7 +101,9 @@ fn is_orthorhombic_case(ws: &[u64], out: &mut [u64; 8208]) -> usize {
     plain::put_yes_no(out, cell::is_orthorhombic(l.value))
 }
 
-fn matrix_case(ws: &[u64], out: &mut [u64; 8208]) -> usize {
+fn matrix_case(ws: &[u64], out: &mut [u64; 8208]) -> usize
+    ensures { λ r. ⌜ r ≤ 8208 ⌝ }
+{
     let l = records::take_lattice(ws, 0);
     if l.next != ws.len() {
         return 0;
@@ -94,7 +111,9 @@ fn matrix_case(ws: &[u64], out: &mut [u64; 8208]) -> usize {
     answers::put_rows_answer(out, cell::matrix(l.value))
 }
 
-fn volume_case(ws: &[u64], out: &mut [u64; 8208]) -> usize {
+fn volume_case(ws: &[u64], out: &mut [u64; 8208]) -> usize
+    ensures { λ r. ⌜ r ≤ 8208 ⌝ }
+{
     let l = records::take_lattice(ws, 0);
     if l.next != ws.len() {
         return 0;
@@ -102,7 +121,9 @@ fn volume_case(ws: &[u64], out: &mut [u64; 8208]) -> usize {
     plain::put_number(out, cell::volume(l.value))
 }
 
-fn inverse_case(ws: &[u64], out: &mut [u64; 8208]) -> usize {
+fn inverse_case(ws: &[u64], out: &mut [u64; 8208]) -> usize
+    ensures { λ r. ⌜ r ≤ 8208 ⌝ }
+{
     let l = records::take_lattice(ws, 0);
     if l.next != ws.len() {
         return 0;
@@ -110,7 +131,9 @@ fn inverse_case(ws: &[u64], out: &mut [u64; 8208]) -> usize {
     tell_inverse(out, cell::inverse(l.value))
 }
 
-fn to_fractional_case(ws: &[u64], out: &mut [u64; 8208]) -> usize {
+fn to_fractional_case(ws: &[u64], out: &mut [u64; 8208]) -> usize
+    ensures { λ r. ⌜ r ≤ 8208 ⌝ }
+{
     let l = records::take_lattice(ws, 0);
     let r = records::take_vec3(ws, l.next);
     if r.next != ws.len() {
@@ -119,7 +142,9 @@ fn to_fractional_case(ws: &[u64], out: &mut [u64; 8208]) -> usize {
     tell_vector(out, cell::to_fractional(l.value, r.value))
 }
 
-fn to_cartesian_case(ws: &[u64], out: &mut [u64; 8208]) -> usize {
+fn to_cartesian_case(ws: &[u64], out: &mut [u64; 8208]) -> usize
+    ensures { λ r. ⌜ r ≤ 8208 ⌝ }
+{
     let l = records::take_lattice(ws, 0);
     let s = records::take_vec3(ws, l.next);
     if s.next != ws.len() {
@@ -128,7 +153,9 @@ fn to_cartesian_case(ws: &[u64], out: &mut [u64; 8208]) -> usize {
     tell_vector(out, cell::to_cartesian(l.value, s.value))
 }
 
-fn wrap_case(ws: &[u64], out: &mut [u64; 8208]) -> usize {
+fn wrap_case(ws: &[u64], out: &mut [u64; 8208]) -> usize
+    ensures { λ r. ⌜ r ≤ 8208 ⌝ }
+{
     let l = records::take_lattice(ws, 0);
     let r = records::take_vec3(ws, l.next);
     if r.next != ws.len() {
@@ -137,7 +164,9 @@ fn wrap_case(ws: &[u64], out: &mut [u64; 8208]) -> usize {
     tell_vector(out, cell::wrap(l.value, r.value))
 }
 
-fn perp_widths_case(ws: &[u64], out: &mut [u64; 8208]) -> usize {
+fn perp_widths_case(ws: &[u64], out: &mut [u64; 8208]) -> usize
+    ensures { λ r. ⌜ r ≤ 8208 ⌝ }
+{
     let l = records::take_lattice(ws, 0);
     if l.next != ws.len() {
         return 0;
@@ -145,7 +174,9 @@ fn perp_widths_case(ws: &[u64], out: &mut [u64; 8208]) -> usize {
     tell_vector(out, cell::perp_widths(l.value))
 }
 
-fn min_image_case(ws: &[u64], out: &mut [u64; 8208]) -> usize {
+fn min_image_case(ws: &[u64], out: &mut [u64; 8208]) -> usize
+    ensures { λ r. ⌜ r ≤ 8208 ⌝ }
+{
     let d = records::take_vec3(ws, 0);
     let there = records::take_cell(ws, d.next);
     if there.next != ws.len() {
@@ -155,7 +186,9 @@ fn min_image_case(ws: &[u64], out: &mut [u64; 8208]) -> usize {
     tell_image(out, cell::min_image(d.value, around))
 }
 
-pub(crate) fn answer(call: u64, ws: &[u64], out: &mut [u64; 8208]) -> usize {
+pub(crate) fn answer(call: u64, ws: &[u64], out: &mut [u64; 8208]) -> usize
+    ensures { λ r. ⌜ r ≤ 8208 ⌝ }
+{
     match call {
         16 => orthorhombic_case(ws, out),
         17 => cubic_case(ws, out),

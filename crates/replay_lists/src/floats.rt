@@ -1,5 +1,6 @@
 // The calls of `float`, 01 to 0b.
 use replay_words::plain;
+ghost use Prim.Native.Nat.{_≤_};
 
 fn of_one(call: u64, x: f64) -> f64 {
     match call {
@@ -20,12 +21,16 @@ fn of_two(call: u64, x: f64, y: f64) -> f64 {
 }
 
 // An answered call, and its float.
-fn put_real(out: &mut [u64; 8208], x: f64) -> usize {
+fn put_real(out: &mut [u64; 8208], x: f64) -> usize
+    ensures { λ r. ⌜ r ≤ 8208 ⌝ }
+{
     let w = float::to_bits(x);
     replay_words::put_words(out, 0, &[0, 0, w])
 }
 
-fn one_case(call: u64, ws: &[u64], out: &mut [u64; 8208]) -> usize {
+fn one_case(call: u64, ws: &[u64], out: &mut [u64; 8208]) -> usize
+    ensures { λ r. ⌜ r ≤ 8208 ⌝ }
+{
     let x = replay_words::take_float(ws, 0);
     if x.next != ws.len() {
         return 0;
@@ -33,7 +38,9 @@ fn one_case(call: u64, ws: &[u64], out: &mut [u64; 8208]) -> usize {
     put_real(out, of_one(call, x.value))
 }
 
-fn two_case(call: u64, ws: &[u64], out: &mut [u64; 8208]) -> usize {
+fn two_case(call: u64, ws: &[u64], out: &mut [u64; 8208]) -> usize
+    ensures { λ r. ⌜ r ≤ 8208 ⌝ }
+{
     let x = replay_words::take_float(ws, 0);
     let y = replay_words::take_float(ws, x.next);
     if y.next != ws.len() {
@@ -42,7 +49,9 @@ fn two_case(call: u64, ws: &[u64], out: &mut [u64; 8208]) -> usize {
     put_real(out, of_two(call, x.value, y.value))
 }
 
-fn clamp_case(ws: &[u64], out: &mut [u64; 8208]) -> usize {
+fn clamp_case(ws: &[u64], out: &mut [u64; 8208]) -> usize
+    ensures { λ r. ⌜ r ≤ 8208 ⌝ }
+{
     let x = replay_words::take_float(ws, 0);
     let lo = replay_words::take_float(ws, x.next);
     let hi = replay_words::take_float(ws, lo.next);
@@ -52,7 +61,9 @@ fn clamp_case(ws: &[u64], out: &mut [u64; 8208]) -> usize {
     put_real(out, float::clamp(x.value, lo.value, hi.value))
 }
 
-fn to_i64_case(ws: &[u64], out: &mut [u64; 8208]) -> usize {
+fn to_i64_case(ws: &[u64], out: &mut [u64; 8208]) -> usize
+    ensures { λ r. ⌜ r ≤ 8208 ⌝ }
+{
     let x = replay_words::take_float(ws, 0);
     if x.next != ws.len() {
         return 0;
@@ -61,7 +72,9 @@ fn to_i64_case(ws: &[u64], out: &mut [u64; 8208]) -> usize {
     replay_words::put_i64(out, at, float::to_i64(x.value))
 }
 
-fn to_u64_case(ws: &[u64], out: &mut [u64; 8208]) -> usize {
+fn to_u64_case(ws: &[u64], out: &mut [u64; 8208]) -> usize
+    ensures { λ r. ⌜ r ≤ 8208 ⌝ }
+{
     let x = replay_words::take_float(ws, 0);
     if x.next != ws.len() {
         return 0;
@@ -70,7 +83,9 @@ fn to_u64_case(ws: &[u64], out: &mut [u64; 8208]) -> usize {
     replay_words::put_words(out, 0, &[0, 0, w])
 }
 
-pub(crate) fn answer(call: u64, ws: &[u64], out: &mut [u64; 8208]) -> usize {
+pub(crate) fn answer(call: u64, ws: &[u64], out: &mut [u64; 8208]) -> usize
+    ensures { λ r. ⌜ r ≤ 8208 ⌝ }
+{
     match call {
         1 | 2 | 3 | 4 | 6 => one_case(call, ws, out),
         5 | 7 | 8 => two_case(call, ws, out),

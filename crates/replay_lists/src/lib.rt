@@ -9,8 +9,12 @@ mod neighbors;
 pub mod records;
 mod virials;
 
+ghost use Prim.Native.Nat.{_≤_};
+
 // Floats, cells, the virial.
-pub fn numbers(call: u64, ws: &[u64], out: &mut [u64; 8208]) -> usize {
+pub fn numbers(call: u64, ws: &[u64], out: &mut [u64; 8208]) -> usize
+    ensures { λ r. ⌜ r ≤ 8208 ⌝ }
+{
     if call < 16 {
         return floats::answer(call, ws, out);
     }
@@ -24,7 +28,9 @@ pub fn numbers(call: u64, ws: &[u64], out: &mut [u64; 8208]) -> usize {
 }
 
 // Exclusions and lists.
-pub fn lists(call: u64, ws: &[u64], out: &mut [u64; 8208]) -> usize {
+pub fn lists(call: u64, ws: &[u64], out: &mut [u64; 8208]) -> usize
+    ensures { λ r. ⌜ r ≤ 8208 ⌝ }
+{
     if call == 50 || call == 51 {
         return excluded::answer(call, ws, out);
     }

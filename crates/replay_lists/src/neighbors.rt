@@ -9,8 +9,11 @@ use neighbor::Updated;
 use replay_words::Table;
 use replay_words::plain;
 use replay_words::tables;
+ghost use Prim.Native.Nat.{_≤_};
 
-fn tell_state(out: &mut [u64; 8208], answer: StateAnswer) -> usize {
+fn tell_state(out: &mut [u64; 8208], answer: StateAnswer) -> usize
+    ensures { λ r. ⌜ r ≤ 8208 ⌝ }
+{
     match answer {
         StateAnswer::Answered(s) => {
             let at = plain::put_answered(out);
@@ -20,7 +23,9 @@ fn tell_state(out: &mut [u64; 8208], answer: StateAnswer) -> usize {
     }
 }
 
-fn new_case(ws: &[u64], out: &mut [u64; 8208]) -> usize {
+fn new_case(ws: &[u64], out: &mut [u64; 8208]) -> usize
+    ensures { λ r. ⌜ r ≤ 8208 ⌝ }
+{
     let cutoff = replay_words::take_float(ws, 0);
     let skin = replay_words::take_float(ws, cutoff.next);
     if skin.next != ws.len() {
@@ -29,7 +34,9 @@ fn new_case(ws: &[u64], out: &mut [u64; 8208]) -> usize {
     tell_state(out, neighbor::new(cutoff.value, skin.value))
 }
 
-fn search_radius_case(ws: &[u64], out: &mut [u64; 8208]) -> usize {
+fn search_radius_case(ws: &[u64], out: &mut [u64; 8208]) -> usize
+    ensures { λ r. ⌜ r ≤ 8208 ⌝ }
+{
     let s = records::take_state(ws, 0);
     if s.next != ws.len() {
         return 0;
@@ -37,7 +44,9 @@ fn search_radius_case(ws: &[u64], out: &mut [u64; 8208]) -> usize {
     plain::put_number(out, neighbor::search_radius(s.value))
 }
 
-fn builds_since_case(ws: &[u64], out: &mut [u64; 8208]) -> usize {
+fn builds_since_case(ws: &[u64], out: &mut [u64; 8208]) -> usize
+    ensures { λ r. ⌜ r ≤ 8208 ⌝ }
+{
     let s = records::take_state(ws, 0);
     let earlier = replay_words::take_u32(ws, s.next);
     if earlier.next != ws.len() {
@@ -56,7 +65,9 @@ fn asked(second: bool, s: State, cell: Cell, positions: &[f64], references: &[f6
     neighbor::needs_rebuild(s, cell, positions, references)
 }
 
-fn question_case(second: bool, ws: &[u64], out: &mut [u64; 8208]) -> usize {
+fn question_case(second: bool, ws: &[u64], out: &mut [u64; 8208]) -> usize
+    ensures { λ r. ⌜ r ≤ 8208 ⌝ }
+{
     let s = records::take_state_and(second, ws, 0);
     let c = records::take_cell(ws, s.next);
     let x = replay_words::take_floats(ws, c.next);
@@ -116,7 +127,9 @@ fn brought(
 }
 
 // The refusal or 0, whether the list was built anew, where the call may keep it, and the state, also with a refusal.
-fn tell_updated(out: &mut [u64; 8208], question: bool, remembers: bool, r: Updated) -> usize {
+fn tell_updated(out: &mut [u64; 8208], question: bool, remembers: bool, r: Updated) -> usize
+    ensures { λ r. ⌜ r ≤ 8208 ⌝ }
+{
     let done = r.done;
     let state = r.state;
     let at = plain::put_done(out, done);
@@ -145,7 +158,9 @@ fn told(
     t: Lent,
     ws: &[u64],
     out: &mut [u64; 8208],
-) -> usize {
+) -> usize
+    ensures { λ r. ⌜ r ≤ 8208 ⌝ }
+{
     let fs = tables::floats(ws);
     let us = tables::u32s(ws);
     let mut pairs = tables::u32s(ws);
@@ -170,7 +185,9 @@ fn told(
     tables::put_room_u32(out, laid, items, t.items)
 }
 
-fn build_case(question: bool, remembers: bool, ws: &[u64], out: &mut [u64; 8208]) -> usize {
+fn build_case(question: bool, remembers: bool, ws: &[u64], out: &mut [u64; 8208]) -> usize
+    ensures { λ r. ⌜ r ≤ 8208 ⌝ }
+{
     let s = records::take_state_and(remembers, ws, 0);
     let c = records::take_cell(ws, s.next);
     let x = replay_words::take_floats(ws, c.next);
@@ -193,7 +210,9 @@ fn build_case(question: bool, remembers: bool, ws: &[u64], out: &mut [u64; 8208]
     told(question, remembers, state, cell, x, e, t, ws, out)
 }
 
-pub(crate) fn answer(call: u64, ws: &[u64], out: &mut [u64; 8208]) -> usize {
+pub(crate) fn answer(call: u64, ws: &[u64], out: &mut [u64; 8208]) -> usize
+    ensures { λ r. ⌜ r ≤ 8208 ⌝ }
+{
     match call {
         48 => new_case(ws, out),
         49 => search_radius_case(ws, out),

@@ -5,6 +5,9 @@ use cell::Vec3;
 use neighbor::State;
 use virial::Sum;
 use virial::Units;
+ghost use Prim.Native.Nat.{_+_, _≤_};
+ghost use lib.ListN.{length};
+ghost use mathlib.Core.Path.{_≡_};
 
 // An argument, and the place after it; past the end where a word is missing or is no such argument.
 pub struct VecArg {
@@ -37,7 +40,9 @@ pub struct StateArg {
     pub next: usize,
 }
 
-pub fn take_vec3(ws: &[u64], at: usize) -> VecArg {
+pub fn take_vec3(ws: &[u64], at: usize) -> VecArg
+    ensures { λ r. ⌜ r .next ≤ length (now (ws .entry)) + 1 ⌝ }
+{
     let x = replay_words::take_float(ws, at);
     let y = replay_words::take_float(ws, x.next);
     let z = replay_words::take_float(ws, y.next);
@@ -51,7 +56,9 @@ pub fn take_vec3(ws: &[u64], at: usize) -> VecArg {
     }
 }
 
-pub fn take_lattice(ws: &[u64], at: usize) -> LatticeArg {
+pub fn take_lattice(ws: &[u64], at: usize) -> LatticeArg
+    ensures { λ r. ⌜ r .next ≤ length (now (ws .entry)) + 1 ⌝ }
+{
     let va = take_vec3(ws, at);
     let vb = take_vec3(ws, va.next);
     let vc = take_vec3(ws, vb.next);
@@ -75,7 +82,9 @@ pub fn take_lattice(ws: &[u64], at: usize) -> LatticeArg {
 }
 
 // 0, or 1 and a lattice.
-pub fn take_cell(ws: &[u64], at: usize) -> CellArg {
+pub fn take_cell(ws: &[u64], at: usize) -> CellArg
+    ensures { λ r. ⌜ r .next ≤ length (now (ws .entry)) + 1 ⌝ }
+{
     let there = replay_words::take_bool(ws, at);
     if there.value {
         let l = take_lattice(ws, there.next);
@@ -106,7 +115,9 @@ fn sum_of(energy: f64, x: Vec3, y: Vec3, z: Vec3) -> Sum {
     }
 }
 
-pub fn take_sum(ws: &[u64], at: usize) -> SumArg {
+pub fn take_sum(ws: &[u64], at: usize) -> SumArg
+    ensures { λ r. ⌜ r .next ≤ length (now (ws .entry)) + 1 ⌝ }
+{
     let energy = replay_words::take_float(ws, at);
     let x = take_vec3(ws, energy.next);
     let y = take_vec3(ws, x.next);
@@ -118,7 +129,9 @@ pub fn take_sum(ws: &[u64], at: usize) -> SumArg {
     }
 }
 
-pub fn take_units(ws: &[u64], at: usize) -> UnitsArg {
+pub fn take_units(ws: &[u64], at: usize) -> UnitsArg
+    ensures { λ r. ⌜ r .next ≤ length (now (ws .entry)) + 1 ⌝ }
+{
     let force = replay_words::take_float(ws, at);
     let kb = replay_words::take_float(ws, force.next);
     let ke = replay_words::take_float(ws, kb.next);
@@ -135,7 +148,9 @@ pub fn take_units(ws: &[u64], at: usize) -> UnitsArg {
 }
 
 // The settings of a list and what it claims.
-pub fn take_state(ws: &[u64], at: usize) -> StateArg {
+pub fn take_state(ws: &[u64], at: usize) -> StateArg
+    ensures { λ r. ⌜ r .next ≤ length (now (ws .entry)) + 1 ⌝ }
+{
     let cutoff = replay_words::take_float(ws, at);
     let skin = replay_words::take_float(ws, cutoff.next);
     let pairs = replay_words::take_u32(ws, skin.next);
@@ -159,7 +174,9 @@ pub fn take_state(ws: &[u64], at: usize) -> StateArg {
 }
 
 // The same, with the remembered cell at its end where it stands in the line.
-pub fn take_state_and(cell: bool, ws: &[u64], at: usize) -> StateArg {
+pub fn take_state_and(cell: bool, ws: &[u64], at: usize) -> StateArg
+    ensures { λ r. ⌜ r .next ≤ length (now (ws .entry)) + 1 ⌝ }
+{
     let s = take_state(ws, at);
     if !cell {
         return s;
@@ -173,7 +190,9 @@ pub fn take_state_and(cell: bool, ws: &[u64], at: usize) -> StateArg {
     }
 }
 
-pub fn remembering(s: State, cell: Cell) -> State {
+pub fn remembering(s: State, cell: Cell) -> State
+    ensures { λ r. ⌜ r ≡ record { cutoff = s .cutoff; skin = s .skin; pairs = s .pairs; references = s .references; checks = s .checks; fallback = s .fallback; builds = s .builds; «built_in» = cell } ⌝ }
+{
     State {
         cutoff: s.cutoff,
         skin: s.skin,

@@ -4,12 +4,15 @@ use crate::records;
 use cell::Vec3;
 use replay_words::plain;
 use replay_words::tables;
+ghost use Prim.Native.Nat.{_≤_};
 
 fn three_rows(a: Vec3, b: Vec3, c: Vec3) -> [[f64; 3]; 3] {
     [[a.x, a.y, a.z], [b.x, b.y, b.z], [c.x, c.y, c.z]]
 }
 
-fn merge_case(ws: &[u64], out: &mut [u64; 8208]) -> usize {
+fn merge_case(ws: &[u64], out: &mut [u64; 8208]) -> usize
+    ensures { λ r. ⌜ r ≤ 8208 ⌝ }
+{
     let sum = records::take_sum(ws, 0);
     let other = records::take_sum(ws, sum.next);
     let a = replay_words::take_floats(ws, other.next);
@@ -28,7 +31,9 @@ fn merge_case(ws: &[u64], out: &mut [u64; 8208]) -> usize {
     answers::put_summed_forces(out, r, tables::part(&forces, f))
 }
 
-fn add_pair_force_case(ws: &[u64], out: &mut [u64; 8208]) -> usize {
+fn add_pair_force_case(ws: &[u64], out: &mut [u64; 8208]) -> usize
+    ensures { λ r. ⌜ r ≤ 8208 ⌝ }
+{
     let sum = records::take_sum(ws, 0);
     let i = replay_words::take_u32(ws, sum.next);
     let j = replay_words::take_u32(ws, i.next);
@@ -50,7 +55,9 @@ fn add_pair_force_case(ws: &[u64], out: &mut [u64; 8208]) -> usize {
     answers::put_summed_forces(out, r, tables::part(&forces, t))
 }
 
-fn virial_from_pair_case(ws: &[u64], out: &mut [u64; 8208]) -> usize {
+fn virial_from_pair_case(ws: &[u64], out: &mut [u64; 8208]) -> usize
+    ensures { λ r. ⌜ r ≤ 8208 ⌝ }
+{
     let x = records::take_vec3(ws, 0);
     let y = records::take_vec3(ws, x.next);
     let z = records::take_vec3(ws, y.next);
@@ -63,7 +70,9 @@ fn virial_from_pair_case(ws: &[u64], out: &mut [u64; 8208]) -> usize {
     answers::put_rows_answer(out, virial::virial_from_pair(rows, d.value, f.value))
 }
 
-fn scalar_virial_case(ws: &[u64], out: &mut [u64; 8208]) -> usize {
+fn scalar_virial_case(ws: &[u64], out: &mut [u64; 8208]) -> usize
+    ensures { λ r. ⌜ r ≤ 8208 ⌝ }
+{
     let x = records::take_vec3(ws, 0);
     let y = records::take_vec3(ws, x.next);
     let z = records::take_vec3(ws, y.next);
@@ -74,7 +83,9 @@ fn scalar_virial_case(ws: &[u64], out: &mut [u64; 8208]) -> usize {
     plain::put_number(out, virial::scalar_virial(rows))
 }
 
-fn pressure_case(ws: &[u64], out: &mut [u64; 8208]) -> usize {
+fn pressure_case(ws: &[u64], out: &mut [u64; 8208]) -> usize
+    ensures { λ r. ⌜ r ≤ 8208 ⌝ }
+{
     let kinetic = replay_words::take_float(ws, 0);
     let scalar = replay_words::take_float(ws, kinetic.next);
     let volume = replay_words::take_float(ws, scalar.next);
@@ -87,7 +98,9 @@ fn pressure_case(ws: &[u64], out: &mut [u64; 8208]) -> usize {
     )
 }
 
-fn pressure_tensor_case(ws: &[u64], out: &mut [u64; 8208]) -> usize {
+fn pressure_tensor_case(ws: &[u64], out: &mut [u64; 8208]) -> usize
+    ensures { λ r. ⌜ r ≤ 8208 ⌝ }
+{
     let units = records::take_units(ws, 0);
     let volume = replay_words::take_float(ws, units.next);
     let x = records::take_vec3(ws, volume.next);
@@ -110,7 +123,9 @@ fn pressure_tensor_case(ws: &[u64], out: &mut [u64; 8208]) -> usize {
     answers::put_rows_answer(out, r)
 }
 
-fn to_gpa_case(ws: &[u64], out: &mut [u64; 8208]) -> usize {
+fn to_gpa_case(ws: &[u64], out: &mut [u64; 8208]) -> usize
+    ensures { λ r. ⌜ r ≤ 8208 ⌝ }
+{
     let units = records::take_units(ws, 0);
     let p = replay_words::take_float(ws, units.next);
     if p.next != ws.len() {
@@ -119,7 +134,9 @@ fn to_gpa_case(ws: &[u64], out: &mut [u64; 8208]) -> usize {
     plain::put_number(out, virial::to_gpa(units.value, p.value))
 }
 
-fn zeros_case(ws: &[u64], out: &mut [u64; 8208]) -> usize {
+fn zeros_case(ws: &[u64], out: &mut [u64; 8208]) -> usize
+    ensures { λ r. ⌜ r ≤ 8208 ⌝ }
+{
     let t = replay_words::take_floats(ws, 0);
     if t.next != ws.len() {
         return 0;
@@ -129,7 +146,9 @@ fn zeros_case(ws: &[u64], out: &mut [u64; 8208]) -> usize {
     answers::put_summed_forces(out, r, tables::part(&forces, t))
 }
 
-pub(crate) fn answer(call: u64, ws: &[u64], out: &mut [u64; 8208]) -> usize {
+pub(crate) fn answer(call: u64, ws: &[u64], out: &mut [u64; 8208]) -> usize
+    ensures { λ r. ⌜ r ≤ 8208 ⌝ }
+{
     match call {
         32 => merge_case(ws, out),
         33 => add_pair_force_case(ws, out),

@@ -9,6 +9,7 @@ use strike::Entered;
 use strike::Left;
 use strike::NewAtom;
 use strike::Struck;
+ghost use Prim.Native.Nat.{_≤_};
 
 // The atoms' stores, which both calls have.
 struct LentAtoms {
@@ -65,7 +66,9 @@ fn take_links(ws: &[u64], at: usize) -> Links {
     }
 }
 
-fn put_left(out: &mut [u64; 8208], at: usize, l: Left) -> usize {
+fn put_left(out: &mut [u64; 8208], at: usize, l: Left) -> usize
+    ensures { λ r. ⌜ r ≤ 8208 ⌝ }
+{
     let atoms = l.atoms as u64;
     let bonds = l.bonds as u64;
     let lengths = l.lengths as u64;
@@ -80,7 +83,9 @@ fn put_left(out: &mut [u64; 8208], at: usize, l: Left) -> usize {
     )
 }
 
-fn put_struck(out: &mut [u64; 8208], r: Struck) -> usize {
+fn put_struck(out: &mut [u64; 8208], r: Struck) -> usize
+    ensures { λ r. ⌜ r ≤ 8208 ⌝ }
+{
     let done = r.done;
     let state = r.state;
     let left = r.left;
@@ -92,7 +97,9 @@ fn put_struck(out: &mut [u64; 8208], r: Struck) -> usize {
     }
 }
 
-fn put_placed(out: &mut [u64; 8208], r: Entered) -> usize {
+fn put_placed(out: &mut [u64; 8208], r: Entered) -> usize
+    ensures { λ r. ⌜ r ≤ 8208 ⌝ }
+{
     let done = r.done;
     let state = r.state;
     let count = r.count as u64;
@@ -150,7 +157,9 @@ fn strike_atoms(
     per_angle: &mut [f64],
     exclusions: &mut [u32],
     out: &mut [u64; 8208],
-) -> usize {
+) -> usize
+    ensures { λ r. ⌜ r ≤ 8208 ⌝ }
+{
     let us = tables::u32s(ws);
     let mut positions = tables::floats(ws);
     let mut velocities = tables::floats(ws);
@@ -187,7 +196,9 @@ fn strike_links(
     l: Links,
     ws: &[u64],
     out: &mut [u64; 8208],
-) -> usize {
+) -> usize
+    ensures { λ r. ⌜ r ≤ 8208 ⌝ }
+{
     let mut bonds = tables::u32s(ws);
     let mut lengths = tables::floats(ws);
     let mut ks = tables::floats(ws);
@@ -215,7 +226,9 @@ fn strike_links(
     tables::put_room_u32(out, bent, exclusions, l.exclusions)
 }
 
-fn strike_case(ws: &[u64], out: &mut [u64; 8208]) -> usize {
+fn strike_case(ws: &[u64], out: &mut [u64; 8208]) -> usize
+    ensures { λ r. ⌜ r ≤ 8208 ⌝ }
+{
     let m = replay_words::take_u32s(ws, 0);
     let s = replay_lists::records::take_state(ws, m.next);
     let a = take_atoms(ws, s.next);
@@ -227,7 +240,9 @@ fn strike_case(ws: &[u64], out: &mut [u64; 8208]) -> usize {
     strike_links(m, state, a, l, ws, out)
 }
 
-fn put_case(ws: &[u64], out: &mut [u64; 8208]) -> usize {
+fn put_case(ws: &[u64], out: &mut [u64; 8208]) -> usize
+    ensures { λ r. ⌜ r ≤ 8208 ⌝ }
+{
     let count = replay_words::take_u32(ws, 0);
     let position = replay_lists::records::take_vec3(ws, count.next);
     let velocity = replay_lists::records::take_vec3(ws, position.next);
@@ -271,7 +286,9 @@ fn put_case(ws: &[u64], out: &mut [u64; 8208]) -> usize {
     tables::put_room_u32(out, at, species, a.species)
 }
 
-pub fn answer(call: u64, ws: &[u64], out: &mut [u64; 8208]) -> usize {
+pub fn answer(call: u64, ws: &[u64], out: &mut [u64; 8208]) -> usize
+    ensures { λ r. ⌜ r ≤ 8208 ⌝ }
+{
     match call {
         106 => strike_case(ws, out),
         107 => put_case(ws, out),

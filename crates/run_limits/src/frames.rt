@@ -1,5 +1,6 @@
 // The limits of the whole-number frame. A line a build: the refusal's number and place, then the pairs, the checks, the fallback where it is answered, and a
 // digest of each lent memory, which holds MARK before.
+use crate::rooms;
 use crate::show;
 use frame::Built;
 use frame::Frame;
@@ -80,8 +81,8 @@ pub(crate) fn put_built(b: Built) {
 }
 
 fn build(f: Frame, xs: &[u32], starts: &mut [u32]) {
-    let mut pairs = [MARK; 200000];
-    let mut items = [MARK; 16390];
+    let mut pairs = rooms::pairs();
+    let mut items = rooms::items();
     put_built(frame::build(f, xs, &[], &mut pairs, starts, &mut items));
     show::put(digest(&pairs));
     show::put(digest(starts));
@@ -111,14 +112,14 @@ fn cube() -> Frame {
 }
 
 fn build_roomy(f: Frame, xs: &[u32]) {
-    let mut starts = [MARK; 32769];
+    let mut starts = rooms::starts();
     build(f, xs, &mut starts);
 }
 
 // 16,384 atoms in 32,768 cells, with just the starts that they need, and with one start fewer.
 fn most() {
-    let mut xs = [0u32; 49152];
-    let mut fewer = [MARK; 32768];
+    let mut xs = rooms::most_wholes();
+    let mut fewer = rooms::fewer();
     spread(&mut xs);
     build_roomy(cube(), &xs);
     build(cube(), &xs, &mut fewer);
@@ -126,7 +127,7 @@ fn most() {
 
 // One atom more.
 fn over() {
-    let mut xs = [0u32; 49155];
+    let mut xs = rooms::over_wholes();
     spread(&mut xs);
     build_roomy(cube(), &xs);
 }

@@ -2,12 +2,13 @@
 // other frames. Nothing lent changes.
 use crate::frames;
 use crate::frames::MARK;
+use crate::rooms;
 use crate::show;
 
 fn build(xs: &[u32]) {
     let mut pairs = [MARK; 4];
     let mut starts = [MARK; 9];
-    let mut items = [MARK; 16390];
+    let mut items = rooms::items();
     let f = frames::boxed(320, 320, 320, 161);
     frames::put_built(frame::build(f, xs, &[], &mut pairs, &mut starts, &mut items));
     show::put(frames::digest(&pairs));
@@ -16,12 +17,12 @@ fn build(xs: &[u32]) {
 }
 
 fn most() {
-    let xs = [0u32; 49152];
+    let xs = rooms::most_wholes();
     build(&xs);
 }
 
 fn over() {
-    let xs = [0u32; 49155];
+    let xs = rooms::over_wholes();
     build(&xs);
 }
 

@@ -3,6 +3,7 @@
 use crate::floats;
 use crate::frames;
 use crate::frames::MARK;
+use crate::rooms;
 use crate::show;
 use answer::YesNo;
 use cell::Cell;
@@ -83,14 +84,14 @@ fn cube() -> Cell {
 }
 
 fn build_cube(s: State, xs: &[f64], refs: &mut [f64], starts: &mut [u32]) -> State {
-    let mut pairs = [MARK; 200000];
-    let mut items = [MARK; 16390];
+    let mut pairs = rooms::pairs();
+    let mut items = rooms::items();
     build(s, cube(), xs, &mut pairs, refs, starts, &mut items)
 }
 
 // A build with just the starts that it needs, and what it leaves is asked about.
 fn fill(s: State, xs: &[f64], refs: &mut [f64]) -> State {
-    let mut starts = [MARK; 32769];
+    let mut starts = rooms::starts();
     let after = build_cube(s, xs, refs, &mut starts);
     ask(after, cube(), xs, refs);
     after
@@ -98,8 +99,8 @@ fn fill(s: State, xs: &[f64], refs: &mut [f64]) -> State {
 
 // 16,384 atoms in 32,768 cells; with one start fewer.
 fn most(s: State, refs: &mut [f64]) -> State {
-    let mut xs = [0.0; 49152];
-    let mut fewer = [MARK; 32768];
+    let mut xs = rooms::most_floats();
+    let mut fewer = rooms::fewer();
     floats::spread(&mut xs);
     let after = fill(s, &xs, refs);
     build_cube(after, &xs, refs, &mut fewer);
@@ -108,13 +109,13 @@ fn most(s: State, refs: &mut [f64]) -> State {
 
 // One atom more.
 fn over(s: State, refs: &mut [f64]) {
-    let mut xs = [0.0; 49155];
+    let mut xs = rooms::over_floats();
     floats::spread(&mut xs);
     fill(s, &xs, refs);
 }
 
 fn cubes(s: State) {
-    let mut refs = [0.0; 49155];
+    let mut refs = rooms::over_floats();
     let after = most(s, &mut refs);
     over(after, &mut refs);
 }

@@ -7,6 +7,7 @@ mod half;
 mod lists;
 mod parts;
 mod refused;
+mod rooms;
 mod show;
 mod speeds;
 

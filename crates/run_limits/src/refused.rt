@@ -1,5 +1,6 @@
 // 16,385 atoms of each other call that takes atoms. A line a call: number, place, and a digest of the forces, or velocities, that were lent.
 use crate::floats;
+use crate::rooms;
 use crate::show;
 use crate::speeds;
 use cell::Cell;
@@ -152,7 +153,7 @@ fn list() -> State {
 
 fn evaluated(species: &[u32], charges: &[f64], xs: &[f64], forces: &mut [f64]) {
     let mut pairs = [0u32; 2];
-    let mut refs = [0.0; 49155];
+    let mut refs = rooms::over_floats();
     let mut starts = [0u32; 2];
     let mut items = [0u32; 16385];
     let e = evaluate::evaluate(
@@ -183,7 +184,7 @@ fn evaluated(species: &[u32], charges: &[f64], xs: &[f64], forces: &mut [f64]) {
 }
 
 fn sums(xs: &[f64], ones: &[f64]) {
-    let mut forces = [0.5; 49155];
+    let mut forces = rooms::over_halves();
     zeros(&mut forces);
     merge(xs, &mut forces);
     add_pair_force(&mut forces);
@@ -191,7 +192,7 @@ fn sums(xs: &[f64], ones: &[f64]) {
 }
 
 fn terms(species: &[u32], ones: &[f64], xs: &[f64]) {
-    let mut forces = [0.5; 49155];
+    let mut forces = rooms::over_halves();
     lj_pairs(species, xs, &mut forces);
     coulomb_pairs(ones, xs, &mut forces);
     bonds_all(xs, &mut forces);
@@ -200,14 +201,14 @@ fn terms(species: &[u32], ones: &[f64], xs: &[f64]) {
 }
 
 fn whole(species: &[u32], ones: &[f64], xs: &[f64]) {
-    let mut forces = [0.5; 49155];
+    let mut forces = rooms::over_halves();
     evaluated(species, ones, xs, &mut forces);
 }
 
 pub(crate) fn all() {
     let species = [1u32; 16385];
     let ones = [1.0; 16385];
-    let xs = [0.25; 49155];
+    let xs = rooms::over_quarters();
     sums(&xs, &ones);
     terms(&species, &ones, &xs);
     whole(&species, &ones, &xs);

@@ -1,6 +1,7 @@
 // 16,384 masses and one more for kinetic_energy, temperature and berendsen. Masses, velocities and units are powers of two, so that no operation rounds.
 // A line a size: number and place of each call, an answer's bits, and a digest of the velocities after the last.
 use crate::floats;
+use crate::rooms;
 use crate::show;
 use answer::Number;
 use virial::Units;
@@ -43,7 +44,7 @@ fn most() {
 
 fn over() {
     let masses = [1.0; 16385];
-    let mut vs = [0.5; 49155];
+    let mut vs = rooms::over_halves();
     ask(&masses, &mut vs);
 }
 

@@ -3,6 +3,7 @@
 use crate::liquid;
 use crate::liquid::Form;
 use crate::liquid::Table;
+use crate::rooms;
 use crate::show;
 use cell::Cell;
 use neighbor::State;
@@ -32,9 +33,9 @@ fn list(cutoff: f64) -> State {
 }
 
 fn build(cell: Cell, cutoff: f64, xs: &[f64], table: &[u32]) {
-    let mut pairs = [0u32; 600000];
-    let mut refs = [0.0; 48000];
-    let mut starts = [0u32; 32769];
+    let mut pairs = rooms::pairs();
+    let mut refs = rooms::floats();
+    let mut starts = rooms::starts();
     let mut items = [0u32; 16000];
     let u = neighbor::build(
         list(cutoff),

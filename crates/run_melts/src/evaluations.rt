@@ -4,6 +4,7 @@
 // the energy's bits, the virial's nine, and a digest of the forces' bits in their order. `tools/evaluations.rs` is the same over the Rust.
 use crate::liquid;
 use crate::liquid::Form;
+use crate::rooms;
 use crate::show;
 use crate::terms;
 use evaluate::Evaluated;
@@ -173,8 +174,8 @@ fn tabled(
     xs: &mut [f64],
     forces: &mut [f64],
 ) {
-    let mut pairs = [0u32; 480000];
-    let mut refs = [0.0; 48000];
+    let mut pairs = rooms::pairs();
+    let mut refs = rooms::floats();
     liquid::molecules(species, charges, bonds);
     six(
         last,

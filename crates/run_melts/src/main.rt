@@ -3,6 +3,7 @@
 mod builds;
 mod evaluations;
 mod liquid;
+mod rooms;
 mod show;
 mod steps;
 mod terms;

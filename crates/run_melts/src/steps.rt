@@ -6,6 +6,7 @@
 use crate::evaluations;
 use crate::liquid;
 use crate::liquid::Form;
+use crate::rooms;
 use crate::show;
 use crate::terms;
 use answer::Done;
@@ -16,18 +17,23 @@ use verlet_step::Pace;
 use verlet_step::Stepped;
 ghost use Prim.Native.Nat.{_≤_};
 
-// A run's first evaluation and its steps: `turns` in all.
+// A run's first evaluation and its steps: `turns` in all. `few` is the room for its pairs until that stops it.
 struct Run {
+    last: u8,
+    atoms: usize,
+    places: usize,
+    bonds: usize,
+    few: usize,
     turns: usize,
     dof: f64,
     shift: bool,
     edge: f64,
 }
 
-// A run that is at its end or stopped: its last turn, and what that gave.
+// What a run's last turn gave, and its room for pairs.
 struct Reached {
-    turn: usize,
     last: Stepped,
+    room: usize,
 }
 
 fn pace() -> Pace {
@@ -211,7 +217,7 @@ fn put_some(
 }
 
 // The first turn is the first forces and potential.
-fn turn(
+fn moved(
     k: usize,
     run: Run,
     r: Stepped,
@@ -264,10 +270,20 @@ fn bound(r: Stepped, turns: usize) -> usize
     if turns < 1000000 { turns } else { 0 }
 }
 
-fn turns(
-    from: usize,
+fn put_stop(k: usize, r: Stepped, xs: &[f64]) {
+    let done = r.done;
+    let s = r.state;
+    show::put(k as u64);
+    show::put_done(done);
+    show::put(s.builds as u64);
+    show::end(liquid::digest_floats(xs));
+}
+
+// A turn; where that is stopped, the rest of the step with all the room.
+fn turn(
+    k: usize,
     run: Run,
-    first: Stepped,
+    e: Reached,
     species: &[u32],
     charges: &[f64],
     bonds: &[u32],
@@ -278,107 +294,26 @@ fn turns(
     refs: &mut [f64],
     forces: &mut [f64],
 ) -> Reached {
-    let mut r = first;
-    let mut at = from;
-    let mut k = from;
-    let mut end = bound(r, run.turns);
-    while k < end {
-        r = turn(
-            k,
-            run,
-            r,
-            species,
-            charges,
-            bonds,
-            masses,
-            xs,
-            vs,
-            pairs,
-            refs,
-            forces,
-        );
-        put_some(k, run, r, masses, xs, vs, forces);
-        at = k;
-        k += 1;
-        end = bound(r, run.turns);
-    }
-    Reached { turn: at, last: r }
-}
-
-fn put_stop(e: Reached, xs: &[f64]) {
-    let r = e.last;
-    let done = r.done;
-    let s = r.state;
-    show::put(e.turn as u64);
-    show::put_done(done);
-    show::put(s.builds as u64);
-    show::end(liquid::digest_floats(xs));
-}
-
-// Where the run was stopped, the rest of the step.
-fn resumed(
-    e: Reached,
-    run: Run,
-    species: &[u32],
-    charges: &[f64],
-    bonds: &[u32],
-    masses: &[f64],
-    xs: &[f64],
-    vs: &mut [f64],
-    pairs: &mut [u32],
-    refs: &mut [f64],
-    forces: &mut [f64],
-) -> Stepped {
-    let last = e.last;
-    if !last.stopped {
-        return last;
-    }
-    put_stop(e, xs);
-    let r = finished(
+    let room = e.room;
+    let r = moved(
+        k,
         run,
-        last,
+        e.last,
         species,
         charges,
         bonds,
         masses,
         xs,
         vs,
-        pairs,
+        rooms::front_u32(pairs, room),
         refs,
         forces,
     );
-    put_some(e.turn, run, r, masses, xs, vs, forces);
-    r
-}
-
-fn rest(
-    e: Reached,
-    run: Run,
-    species: &[u32],
-    charges: &[f64],
-    bonds: &[u32],
-    masses: &[f64],
-    xs: &mut [f64],
-    vs: &mut [f64],
-    pairs: &mut [u32],
-    refs: &mut [f64],
-    forces: &mut [f64],
-) {
-    let r = resumed(
-        e,
-        run,
-        species,
-        charges,
-        bonds,
-        masses,
-        xs,
-        vs,
-        pairs,
-        refs,
-        forces,
-    );
-    turns(
-        after(e.turn),
+    if !r.stopped {
+        return Reached { last: r, room };
+    }
+    put_stop(k, r, xs);
+    let last = finished(
         run,
         r,
         species,
@@ -391,11 +326,13 @@ fn rest(
         refs,
         forces,
     );
+    Reached {
+        last,
+        room: pairs.len(),
+    }
 }
 
-// The run, with `few` for the pairs until that stops it.
-fn whole(
-    few: &mut [u32],
+fn turns(
     run: Run,
     species: &[u32],
     charges: &[f64],
@@ -407,78 +344,66 @@ fn whole(
     refs: &mut [f64],
     forces: &mut [f64],
 ) {
-    let e = turns(
-        0,
-        run,
-        begun(0.0),
-        species,
-        charges,
-        bonds,
-        masses,
-        xs,
-        vs,
-        few,
-        refs,
-        forces,
-    );
-    rest(
-        e,
-        run,
-        species,
-        charges,
-        bonds,
-        masses,
-        xs,
-        vs,
-        pairs,
-        refs,
-        forces,
-    );
+    let mut r = begun(0.0);
+    let mut room = run.few;
+    let mut k = 0;
+    let mut end = bound(r, run.turns);
+    while k < end {
+        let e = turn(
+            k,
+            run,
+            Reached { last: r, room },
+            species,
+            charges,
+            bonds,
+            masses,
+            xs,
+            vs,
+            pairs,
+            refs,
+            forces,
+        );
+        r = e.last;
+        room = e.room;
+        put_some(k, run, r, masses, xs, vs, forces);
+        k += 1;
+        end = bound(r, run.turns);
+    }
 }
 
-// Masses, places on `last` + 1 sites of an axis, and velocities near 300 K.
-fn atoms(last: u8, masses: &mut [f64], xs: &mut [f64], vs: &mut [f64]) {
+// The tables, which are the same for every number of atoms.
+fn masses() -> [f64; 16384] {
+    let mut ms = [0.0; 16384];
     liquid::fill(
         Form::Thirds {
             a: 16.0,
             b: 12.0,
             c: 14.0,
         },
-        masses,
+        &mut ms,
     );
-    liquid::fill(Form::Places { last, spacing: 3.5 }, xs);
-    liquid::fill(
-        Form::Spread {
-            low: -0.0078125,
-            width: 0.015625,
-        },
-        vs,
-    );
+    ms
 }
 
-fn filled(
-    last: u8,
-    few: &mut [u32],
+fn tabled(
     run: Run,
-    species: &mut [u32],
-    charges: &mut [f64],
-    bonds: &mut [u32],
-    masses: &mut [f64],
     xs: &mut [f64],
     vs: &mut [f64],
     pairs: &mut [u32],
     refs: &mut [f64],
     forces: &mut [f64],
 ) {
-    liquid::molecules(species, charges, bonds);
-    atoms(last, masses, xs, vs);
-    whole(
-        few,
+    let mut species = [0u32; 16384];
+    let mut charges = [0.0; 16384];
+    let mut bonds = [0u32; 21844];
+    let ms = masses();
+    liquid::molecules(&mut species, &mut charges, &mut bonds);
+    turns(
         run,
-        species,
-        charges,
-        bonds,
-        masses,
+        rooms::part_u32(&species, run.atoms),
+        rooms::part(&charges, run.atoms),
+        rooms::part_u32(&bonds, run.bonds),
+        rooms::part(&ms, run.atoms),
         xs,
         vs,
         pairs,
@@ -487,99 +412,79 @@ fn filled(
     );
 }
 
-fn thousand(pairs: &mut [u32], refs: &mut [f64]) {
-    let run = Run {
+// Places on `last` + 1 sites of an axis, and velocities near 300 K.
+fn ran(run: Run) {
+    let mut xs = rooms::floats();
+    let mut vs = rooms::floats();
+    let mut forces = rooms::floats();
+    let mut pairs = rooms::pairs();
+    let mut refs = rooms::floats();
+    liquid::fill(
+        Form::Places {
+            last: run.last,
+            spacing: 3.5,
+        },
+        &mut xs,
+    );
+    liquid::fill(
+        Form::Spread {
+            low: -0.0078125,
+            width: 0.015625,
+        },
+        &mut vs,
+    );
+    tabled(
+        run,
+        rooms::front(&mut xs, run.places),
+        rooms::front(&mut vs, run.places),
+        &mut pairs,
+        &mut refs,
+        rooms::front(&mut forces, run.places),
+    );
+}
+
+fn thousand() -> Run {
+    Run {
+        last: 9,
+        atoms: 1000,
+        places: 3000,
+        bonds: 1332,
+        few: 40000,
         turns: 1001,
         dof: 3000.0,
         shift: true,
         edge: 35.0,
-    };
-    let mut species = [0u32; 1000];
-    let mut charges = [0.0; 1000];
-    let mut bonds = [0u32; 1332];
-    let mut masses = [0.0; 1000];
-    let mut xs = [0.0; 3000];
-    let mut vs = [0.0; 3000];
-    let mut forces = [0.0; 3000];
-    let mut few = [0u32; 40000];
-    filled(
-        9,
-        &mut few,
-        run,
-        &mut species,
-        &mut charges,
-        &mut bonds,
-        &mut masses,
-        &mut xs,
-        &mut vs,
-        pairs,
-        refs,
-        &mut forces,
-    );
+    }
 }
 
 // Room for 3,250 pairs at first.
-fn stopped(pairs: &mut [u32], refs: &mut [f64]) {
-    let run = Run {
+fn stopped() -> Run {
+    Run {
+        last: 5,
+        atoms: 216,
+        places: 648,
+        bonds: 288,
+        few: 6500,
         turns: 201,
         dof: 648.0,
         shift: false,
         edge: 21.0,
-    };
-    let mut species = [0u32; 216];
-    let mut charges = [0.0; 216];
-    let mut bonds = [0u32; 288];
-    let mut masses = [0.0; 216];
-    let mut xs = [0.0; 648];
-    let mut vs = [0.0; 648];
-    let mut forces = [0.0; 648];
-    let mut few = [0u32; 6500];
-    filled(
-        5,
-        &mut few,
-        run,
-        &mut species,
-        &mut charges,
-        &mut bonds,
-        &mut masses,
-        &mut xs,
-        &mut vs,
-        pairs,
-        refs,
-        &mut forces,
-    );
+    }
 }
 
 // One step of the most atoms.
-fn most(pairs: &mut [u32], refs: &mut [f64]) {
-    let run = Run {
+fn most() -> Run {
+    Run {
+        last: 25,
+        atoms: 16384,
+        places: 49152,
+        bonds: 21844,
+        few: 480000,
         turns: 2,
         dof: 49152.0,
         shift: true,
         edge: 91.0,
-    };
-    let mut species = [0u32; 16384];
-    let mut charges = [0.0; 16384];
-    let mut bonds = [0u32; 21844];
-    let mut masses = [0.0; 16384];
-    let mut xs = [0.0; 49152];
-    let mut vs = [0.0; 49152];
-    let mut forces = [0.0; 49152];
-    let mut few = [0u32; 480000];
-    filled(
-        25,
-        &mut few,
-        run,
-        &mut species,
-        &mut charges,
-        &mut bonds,
-        &mut masses,
-        &mut xs,
-        &mut vs,
-        pairs,
-        refs,
-        &mut forces,
-    );
+    }
 }
 
 fn put_refused(r: Stepped) {
@@ -591,20 +496,15 @@ fn put_refused(r: Stepped) {
 
 // One atom more.
 fn over() {
-    let run = Run {
-        turns: 1,
-        dof: 49155.0,
-        shift: true,
-        edge: 91.0,
-    };
+    let run = most();
     let species = [1u32; 16385];
     let charges = [0.0; 16385];
     let masses = [1.0; 16385];
-    let mut xs = [0.0; 49155];
-    let mut vs = [0.0; 49155];
-    let mut forces = [0.0; 49155];
+    let mut xs = rooms::floats();
+    let mut vs = rooms::floats();
+    let mut forces = rooms::floats();
     let mut pairs = [0u32; 2];
-    let mut refs = [0.0; 49155];
+    let mut refs = rooms::floats();
     put_refused(stepped(
         run,
         begun(0.5),
@@ -634,10 +534,8 @@ fn over() {
 }
 
 pub(crate) fn all() {
-    let mut pairs = [0u32; 40000];
-    let mut refs = [0.0; 49155];
-    thousand(&mut pairs, &mut refs);
-    stopped(&mut pairs, &mut refs);
-    most(&mut pairs, &mut refs);
+    ran(thousand());
+    ran(stopped());
+    ran(most());
     over();
 }
