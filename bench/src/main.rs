@@ -1,12 +1,13 @@
 //! Times the Rust original and the library on the same inputs in one run and prints one table; exit status 1 where two answers differ.
 //!
 //! ```text
-//! FIELD_SRC=.. cargo run --release -- [--n 1000,4000,16000] [--only WORD,WORD] [--rounds 9] [--shuffle] [--side original|library|limit]
-//! [--limit] [--ways] [--lammps]
+//! FIELD_SRC=.. cargo run --release -- [--n 1000,4000,16000] [--only WORD,WORD] [--line NAME] [--lines] [--rounds 9] [--shuffle]
+//! [--side original|library|limit] [--limit] [--ways] [--lammps]
 //! ```
 //!
 //! A time is the best of the rounds, in which the two sides take turns, by this thread's processor time. `--only` takes the lines that have one of the
-//! words in their name. `--side` times one side alone, for a profile, or for instruction counts as the difference of two runs with other `--rounds`.
+//! words in their name, `--line` the one of that name, `--lines` lists the names. `--side` times one side alone, for a profile, or for instruction counts as the
+//! difference of two runs with other `--rounds` (instructions.sh); its last column is how many units a repetition has.
 //! `--limit` has a third side beside them, plain Rust at the same bits as fast as it could be written (src/limit), `--ways` each of its ways; `--lammps` adds
 //! a table of LAMMPS on the same atoms, where `lmp` is installed.
 mod clock;
@@ -111,6 +112,7 @@ fn time(side: &mut dyn sides::Side, count: usize) -> f64 {
 struct Options {
     sizes: Vec<usize>,
     only: Vec<String>,
+    line: Option<String>,
     rounds: usize,
     shuffle: bool,
     side: Option<String>,
@@ -120,6 +122,15 @@ struct Options {
     lammps: bool,
 }
 
+impl Options {
+    fn takes(&self, name: &str) -> bool {
+        match &self.line {
+            Some(line) => line == name,
+            None => self.only.is_empty() || self.only.iter().any(|w| name.contains(w.as_str())),
+        }
+    }
+}
+
 fn options() -> Options {
     let args: Vec<String> = std::env::args().skip(1).collect();
     let get = |key: &str| args.iter().position(|a| a == key).and_then(|i| args.get(i + 1).cloned());
@@ -127,6 +138,7 @@ fn options() -> Options {
     Options {
         sizes: words("--n").map_or(vec![1000, 4000, 16000], |w| w.iter().map(|n| n.parse().expect("--n wants numbers")).collect()),
         only: words("--only").unwrap_or_default(),
+        line: get("--line"),
         rounds: get("--rounds").map_or(9, |r| r.parse().expect("--rounds wants a number")),
         shuffle: args.iter().any(|a| a == "--shuffle"),
         side: get("--side"),
@@ -173,7 +185,7 @@ fn row(line: &Line, d: &Data, o: &Options) -> bool {
         Unit::Angle => "angle",
     };
     if o.side.is_some() {
-        println!("| {} | {} | {unit} | {:.1} |", line.0, d.n, c.iter().fold(a.min(b), |m, c| m.min(*c)) / each);
+        println!("| {} | {} | {unit} | {:.1} | {each} |", line.0, d.n, c.iter().fold(a.min(b), |m, c| m.min(*c)) / each);
         return true;
     }
     let (da, db) = (original.digest(), library.digest());
@@ -209,15 +221,20 @@ fn beside_lammps(d: &Data, rounds: usize) {
     println!("\n| LAMMPS beside the library | atoms | listed pairs | LAMMPS, ns a pair | library, ns a pair | ratio | asked |\n|---|---|---|---|---|---|---|");
     for (name, line, theirs) in [("list, built at every step", "build", list), ("pairs, with energy and virial", "Lennard-Jones", pull)] {
         let mut library = sides(line, d).1;
-        let ours = (0..rounds).map(|_| time(library.as_mut(), 5)).fold(f64::INFINITY, f64::min);
+        // so many that they take some seconds: a shared machine has slow ones
+        let ours = (0..8 * rounds).map(|_| time(library.as_mut(), 5)).fold(f64::INFINITY, f64::min);
         println!("| {name} | {} | {pairs} | {:.1} | {:.1} | {:.2} | 0.8 |", d.n, theirs / pairs, ours / pairs, ours / theirs);
     }
 }
 
 fn main() {
+    if std::env::args().any(|a| a == "--lines") {
+        LINES.iter().for_each(|l| println!("{}", l.0));
+        return;
+    }
     let o = options();
     let columns = match &o.side {
-        Some(side) => format!("| | atoms | unit | {side}, ns a unit |"),
+        Some(side) => format!("| | atoms | unit | {side}, ns a unit | units |"),
         None => format!(
             "| | atoms | unit | original, ns a unit | library, ns a unit | ratio | asked |{} digest, original | digest, library |",
             if o.limit { " limit, ns a unit | library / limit |" } else { "" }
@@ -227,7 +244,7 @@ fn main() {
     let (mut rows, mut unequal) = (0, 0);
     for &n in &o.sizes {
         let d = data(n, o.shuffle);
-        for line in LINES.iter().filter(|l| o.only.is_empty() || o.only.iter().any(|w| l.0.contains(w.as_str()))) {
+        for line in LINES.iter().filter(|l| o.takes(l.0)) {
             rows += 1;
             if !row(line, &d, &o) {
                 unequal += 1;
