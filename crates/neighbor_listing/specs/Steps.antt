@@ -3,7 +3,7 @@ use Prim.Native.Nat.{ℕ, _/_, _≤_, _<_, min, max}
 use mathlib.Core.Path.{_≡_}
 use mathlib.Core.Bool.{Bool, true, false, cond, _&&_}
 use mathlib.Core.List.{List}
-use lib.Dec.{ltb}
+use lib.Dec.{ltb, eqb}
 use lib.ListN.{length, getD, take}
 use Rattle.lists.specs.Atoms.{atomsOf}
 use Rattle.lists.specs.Lists.{keep}
@@ -31,18 +31,38 @@ use Rattle.neighbor_listing.specs.declared.sight.Sight.{Sight}
 unfoldable pub seesOf : Sight → Vec3 → Vec3 → Bool
 seesOf s a b = le (norm2Of (imageIn (s .prepared) (subOf a b) .diff)) (s .limit)
 
--- each low atom's highest partner in the table, or more
+-- one of the first k rows is low, high
+pub record NamedBelow (table : List ℕ) (k low high : ℕ) : Type 0 where
+  pub place : ℕ
+  pub within : place < k
+  pub low-is : rowAt table place .0 ≡ low
+  pub high-is : rowAt table place .1 ≡ high
+
+-- each low atom's highest partner in the table, or 0
 pub record Tops (table tops : List ℕ) : Type 0 where
   pub at : (k : ℕ) → k < length table / 2 → rowAt table k .0 < length tops → rowAt table k .1 ≤ getD tops (rowAt table k .0) 0
+  pub named : (a : ℕ) → a < length tops → 0 < getD tops a 0 → NamedBelow table (length table / 2) a (getD tops a 0)
+
+-- a room of zeros, for the most atoms
+pub record Cleared (room : List ℕ) : Type 0 where
+  pub zero : (k : ℕ) → k < length room → getD room k 0 ≡ 0
+
+pub record BlankTops (room : List ℕ) : Type 0 where
+  pub long : length room ≡ 16384
+  pub clear : Cleared room
 
 -- past it no pair is a row
 unfoldable pub clearOf : List ℕ → ℕ → ℕ → Bool
 clearOf tops low high = ltb low (length tops) && ltb (getD tops low 0) high
 
+-- .. and that partner is one
+unfoldable pub topOf : List ℕ → ℕ → ℕ → Bool
+topOf tops low high = ltb low (length tops) && (eqb (getD tops low 0) high && ltb 0 high)
+
 -- a pair's lookup
 unfoldable pub lookedIn : List ℕ → List ℕ → ℕ → ℕ → Bool
-unfolding clearOf lookedUp
-lookedIn tops table low high = cond (clearOf tops low high) false (lookedUp table low high)
+unfolding clearOf topOf lookedUp
+lookedIn tops table low high = cond (clearOf tops low high) false (cond (topOf tops low high) true (lookedUp table low high))
 
 -- what is excluded and what is near, as the loops find it; the near test first; and the scene of pairs that are near
 unfoldable pub lookedBy : Sight → List Float → List ℕ → List ℕ → Scene

@@ -15,7 +15,7 @@ ghost use lib.ListN.{length, drop};
 ghost use Rattle.cell.specs.Vec.{positionAt};
 ghost use Rattle.lists.specs.Lists.{ordered, withEach, inside, across};
 ghost use Rattle.bins.specs.Listing.{considerOf, listOf, Ready, Below};
-ghost use mathlib.Core.Bool.{cond};
+ghost use mathlib.Core.Bool.{cond, true};
 ghost use Rattle.neighbor_listing.specs.Sides.{SideRooms, LaidOut, Bounded, Framed, SharedAt, Shares};
 ghost use Rattle.neighbor_listing.specs.Steps.{chosenBy, nearTo, Gathered, Lists, TriedSays};
 
@@ -404,6 +404,91 @@ fn consider_whole(
     consider_part(s, xs, table, tops, pairs, t, i, part)
 }
 
+// An atom with each of a part by the step that two bins share. It has one caller, and so goes into that loop, with no call for an atom and a bin.
+fn see_shared(
+    s: Sight,
+    xs: &[f64],
+    table: &[u32],
+    tops: &[u32],
+    pairs: &mut [u32],
+    t: Tally,
+    i: u32,
+    part: &[u32],
+    bx: &[f64],
+    by: &[f64],
+    bz: &[f64],
+    flags: &mut [usize],
+    room: &mut [u32],
+    w: Bounds,
+    p: Reach,
+) -> Tally
+    requires { ⌜ (i < length (now xs) / 3) × (length (now part) ≤ 64) × LaidOut (now xs) (now part) (now bx) (now by) (now bz) (length (now part)) × (length (now flags) ≡ 64) × (length (now room) ≡ 64) × Ready t (length (withEach i (now part))) × Bounded (now bx) (now by) (now bz) (length (now part)) w × SharedAt s (positionAt (now xs) i) w p × (p .single ≡ true) ⌝ }
+    ensures { λ r. ⌜ Lists s (now (xs .entry)) (now (tops .entry)) (now (table .entry)) t (now (pairs .entry)) (withEach i (now (part .entry))) r (now (pairs .exit)) ⌝ }
+{
+    let a = spot_at(xs, i as usize);
+    let r = side::reach_shared(s, a, w, p);
+    if r.beyond {
+        return Tally {
+            count: t.count,
+            checks: t.checks + part.len(),
+        };
+    }
+    side::flag_single(s, i, a, 0, part, bx, by, bz, flags, r);
+    let count = side::gather(0, part, flags, room);
+    let near = settle_all(table, tops, pairs, t, i, &room[..count]);
+    Tally {
+        count: near.count,
+        checks: t.checks + part.len(),
+    }
+}
+
+// Each atom of a bin with each of another, which lies side by side, by the step that they share.
+fn cross_shared(
+    s: Sight,
+    xs: &[f64],
+    table: &[u32],
+    tops: &[u32],
+    pairs: &mut [u32],
+    t: Tally,
+    home: &[u32],
+    other: &[u32],
+    bx: &[f64],
+    by: &[f64],
+    bz: &[f64],
+    flags: &mut [usize],
+    room: &mut [u32],
+    w: Bounds,
+    p: Reach,
+) -> Tally
+    requires { ⌜ Below (length (now xs) / 3) (now home) × (length (now other) ≤ 64) × LaidOut (now xs) (now other) (now bx) (now by) (now bz) (length (now other)) × (length (now flags) ≡ 64) × (length (now room) ≡ 64) × Ready t (length (across (now home) (now other))) × Bounded (now bx) (now by) (now bz) (length (now other)) w × Shares s (now xs) (now home) w p × (p .single ≡ true) ⌝ }
+    ensures { λ r. ⌜ Lists s (now (xs .entry)) (now (tops .entry)) (now (table .entry)) t (now (pairs .entry)) (across (now (home .entry)) (now (other .entry))) r (now (pairs .exit)) ⌝ }
+{
+    let mut now = t;
+    let mut k = 0;
+    while k < home.len() {
+        let i = home[k];
+        now = see_shared(
+            s,
+            xs,
+            table,
+            tops,
+            pairs,
+            now,
+            i,
+            other,
+            bx,
+            by,
+            bz,
+            flags,
+            room,
+            w,
+            p,
+        );
+        k += 1;
+    }
+    now
+}
+
 // Each atom of a bin with each of another, which lies side by side.
 fn cross_side(
     s: Sight,
@@ -521,6 +606,25 @@ fn cross_few(
     side::lay_out(xs, other, &mut bx, &mut by, &mut bz);
     let w = side::bounds_of(other.len(), &bx, &by, &bz);
     let p = side::shared_of(s, v, w);
+    if p.single {
+        return cross_shared(
+            s,
+            xs,
+            table,
+            tops,
+            pairs,
+            t,
+            home,
+            other,
+            &bx,
+            &by,
+            &bz,
+            &mut flags,
+            &mut room,
+            w,
+            p,
+        );
+    }
     cross_side(
         s,
         xs,

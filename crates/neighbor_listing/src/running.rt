@@ -17,7 +17,7 @@ ghost use Rattle.exclusions.specs.Table.{isTable};
 ghost use Rattle.neighbor_grid.specs.Grid.{plainOf};
 ghost use Rattle.neighbor_listing.specs.Found.{nearPairs, checksOf};
 ghost use Rattle.neighbor_listing.specs.Listed.{shownOf};
-ghost use Rattle.neighbor_listing.specs.Steps.{Gridded};
+ghost use Rattle.neighbor_listing.specs.Steps.{Gridded, BlankTops};
 
 // Nothing listed yet.
 fn none() -> Tally
@@ -53,6 +53,13 @@ fn blank() -> [u32; 16384]
     [0u32; 16384]
 }
 
+// .. of zeros, for the highest partners.
+fn blank_tops() -> [u32; 16384]
+    ensures { λ r. ⌜ BlankTops r ⌝ }
+{
+    [0u32; 16384]
+}
+
 // Each atom's number.
 fn number(atoms: &mut [u32])
     requires { ⌜ length (now atoms) ≤ 16384 ⌝ }
@@ -78,7 +85,7 @@ pub(crate) fn run_plain(
     ensures { λ _. ⌜ now (pairs .exit) ≡ laidOf (now (pairs .entry)) (nearPairs cell radius (now (xs .entry)) (now (table .entry))) ⌝ }
 {
     let n = xs.len() / 3;
-    let mut tops = blank();
+    let mut tops = blank_tops();
     raise_all(table, &mut tops[..n]);
     let mut atoms = blank();
     number(&mut atoms[..n]);
@@ -105,7 +112,7 @@ pub(crate) fn run_grid(
     ensures { λ _. ⌜ now (pairs .exit) ≡ laidOf (now (pairs .entry)) (nearPairs cell radius (now (xs .entry)) (now (table .entry))) ⌝ }
 {
     let n = xs.len() / 3;
-    let mut tops = blank();
+    let mut tops = blank_tops();
     raise_all(table, &mut tops[..n]);
     let t = sweep_all(
         sight_of(cell, radius),

@@ -512,19 +512,27 @@ pub(crate) fn shared_of(s: Sight, v: Bounds, w: Bounds) -> Reach
     }
 }
 
-// What the bounds say to an atom of the one bin: by the shared step where there is one, else by a step of its own.
+// What the bounds say to an atom of the one bin by the shared step.
+pub(crate) fn reach_shared(s: Sight, a: Vec3, w: Bounds, p: Reach) -> Reach
+    requires { ⌜ SharedAt s a w p × (p .single ≡ true) ⌝ }
+    ensures { λ r. ⌜ ReachSays steppedSees s a w r × (r .single ≡ true) ⌝ }
+{
+    let step = p.step;
+    Reach {
+        single: true,
+        still: p.still,
+        step: step,
+        beyond: is_beyond(s, step, a, w),
+    }
+}
+
+// .. or by a step of its own, where there is none.
 pub(crate) fn reach_by(s: Sight, a: Vec3, w: Bounds, p: Reach) -> Reach
     requires { ⌜ SharedAt s a w p ⌝ }
     ensures { λ r. ⌜ ReachSays steppedSees s a w r ⌝ }
 {
     if p.single {
-        let step = p.step;
-        return Reach {
-            single: true,
-            still: p.still,
-            step: step,
-            beyond: is_beyond(s, step, a, w),
-        };
+        return reach_shared(s, a, w, p);
     }
     reach_of(s, a, w)
 }
@@ -758,6 +766,29 @@ fn flag_tilted(
     ok
 }
 
+// .. in a box, by one step.
+pub(crate) fn flag_single(
+    s: Sight,
+    i: u32,
+    a: Vec3,
+    from: usize,
+    part: &[u32],
+    bx: &[f64],
+    by: &[f64],
+    bz: &[f64],
+    flags: &mut [usize],
+    r: Reach,
+)
+    requires { ⌜ (from ≤ length (now part)) × (length (now part) ≤ 64) × SideRooms (now bx) (now by) (now bz) × (length (now flags) ≡ 64) × Reaches steppedSees s a (now bx) (now by) (now bz) (length (now part)) r × (r .single ≡ true) ⌝ }
+    ensures { λ _. ⌜ Flagged s i a (now (part .entry)) (now (bx .entry)) (now (by .entry)) (now (bz .entry)) from (length (now (part .entry))) (now (flags .exit)) ⌝ }
+{
+    if r.still {
+        flag_still(s, i, a, r, from, part, bx, by, bz, flags);
+        return;
+    }
+    flag_stepped(s, i, a, r, from, part, bx, by, bz, flags);
+}
+
 pub(crate) fn flag(
     s: Sight,
     i: u32,
@@ -774,11 +805,7 @@ pub(crate) fn flag(
     ensures { λ o. ⌜ Flags s i a (now (part .entry)) (now (bx .entry)) (now (by .entry)) (now (bz .entry)) from (length (now (part .entry))) (now (flags .exit)) o ⌝ }
 {
     if r.single {
-        if r.still {
-            flag_still(s, i, a, r, from, part, bx, by, bz, flags);
-            return true;
-        }
-        flag_stepped(s, i, a, r, from, part, bx, by, bz, flags);
+        flag_single(s, i, a, from, part, bx, by, bz, flags, r);
         return true;
     }
     flag_box(s, i, a, from, part, bx, by, bz, flags)

@@ -17,7 +17,7 @@ abbrev μ-loop : tie.MeasureT-loop
 
 -- src/tops.rt:25:5
 loop-holds : tie.Need-loop-holds Inv-loop μ-loop
-loop-holds c = raised-begin _ _
+loop-holds c = raised-begin _ _ (c .before .before .pre)
 
 -- src/tops.rt:26:27
 mul-raise : tie.Need-mul-raise Inv-loop μ-loop
@@ -65,7 +65,7 @@ loop-less c = search needs
 
 -- src/tops.rt:25:5
 loop-again : tie.Need-loop-again Inv-loop μ-loop
-loop-again c = raised-next (c .before .before .before .before .before .before .before .loop .inv) (c .before .before .raise .ensures)
+loop-again c = raised-next (c .before .before .before .before .before .before .before .loop .inv) (c .before .before .before .before .before .before .loop-test .taken) (c .before .before .raise .ensures)
 
 -- src/tops.rt:21:1
 same-length : tie.Need-same-length Inv-loop μ-loop
