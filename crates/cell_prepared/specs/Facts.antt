@@ -47,6 +47,7 @@ shortAxis len x = cond (lt len (inf false)) (nearestOf len x) (nearAxisOf (absOf
 
 -- less than half a length: short, and its own image but for the sign of a zero
 pub record InnerSays (len x : Float) (r : Bool) : Type 0 where
+  pub is : r ≡ lt (absOf (x ⊕ x)) len
   pub short : r ≡ true → lt (absOf x) len ≡ true
   pub image : r ≡ true → x ⊕ bits 0 ≡ shortAxis len x
 

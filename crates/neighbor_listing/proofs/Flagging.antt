@@ -2,7 +2,7 @@
 use Prim.Native.Nat.{ℕ, suc, _+_, _-_, _≤_, _<_}
 use mathlib.Core.Path.{_≡_, refl, sym, ap, _∙_, subst}
 use mathlib.Core.Logic.{_⊎_, inl, inr}
-use mathlib.Core.Bool.{Bool, true, false, cond, _&&_}
+use mathlib.Core.Bool.{Bool, true, false, cond, _&&_, false≢true}
 use mathlib.Core.List.{List, [], _∷_, _++_}
 use native.Mathlib.Omega.{arith}
 use native.Mathlib.Nat.{eq-or-lt-of-le, le-of-suc-le-suc}
@@ -24,7 +24,7 @@ use Rattle.neighbor_listing.specs.declared.sight.Sight.{Sight}
 use Rattle.neighbor_listing.specs.Steps.{nearTo, sceneBy, chosenBy}
 use Rattle.neighbor_listing.specs.declared.side.Bounds.{Bounds}
 use Rattle.neighbor_listing.specs.declared.side.Reach.{Reach}
-use Rattle.neighbor_listing.specs.Sides.{SideRooms, spotIn, LaidOut, Enclosed, isEnclosed, AllEnclosed, Bounded, AllWithin, Framed, Reaches, turned, seesApart, boxHolds, BoxSays, tiltedHolds, TiltedSays, sighted, Flagged, Flags, Say, Bits, FlagsTaken}
+use Rattle.neighbor_listing.specs.Sides.{SideRooms, spotIn, LaidOut, Enclosed, isEnclosed, AllEnclosed, Bounded, Framed, Reaches, turned, seesApart, boxHolds, BoxSays, tiltedHolds, TiltedSays, sighted, Flagged, Flags, Say, Bits, FlagsTaken}
 use Rattle.neighbor_listing.proofs.Sifted.{kept-next, most-one, near-is, few-listed, ready-near}
 use Rattle.neighbor_listing.proofs.Shortcuts.{box-turn, tilted-turn, turned-sees}
 
@@ -118,36 +118,10 @@ bounds-are u =
           record { x-low = v .x-low; x-high = v .x-high; y-low = v .y-low; y-high = v .y-high; z-low = v .z-low; z-high = v .z-high };
     }
 
--- ---- .. of a part's atoms where they lie
-pub within-begin : {xs : List Float} {part : List ℕ} {v : Bounds} → AllWithin xs part 0 v true
-within-begin = record { are = λ e m h. absurd (none m h) }
-  where
-    none : (m : ℕ) → m < 0 → ⊥
-    none m h = omega arith
+-- ---- .. of a part's atoms
+pub unframed : {xs : List Float} {part : List ℕ} {lo hi : Vec3} → Framed xs part (record { lo = lo; hi = hi; sound = false })
+unframed = record { are = λ t. absurd (false≢true t) }
 
-module _ {xs : List Float} {part : List ℕ} {k : ℕ} {v : Bounds} {ok : Bool} (u : AllWithin xs part k v ok) where
-  pub within-turn : {r : Bool} {b : Vec3} → b ≡ positionAt xs (getD part k 0) → r ≡ isEnclosed v b → AllWithin xs part (k + 1) v (ok && r)
-  within-turn {r} {b} eb e =
-      record {
-        are =
-            λ t m h.
-            let p = both-true ok r t in
-            elim (last-or-before m k h) [ inl z ↦ rw (z, ← eb) (enclosed-is v b (sym e ∙ p .1)) | inr z ↦ u .are (p .0) m z ];
-      }
-
-  pub within-end : length part ≤ k → AllWithin xs part (length part) v ok
-  within-end h = record { are = λ t m q. u .are t m (omega (arith, h, q)) }
-
-pub frame-is : {xs : List Float} {part : List ℕ} {v : Bounds} {r : Bool} → AllWithin xs part (length part) v r → Framed xs part (record { lo = v .lo; hi = v .hi; sound = r })
-frame-is u =
-    record {
-      are =
-          λ t m h.
-          let e = u .are t m h in
-          record { x-low = e .x-low; x-high = e .x-high; y-low = e .y-low; y-high = e .y-high; z-low = e .z-low; z-high = e .z-high };
-    }
-
--- .. and of those that are laid out
 pub laid-framed : {xs bx by bz : List Float} {part : List ℕ} {w : Bounds} → LaidOut xs part bx by bz (length part) → Bounded bx by bz (length part) w → Framed xs part w
 laid-framed {w = w} u n = record { are = λ t m h. subst (λ (b : Vec3). Enclosed w b) (u .are m h) (n .are t m h) }
 

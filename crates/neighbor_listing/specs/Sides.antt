@@ -151,11 +151,7 @@ pub record SharedSays (s : Sight) (v w : Bounds) (r : Reach) : Type 0 where
   pub each : (a : Vec3) → Enclosed v a → SingleSays s a (r .step) w (r .single)
   pub still : r .still ≡ true → r .step ≡ noStep
 
--- the first k atoms of a part are within the bounds
-pub record AllWithin (xs : List Float) (part : List ℕ) (k : ℕ) (v : Bounds) (r : Bool) : Type 0 where
-  pub are : r ≡ true → (m : ℕ) → m < k → Enclosed v (positionAt xs (getD part m 0))
-
--- .. all of them, where they are sound
+-- a part's atoms are within the bounds, where they are sound
 pub record Framed (xs : List Float) (part : List ℕ) (v : Bounds) : Type 0 where
   pub are : v .sound ≡ true → (m : ℕ) → m < length part → Enclosed v (positionAt xs (getD part m 0))
 

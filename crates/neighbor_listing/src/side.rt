@@ -13,7 +13,7 @@ ghost use mathlib.Core.Bool.{cond, true, false};
 ghost use Prim.Native.Nat.{_/_, _≤_, _<_};
 ghost use lib.ListN.{length};
 ghost use Rattle.bins.specs.Listing.{Below};
-ghost use Rattle.neighbor_listing.specs.Sides.{SideRooms, LaidOut, BoxSays, boxHolds, TiltedSays, fractionsOf, inUnit, isTilted, tiltedHolds, isEnclosed, AllEnclosed, Bounded, AllWithin, Framed, stepIn, gapIn, isBeyond, SingleSays, StillSays, SharedAt, SharedSays, steppedSees, stillSees, leastRows, greatestRows, isLevel, FitEnds, SlantSays, isOutside, slantedSees, isUpper, upperSees, slopeSees, ReachSays, Reaches, Flagged, Flags, Bits, FlagsTaken};
+ghost use Rattle.neighbor_listing.specs.Sides.{SideRooms, LaidOut, BoxSays, boxHolds, TiltedSays, fractionsOf, inUnit, isTilted, tiltedHolds, isEnclosed, AllEnclosed, Bounded, Framed, stepIn, gapIn, isBeyond, SingleSays, StillSays, SharedAt, SharedSays, steppedSees, stillSees, leastRows, greatestRows, isLevel, FitEnds, SlantSays, isOutside, slantedSees, isUpper, upperSees, slopeSees, ReachSays, Reaches, Flagged, Flags, Bits, FlagsTaken};
 
 // The least and the greatest coordinates of a part's places, and whether each lies between them: not where one is not a number.
 pub struct Bounds {
@@ -164,62 +164,23 @@ pub(crate) fn bounds_of(n: usize, bx: &[f64], by: &[f64], bz: &[f64]) -> Bounds
     }
 }
 
-// The bounds of a part's atoms where they lie, for those that are not laid out.
-fn ends_at(xs: &[f64], part: &[u32]) -> Bounds
-    requires { ⌜ Below (length (now xs) / 3) (now part) ⌝ }
-{
-    let far = 1.0 / 0.0;
-    let mut lo = Vec3 {
-        x: far,
-        y: far,
-        z: far,
-    };
-    let mut hi = Vec3 {
-        x: -far,
-        y: -far,
-        z: -far,
-    };
-    let mut k = 0;
-    while k < part.len() {
-        let b = spot_at(xs, part[k] as usize);
-        lo = least(lo, b);
-        hi = greatest(hi, b);
-        k += 1;
-    }
-    Bounds {
-        lo: lo,
-        hi: hi,
-        sound: true,
-    }
-}
-
-fn all_within(xs: &[f64], part: &[u32], v: Bounds) -> bool
-    requires { ⌜ Below (length (now xs) / 3) (now part) ⌝ }
-    ensures { λ r. ⌜ AllWithin (now (xs .entry)) (now (part .entry)) (length (now (part .entry))) v r ⌝ }
-{
-    let mut ok = true;
-    let mut k = 0;
-    while k < part.len() {
-        let b = spot_at(xs, part[k] as usize);
-        ok = ok & is_enclosed(v, b);
-        k += 1;
-    }
-    ok
-}
-
+// The bounds of a part's atoms; of more than 64 nothing is said.
 pub(crate) fn bounds_at(xs: &[f64], part: &[u32]) -> Bounds
     requires { ⌜ Below (length (now xs) / 3) (now part) ⌝ }
     ensures { λ r. ⌜ Framed (now (xs .entry)) (now (part .entry)) r ⌝ }
 {
-    let v = ends_at(xs, part);
-    let sound = all_within(xs, part, v);
-    let lo = v.lo;
-    let hi = v.hi;
-    Bounds {
-        lo: lo,
-        hi: hi,
-        sound: sound,
+    if 64 < part.len() {
+        return Bounds {
+            lo: vectors::zero(),
+            hi: vectors::zero(),
+            sound: false,
+        };
     }
+    let mut bx = blank_places();
+    let mut by = blank_places();
+    let mut bz = blank_places();
+    lay_out(xs, part, &mut bx, &mut by, &mut bz);
+    bounds_of(part.len(), &bx, &by, &bz)
 }
 
 fn one(test: bool) -> usize

@@ -11,6 +11,7 @@ returns c =
     let g = c .before .good in
     let e = c .abs .ensures in
     record {
+      is = ap (λ (z : Float). lt z (c .before .args .len)) e;
       short = λ h. inner-short _ _ (yes (g .0 .1)) (ap (λ (z : Float). lt z (c .before .args .len)) (sym e) ∙ h);
       image = λ h. inner-image _ _ (yes (g .0 .1)) (yes (g .1 .0 .1)) (ap (λ (z : Float). lt z (c .before .args .len)) (sym e) ∙ h);
     }

@@ -8,9 +8,6 @@ use mathlib.Core.Path.{_≡_, refl, sym, _∙_}
 use native.Mathlib.Omega.{arith}
 use Rattle.neighbor_listing.proofs.loops.cross_shared.Statement.{statement}
 use Rattle.neighbor_listing.proofs.loops.cross_shared.Tie as tie
-use Rattle.neighbor_listing.proofs.loops.cross_shared.Reads as reads
-use Rattle.neighbor_listing.proofs.loops.cross_shared.Lts as lts
-use Rattle.neighbor_listing.proofs.loops.see_shared.Reads as see-shared-reads
 
 abbrev Inv-loop : tie.InvT-loop
 Inv-loop s xs table tops pairs₀ home other bx by bz flags₀ room₀ w p now₀ k₀ pairs flags room now k = (k ≤ length home) × (length pairs ≡ length pairs₀) × (length flags ≡ 64) × (length room ≡ 64) × Run (sceneBy s xs tops table) (record { tally = now₀; mem = pairs₀ }) (record { tally = now; mem = pairs }) (across home other) (across (drop k home) other)
@@ -18,47 +15,33 @@ Inv-loop s xs table tops pairs₀ home other bx by bz flags₀ room₀ w p now�
 abbrev μ-loop : tie.MeasureT-loop
 μ-loop s xs table tops pairs₀ home other bx by bz flags₀ room₀ w p now₀ k₀ pairs flags room now k = length home - k
 
--- src/loops.rt:468:5
 loop-holds : tie.Need-loop-holds Inv-loop μ-loop
 loop-holds c = (omega arith, refl, c .before .before .before .before .before .before .before .before .before .before .before .pre .3, c .before .before .before .before .before .before .before .before .before .before .before .pre .4, run-begin _ (c .before .before .before .before .before .before .before .before .before .before .before .pre .5))
 
--- src/loops.rt:469:17
-mul-i : tie.Need-mul-i Inv-loop μ-loop
-mul-i c = search needs
-
--- src/loops.rt:469:17
 shared-slice-read-i : tie.Need-shared-slice-read-i Inv-loop μ-loop
 shared-slice-read-i c = omega (arith, c .before .loop-test .taken)
 
--- src/loops.rt:470:9
 see-shared-requires : tie.Need-see-shared-requires Inv-loop μ-loop
 see-shared-requires c κs = (c .before .before .before .before .before .before .before .before .before .before .before .before .before .before .before .before .before .pre .0 _ (c .before .before .before .before .loop-test .taken), c .before .before .before .before .before .before .before .before .before .before .before .before .before .before .before .before .before .pre .1, c .before .before .before .before .before .before .before .before .before .before .before .before .before .before .before .before .before .pre .2, c .before .before .before .before .before .loop .inv .2, c .before .before .before .before .before .loop .inv .3, ready-across _ _ _ (c .before .before .before .before .loop-test .taken) (c .before .before .before .before .before .loop .inv .4 .ready), c .before .before .before .before .before .before .before .before .before .before .before .before .before .before .before .before .before .pre .6, c .before .before .before .before .before .before .before .before .before .before .before .before .before .before .before .before .before .pre .7 .are (c .before .before .before .before .before .loop .k) (c .before .before .before .before .loop-test .taken), c .before .before .before .before .before .before .before .before .before .before .before .before .before .before .before .before .before .pre .8)
 
--- src/loops.rt:487:9
 add-k : tie.Need-add-k Inv-loop μ-loop
 add-k c = omega (arith, c .before .before .before .before .before .before .before .before .before .before .before .loop-test .taken, c .before .before .before .before .before .before .before .before .before .before .before .before .before .before .before .before .before .before .before .before .before .before .before .before .good .1 .1 .1 .1 .1 .1 .0 .0)
 
--- src/loops.rt:468:5
 loop-less : tie.Need-loop-less Inv-loop μ-loop
 loop-less c = omega (arith, c .before .before .before .before .before .before .before .before .before .before .before .loop-test .taken)
 
--- src/loops.rt:468:5
 loop-again : tie.Need-loop-again Inv-loop μ-loop
 loop-again c = (omega (arith, c .before .before .before .before .before .before .before .before .before .before .before .loop-test .taken), c .before .before .before .before .before .before .see-shared .kept .1 .1 .1 .1 .0 ∙ c .before .before .before .before .before .before .before .before .before .before .before .before .loop .inv .1, c .before .before .before .before .before .before .see-shared .kept .1 .1 .1 .1 .1 .1 .1 .1 .1 .1 .1 .0 ∙ c .before .before .before .before .before .before .before .before .before .before .before .before .loop .inv .2, c .before .before .before .before .before .before .see-shared .kept .1 .1 .1 .1 .1 .1 .1 .1 .1 .1 .1 .1 .0 ∙ c .before .before .before .before .before .before .before .before .before .before .before .before .loop .inv .3, run-across _ _ _ (c .before .before .before .before .before .before .before .before .before .before .before .loop-test .taken) _ (c .before .before .before .before .before .before .before .before .before .before .before .before .loop .inv .4) (c .before .before .before .before .before .before .see-shared .ensures))
 
--- src/loops.rt:446:1
 same-length : tie.Need-same-length Inv-loop μ-loop
 same-length c = c .before .loop .inv .1
 
--- src/loops.rt:446:1
 same-length-2 : tie.Need-same-length-2 Inv-loop μ-loop
 same-length-2 c = c .before .loop .inv .2 ∙ sym (c .before .before .before .before .before .before .before .before .before .before .before .before .before .pre .3)
 
--- src/loops.rt:446:1
 same-length-3 : tie.Need-same-length-3 Inv-loop μ-loop
 same-length-3 c = c .before .loop .inv .3 ∙ sym (c .before .before .before .before .before .before .before .before .before .before .before .before .before .pre .4)
 
--- src/loops.rt:446:1
 returns : tie.Need-returns Inv-loop μ-loop
 returns c = run-across-end _ _ _ (c .loop-test .left) (c .before .loop .inv .4)
 
@@ -69,7 +52,7 @@ cross-shared-spec =
     Inv-loop
     μ-loop
     loop-holds
-    mul-i
+    (λ c. search needs)
     shared-slice-read-i
     see-shared-requires
     add-k

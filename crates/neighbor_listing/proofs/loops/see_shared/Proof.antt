@@ -8,67 +8,34 @@ use native.Mathlib.Nat.{sub-zero}
 use native.Mathlib.Omega.{arith}
 use Rattle.neighbor_listing.proofs.loops.see_shared.Statement.{statement}
 use Rattle.neighbor_listing.proofs.loops.see_shared.Tie as tie
-use Rattle.neighbor_listing.proofs.loops.see_shared.Reads as reads
-use Rattle.neighbor_listing.proofs.loops.see_shared.Lts as lts
-use Rattle.neighbor_listing.proofs.loops.settle_all.Reads as settle-all-reads
-use Rattle.neighbor_listing.proofs.side.flag_single.Reads as flag-single-reads
-use Rattle.neighbor_listing.proofs.side.gather.Reads as gather-reads
-use Rattle.neighbor_listing.proofs.side.reach_shared.Reads as reach-shared-reads
-use Rattle.neighbor_listing.proofs.sight.spot_at.Reads as spot-at-reads
 
--- src/loops.rt:428:9
-spot-at-requires : tie.Need-spot-at-requires
-spot-at-requires c κs = search needs
-
--- src/loops.rt:429:9
 reach-shared-requires : tie.Need-reach-shared-requires
 reach-shared-requires c κs = (shared-at (c .spot-at .ensures) (c .before .before .before .before .before .before .before .before .before .before .before .pre .7), c .before .before .before .before .before .before .before .before .before .before .before .pre .8)
 
--- src/loops.rt:433:21
 add-t23 : tie.Need-add-t23
 add-t23 c = omega (arith, rest-fits (c .before .before .before .before .before .before .before .before .before .before .before .before .before .before .args .i) (c .before .before .before .before .before .before .before .before .before .before .before .before .before .before .args .part .now) 0 (c .before .before .before .before .before .before .before .before .before .before .before .before .before .before .pre .5))
 
--- src/loops.rt:431:9
 returns : tie.Need-returns
 returns c = rw (sub-zero (length (c .before .before .before .before .before .before .before .before .before .before .before .before .before .before .args .part .now))) at (none-listed (c .before .before .before .before .before .before .before .before .before .before .before .before .before .before .args .s) (c .before .before .before .before .before .before .before .before .before .before .before .before .before .before .args .xs .now) (c .before .before .before .before .before .before .before .before .before .before .before .before .before .before .args .i) (c .before .before .before .before .before .before .before .before .before .before .before .before .before .before .args .part .now) 0 (c .before .before .before .spot-at .ensures) (c .before .before .before .before .before .before .before .before .before .before .before .before .before .before .pre .2) (none-reached (c .before .before .before .before .before .before .before .before .before .before .before .before .before .before .args .s) (c .before .before .before .spot-at .result) (c .before .before .before .before .before .before .before .before .before .before .before .before .before .before .args .w) (c .before .before .before .before .before .before .before .before .before .before .before .before .before .before .pre .6) (c .before .before .reach-shared .ensures .0) (c .before .if1 .taken)) (c .before .before .before .before .before .before .before .before .before .before .before .before .before .before .args .tops .now) (c .before .before .before .before .before .before .before .before .before .before .before .before .before .before .args .table .now) (c .before .before .before .before .before .before .before .before .before .before .before .before .before .before .args .t) (c .before .before .before .before .before .before .before .before .before .before .before .before .before .before .args .pairs .now))
 
--- src/loops.rt:436:5
 flag-single-requires : tie.Need-flag-single-requires
 flag-single-requires c κs = (omega arith, c .before .before .before .before .before .before .before .before .before .before .before .before .before .before .pre .1, c .before .before .before .before .before .before .before .before .before .before .before .before .before .before .pre .2 .rooms, c .before .before .before .before .before .before .before .before .before .before .before .before .before .before .pre .3, reaches (c .before .before .before .before .before .before .before .before .before .before .before .before .before .before .args .s) (c .before .before .before .spot-at .result) (c .before .before .before .before .before .before .before .before .before .before .before .before .before .before .args .w) (c .before .before .before .before .before .before .before .before .before .before .before .before .before .before .pre .6) (c .before .before .reach-shared .ensures .0), c .before .before .reach-shared .ensures .1)
 
--- src/loops.rt:437:9
 gather-requires : tie.Need-gather-requires
 gather-requires c κs = (omega arith, c .before .before .before .before .before .before .before .before .before .before .before .before .before .before .before .before .before .before .before .pre .1, c .before .before .before .before .flag-single .kept .1 .1 .1 .1 .1 .1 .1 .1 .0 ∙ c .before .before .before .before .before .before .before .before .before .before .before .before .before .before .before .before .before .before .before .pre .3, c .before .before .before .before .before .before .before .before .before .before .before .before .before .before .before .before .before .before .before .pre .4, flags-bits _ _ _ _ _ _ (c .before .before .before .before .before .before .before .before .spot-at .ensures) (c .before .before .before .before .before .before .before .before .before .before .before .before .before .before .before .before .before .before .before .pre .2) (record { hold = λ (e : true ≡ true). c .before .before .before .before .flag-single .ensures }) refl)
 
--- src/loops.rt:438:53
 slice-reshare-prefix-settle-all : tie.Need-slice-reshare-prefix-settle-all
 slice-reshare-prefix-settle-all c = taken-within (c .before .before .before .gather .ensures) (c .before .before .before .before .before .before .before .before .before .before .before .before .before .before .before .before .before .before .before .before .before .before .before .pre .1) (c .before .before .before .gather .kept .1 .1 .1 .0 ∙ c .before .before .before .before .before .before .before .before .before .before .before .before .before .before .before .before .before .before .before .before .before .before .before .pre .4)
 
--- src/loops.rt:438:53
 slice-aggregate-settle-all : tie.Need-slice-aggregate-settle-all
 slice-aggregate-settle-all c = taken-count (c .before .before .before .before .gather .ensures) (c .before .before .before .before .before .before .before .before .before .before .before .before .before .before .before .before .before .before .before .before .before .before .before .before .pre .1) (c .before .before .before .before .gather .kept .1 .1 .1 .0 ∙ c .before .before .before .before .before .before .before .before .before .before .before .before .before .before .before .before .before .before .before .before .before .before .before .before .pre .4)
 
--- src/loops.rt:438:9
 settle-all-requires : tie.Need-settle-all-requires
 settle-all-requires c κs = kept-ready _ _ _ _ _ _ (c .before .before .before .before .before .before .before .before .before .before .before .before .before .spot-at .ensures) (c .before .before .before .before .before .before .before .before .before .before .before .before .before .before .before .before .before .before .before .before .before .before .before .before .pre .2) (record { hold = λ (e : true ≡ true). c .before .before .before .before .before .before .before .before .before .flag-single .ensures }) refl (c .before .before .before .before .gather .ensures) (c .before .before .before .before .before .before .before .before .before .before .before .before .before .before .before .before .before .before .before .before .before .before .before .before .pre .5)
 
--- src/loops.rt:441:17
 add-t35 : tie.Need-add-t35
 add-t35 c = omega (arith, rest-fits (c .before .before .before .before .before .before .before .before .before .before .before .before .before .before .before .before .before .before .before .before .before .before .before .before .before .before .before .before .args .i) (c .before .before .before .before .before .before .before .before .before .before .before .before .before .before .before .before .before .before .before .before .before .before .before .before .before .before .before .before .args .part .now) 0 (c .before .before .before .before .before .before .before .before .before .before .before .before .before .before .before .before .before .before .before .before .before .before .before .before .before .before .before .before .pre .5))
 
--- src/loops.rt:408:1
-same-length : tie.Need-same-length
-same-length c = search needs
-
--- src/loops.rt:408:1
-same-length-2 : tie.Need-same-length-2
-same-length-2 c = search needs
-
--- src/loops.rt:408:1
-same-length-3 : tie.Need-same-length-3
-same-length-3 c = search needs
-
--- src/loops.rt:408:1
 returns-2 : tie.Need-returns-2
 returns-2 c = rw (sub-zero (length (c .before .before .before .before .before .before .before .before .before .before .before .before .before .before .before .before .before .before .before .before .before .before .before .before .before .before .before .before .args .part .now))) at (side-listed _ _ _ _ _ _ (c .before .before .before .before .before .before .before .before .before .before .before .before .before .before .before .before .before .spot-at .ensures) (c .before .before .before .before .before .before .before .before .before .before .before .before .before .before .before .before .before .before .before .before .before .before .before .before .before .before .before .before .pre .2) (record { hold = λ (e : true ≡ true). c .before .before .before .before .before .before .before .before .before .before .before .before .before .flag-single .ensures }) refl (c .before .before .before .before .before .before .before .before .gather .ensures) _ _ _ _ _ _ (c .before .before .before .settle-all .ensures))
 
@@ -76,7 +43,7 @@ pub see-shared-spec : {M : Type 1} → statement M
 see-shared-spec =
     tie.close
     (tie.spec
-    spot-at-requires
+    (λ c κs. search needs)
     reach-shared-requires
     add-t23
     returns
@@ -86,7 +53,7 @@ see-shared-spec =
     slice-aggregate-settle-all
     settle-all-requires
     add-t35
-    same-length
-    same-length-2
-    same-length-3
+    (λ c. search needs)
+    (λ c. search needs)
+    (λ c. search needs)
     returns-2)
