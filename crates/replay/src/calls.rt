@@ -3,11 +3,9 @@
 // end at the number of words it is no case, and answers no words (0). Then it calls, and puts its answer together in `out`.
 use crate::angles;
 use crate::desks;
-use crate::evaluations;
 use crate::forces;
-use crate::settlings;
-use crate::steps;
 use crate::velocities;
+use crate::works;
 
 // Terms and evaluations.
 fn terms(call: u64, ws: &[u64], out: &mut [u64; 8208]) -> usize {
@@ -20,7 +18,7 @@ fn terms(call: u64, ws: &[u64], out: &mut [u64; 8208]) -> usize {
     if call == 88 || call == 89 || call == 90 {
         return desks::answer(call, ws, out);
     }
-    evaluations::answer(call, ws, out)
+    works::answer(call, ws, out)
 }
 
 // Velocities, steps, and what changes a running melt.
@@ -28,13 +26,10 @@ fn motion(call: u64, ws: &[u64], out: &mut [u64; 8208]) -> usize {
     if call < 99 {
         return velocities::answer(call, ws, out);
     }
-    if call == 105 {
-        return settlings::answer(ws, out);
-    }
     if call == 106 || call == 107 {
         return replay_strikes::answer(call, ws, out);
     }
-    steps::answer(call, ws, out)
+    works::answer(call, ws, out)
 }
 
 // How many words of `out` are the answer: 0 where the call is unknown or the words are not its arguments.

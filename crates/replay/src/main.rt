@@ -5,14 +5,12 @@ use libc::STDOUT_FILENO;
 mod angles;
 mod calls;
 mod desks;
-mod evaluations;
 mod forces;
 mod lines;
 mod masks;
 mod records;
-mod settlings;
-mod steps;
 mod velocities;
+mod works;
 
 // The bytes of the line so far, and the bytes of answers that are not written yet.
 struct Pending {
@@ -117,13 +115,26 @@ fn serve(
     finish(out, p);
 }
 
+// The long arrays are made in functions of their own: where one is made and lent in one, the proof counts its elements one by one.
+fn blank_chunk() -> [u8; 65536] {
+    [0; 65536]
+}
+
+fn blank_line() -> [u8; 139267] {
+    [0; 139267]
+}
+
+fn blank_out() -> [u8; 279078] {
+    [0; 279078]
+}
+
 // The largest case has 8,192 words, 139,266 bytes; its line is kept with one byte more, so that a longer one is no case by its length. The largest answer
 // has 16 words more and a newline, 139,539 bytes: two fit into what is written at once.
 fn main() {
-    let mut chunk = [0u8; 65536];
-    let mut line = [0u8; 139267];
+    let mut chunk = blank_chunk();
+    let mut line = blank_line();
     let mut words = [0u64; 8192];
     let mut answer = [0u64; 8208];
-    let mut out = [0u8; 279078];
+    let mut out = blank_out();
     serve(&mut chunk, &mut line, &mut words, &mut answer, &mut out);
 }
