@@ -5,7 +5,7 @@ use crate::angles;
 use crate::desks;
 use crate::forces;
 use crate::velocities;
-use crate::works;
+use replay_strikes::works;
 
 // Terms and evaluations.
 fn terms(call: u64, ws: &[u64], out: &mut [u64; 8208]) -> usize {

@@ -7,10 +7,7 @@ mod calls;
 mod desks;
 mod forces;
 mod lines;
-mod masks;
-mod records;
 mod velocities;
-mod works;
 
 // The bytes of the line so far, and the bytes of answers that are not written yet.
 struct Pending {

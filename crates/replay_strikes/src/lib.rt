@@ -1,4 +1,9 @@
-// The calls of `strike`, 6a and 6b, for replay. A crate of its own, so that what is left of `replay` is short.
+// The calls of replay on a melt: of `strike`, 6a and 6b, here, and of `evaluate`, `verlet_step` and `fire` in `works`, which `run_melts` works by too. A crate of
+// its own, so that what is left of `replay` is short.
+pub mod masks;
+pub mod records;
+pub mod works;
+
 use answer::Done;
 use neighbor::State;
 use replay_lists::answers;
@@ -111,23 +116,25 @@ fn put_placed(out: &mut [u64; 8208], r: Entered) -> usize
     }
 }
 
-// A thin call: what it ensures is not carried along.
-fn strike_all(
+// A thin call: what it ensures is not carried along, and the rooms are given up, as in `works`.
+fn strike_all<'a>(
     marks: &[u32],
     s: State,
-    positions: &mut [f64],
-    velocities: &mut [f64],
-    masses: &mut [f64],
-    charges: &mut [f64],
-    species: &mut [u32],
-    bonds: &mut [u32],
-    lengths: &mut [f64],
-    ks: &mut [f64],
-    angles: &mut [u32],
-    per_angle: &mut [f64],
-    exclusions: &mut [u32],
-) -> Struck {
-    strike::strike(
+    positions: &'a mut [f64],
+    velocities: &'a mut [f64],
+    masses: &'a mut [f64],
+    charges: &'a mut [f64],
+    species: &'a mut [u32],
+    bonds: &'a mut [u32],
+    lengths: &'a mut [f64],
+    ks: &'a mut [f64],
+    angles: &'a mut [u32],
+    per_angle: &'a mut [f64],
+    exclusions: &'a mut [u32],
+    at: &'a mut usize,
+    out: &mut [u64; 8208],
+) -> &'a mut usize {
+    let r = strike::strike(
         marks,
         s,
         positions,
@@ -141,55 +148,52 @@ fn strike_all(
         angles,
         per_angle,
         exclusions,
-    )
+    );
+    *at = put_struck(out, r);
+    at
 }
 
-// The call over rooms of the atoms' own, and what it says of them; the links' rooms are the caller's, who puts them after these.
-fn strike_atoms(
-    m: Table,
-    s: State,
-    a: LentAtoms,
-    ws: &[u64],
-    bonds: &mut [u32],
-    lengths: &mut [f64],
-    ks: &mut [f64],
-    angles: &mut [u32],
-    per_angle: &mut [f64],
-    exclusions: &mut [u32],
+fn put_atoms(
     out: &mut [u64; 8208],
+    at: usize,
+    t: LentAtoms,
+    positions: [f64; 8192],
+    velocities: [f64; 8192],
+    masses: [f64; 8192],
+    charges: [f64; 8192],
+    species: [u32; 8192],
 ) -> usize
     ensures { λ r. ⌜ r ≤ 8208 ⌝ }
 {
-    let us = tables::u32s(ws);
-    let mut positions = tables::floats(ws);
-    let mut velocities = tables::floats(ws);
-    let mut masses = tables::floats(ws);
-    let mut charges = tables::floats(ws);
-    let mut species = tables::u32s(ws);
-    let r = strike_all(
-        tables::part_u32(&us, m),
-        s,
-        tables::room(&mut positions, a.positions),
-        tables::room(&mut velocities, a.velocities),
-        tables::room(&mut masses, a.masses),
-        tables::room(&mut charges, a.charges),
-        tables::room_u32(&mut species, a.species),
-        bonds,
-        lengths,
-        ks,
-        angles,
-        per_angle,
-        exclusions,
-    );
-    let head = put_struck(out, r);
-    let placed = tables::put_room(out, head, positions, a.positions);
-    let moving = tables::put_room(out, placed, velocities, a.velocities);
-    let weighed = tables::put_room(out, moving, masses, a.masses);
-    let charged = tables::put_room(out, weighed, charges, a.charges);
-    tables::put_room_u32(out, charged, species, a.species)
+    let placed = tables::put_room(out, at, positions, t.positions);
+    let moving = tables::put_room(out, placed, velocities, t.velocities);
+    let weighed = tables::put_room(out, moving, masses, t.masses);
+    let charged = tables::put_room(out, weighed, charges, t.charges);
+    tables::put_room_u32(out, charged, species, t.species)
 }
 
-fn strike_links(
+fn put_links(
+    out: &mut [u64; 8208],
+    at: usize,
+    t: Links,
+    bonds: [u32; 8192],
+    lengths: [f64; 8192],
+    ks: [f64; 8192],
+    angles: [u32; 8192],
+    per_angle: [f64; 8192],
+    exclusions: [u32; 8192],
+) -> usize
+    ensures { λ r. ⌜ r ≤ 8208 ⌝ }
+{
+    let bonded = tables::put_room_u32(out, at, bonds, t.bonds);
+    let long = tables::put_room(out, bonded, lengths, t.lengths);
+    let strong = tables::put_room(out, long, ks, t.ks);
+    let angled = tables::put_room_u32(out, strong, angles, t.angles);
+    let bent = tables::put_room(out, angled, per_angle, t.per_angle);
+    tables::put_room_u32(out, bent, exclusions, t.exclusions)
+}
+
+fn strike_told(
     m: Table,
     s: State,
     a: LentAtoms,
@@ -199,31 +203,49 @@ fn strike_links(
 ) -> usize
     ensures { λ r. ⌜ r ≤ 8208 ⌝ }
 {
+    let us = tables::u32s(ws);
+    let marks = tables::part_u32(&us, m);
+    let mut at = 0;
+    let mut positions = tables::floats(ws);
+    let mut velocities = tables::floats(ws);
+    let mut masses = tables::floats(ws);
+    let mut charges = tables::floats(ws);
+    let mut species = tables::u32s(ws);
     let mut bonds = tables::u32s(ws);
     let mut lengths = tables::floats(ws);
     let mut ks = tables::floats(ws);
     let mut angles = tables::u32s(ws);
     let mut per_angle = tables::floats(ws);
     let mut exclusions = tables::u32s(ws);
-    let at = strike_atoms(
-        m,
+    strike_all(
+        marks,
         s,
-        a,
-        ws,
+        tables::room(&mut positions, a.positions),
+        tables::room(&mut velocities, a.velocities),
+        tables::room(&mut masses, a.masses),
+        tables::room(&mut charges, a.charges),
+        tables::room_u32(&mut species, a.species),
         tables::room_u32(&mut bonds, l.bonds),
         tables::room(&mut lengths, l.lengths),
         tables::room(&mut ks, l.ks),
         tables::room_u32(&mut angles, l.angles),
         tables::room(&mut per_angle, l.per_angle),
         tables::room_u32(&mut exclusions, l.exclusions),
+        &mut at,
         out,
     );
-    let bonded = tables::put_room_u32(out, at, bonds, l.bonds);
-    let long = tables::put_room(out, bonded, lengths, l.lengths);
-    let strong = tables::put_room(out, long, ks, l.ks);
-    let angled = tables::put_room_u32(out, strong, angles, l.angles);
-    let bent = tables::put_room(out, angled, per_angle, l.per_angle);
-    tables::put_room_u32(out, bent, exclusions, l.exclusions)
+    let next = put_atoms(out, at, a, positions, velocities, masses, charges, species);
+    put_links(
+        out,
+        next,
+        l,
+        bonds,
+        lengths,
+        ks,
+        angles,
+        per_angle,
+        exclusions,
+    )
 }
 
 fn strike_case(ws: &[u64], out: &mut [u64; 8208]) -> usize
@@ -237,7 +259,7 @@ fn strike_case(ws: &[u64], out: &mut [u64; 8208]) -> usize
         return 0;
     }
     let state = s.value;
-    strike_links(m, state, a, l, ws, out)
+    strike_told(m, state, a, l, ws, out)
 }
 
 fn put_case(ws: &[u64], out: &mut [u64; 8208]) -> usize
@@ -278,12 +300,8 @@ fn put_case(ws: &[u64], out: &mut [u64; 8208]) -> usize
         tables::room(&mut charges, a.charges),
         tables::room_u32(&mut species, a.species),
     );
-    let mut at = put_placed(out, r);
-    at = tables::put_room(out, at, positions, a.positions);
-    at = tables::put_room(out, at, velocities, a.velocities);
-    at = tables::put_room(out, at, masses, a.masses);
-    at = tables::put_room(out, at, charges, a.charges);
-    tables::put_room_u32(out, at, species, a.species)
+    let at = put_placed(out, r);
+    put_atoms(out, at, a, positions, velocities, masses, charges, species)
 }
 
 pub fn answer(call: u64, ws: &[u64], out: &mut [u64; 8208]) -> usize

@@ -16,8 +16,9 @@ use verlet::Thermostat;
 use verlet_step::Pace;
 use verlet_step::Stepped;
 use virial::Sum;
+ghost use Prim.Native.Nat.{_≤_};
 
-enum Work {
+pub enum Work {
     Evaluate,
     Step,
     Finish,
@@ -25,10 +26,10 @@ enum Work {
 }
 
 // What stands before the settings: of a step its pace, of `fire` its options, of an evaluation nothing.
-struct Front {
-    options: FireOptions,
-    pace: Pace,
-    next: usize,
+pub struct Front {
+    pub options: FireOptions,
+    pub pace: Pace,
+    pub next: usize,
 }
 
 fn take_options(ws: &[u64], at: usize) -> Front {
@@ -87,24 +88,24 @@ fn take_front(work: Work, ws: &[u64], at: usize) -> Front {
 }
 
 // What is no table, and the tables that are only read.
-struct Given {
-    work: Work,
-    front: Front,
-    settings: SettingsArg,
-    own_ids: Table,
-    own_params: Table,
-    ids: Table,
-    params: Table,
-    species: Table,
-    charges: Table,
-    bonds: Table,
-    lengths: Table,
-    ks: Table,
-    angles: Table,
-    per_angle: Table,
-    masses: Table, // of an evaluation the positions
-    exclusions: Table,
-    next: usize,
+pub struct Given {
+    pub work: Work,
+    pub front: Front,
+    pub settings: SettingsArg,
+    pub own_ids: Table,
+    pub own_params: Table,
+    pub ids: Table,
+    pub params: Table,
+    pub species: Table,
+    pub charges: Table,
+    pub bonds: Table,
+    pub lengths: Table,
+    pub ks: Table,
+    pub angles: Table,
+    pub per_angle: Table,
+    pub masses: Table, // of an evaluation the positions
+    pub exclusions: Table,
+    pub next: usize,
 }
 
 fn take_given(work: Work, parts: Parts, from: usize, ws: &[u64]) -> Given {
@@ -144,7 +145,7 @@ fn take_given(work: Work, parts: Parts, from: usize, ws: &[u64]) -> Given {
     }
 }
 
-// The rooms and stores: of an evaluation without positions and velocities. A step has its potential before them.
+// The rooms and stores: of an evaluation the positions are only read, and there are no velocities. A step has its potential before them.
 struct Rooms {
     potential: f64,
     positions: Table,
@@ -188,10 +189,18 @@ fn take_float_if(there: bool, ws: &[u64], at: usize) -> replay_words::Real {
     }
 }
 
-fn take_rooms(k: Form, ws: &[u64], at: usize) -> Rooms {
+// The positions of an evaluation stand where a step has its masses.
+fn if_moving(moves: bool, places: Table, masses: Table) -> Table {
+    if moves {
+        return places;
+    }
+    masses
+}
+
+fn take_rooms(k: Form, masses: Table, ws: &[u64], at: usize) -> Rooms {
     let potential = take_float_if(k.has_potential, ws, at);
-    let positions = masks::take_floats_if(k.moves, ws, potential.next);
-    let velocities = masks::take_floats_if(k.moves, ws, positions.next);
+    let places = masks::take_floats_if(k.moves, ws, potential.next);
+    let velocities = masks::take_floats_if(k.moves, ws, places.next);
     let pairs = replay_words::take_u32s(ws, velocities.next);
     let references = replay_words::take_floats(ws, pairs.next);
     let starts = replay_words::take_u32s(ws, references.next);
@@ -199,7 +208,7 @@ fn take_rooms(k: Form, ws: &[u64], at: usize) -> Rooms {
     let forces = replay_words::take_floats(ws, items.next);
     Rooms {
         potential: potential.value,
-        positions,
+        positions: if_moving(k.moves, places, masses),
         velocities,
         pairs,
         references,
@@ -210,14 +219,18 @@ fn take_rooms(k: Form, ws: &[u64], at: usize) -> Rooms {
 }
 
 // The sum, where there is one.
-fn tell_sum(out: &mut [u64; 8208], at: usize, answer: Done, sum: Sum) -> usize {
+fn tell_sum(out: &mut [u64; 8208], at: usize, answer: Done, sum: Sum) -> usize
+    ensures { λ r. ⌜ r ≤ 8208 ⌝ }
+{
     match answer {
         Done::Answered => answers::put_sum(out, at, sum),
-        Done::Refused(_) => at,
+        Done::Refused(_) => replay_words::put_words(out, at, &[]),
     }
 }
 
-fn tell_evaluated(out: &mut [u64; 8208], cell: bool, r: Evaluated) -> usize {
+fn tell_evaluated(out: &mut [u64; 8208], cell: bool, r: Evaluated) -> usize
+    ensures { λ r. ⌜ r ≤ 8208 ⌝ }
+{
     let done = r.done;
     let state = r.state;
     let sum = r.sum;
@@ -227,7 +240,9 @@ fn tell_evaluated(out: &mut [u64; 8208], cell: bool, r: Evaluated) -> usize {
     tell_sum(out, at, done, sum)
 }
 
-fn tell_stepped(out: &mut [u64; 8208], cell: bool, r: Stepped) -> usize {
+fn tell_stepped(out: &mut [u64; 8208], cell: bool, r: Stepped) -> usize
+    ensures { λ r. ⌜ r ≤ 8208 ⌝ }
+{
     let done = r.done;
     let state = r.state;
     let head = plain::put_done(out, done);
@@ -237,7 +252,9 @@ fn tell_stepped(out: &mut [u64; 8208], cell: bool, r: Stepped) -> usize {
     replay_words::put_float(out, at, r.potential)
 }
 
-fn tell_settled(out: &mut [u64; 8208], cell: bool, r: Fired) -> usize {
+fn tell_settled(out: &mut [u64; 8208], cell: bool, r: Fired) -> usize
+    ensures { λ r. ⌜ r ≤ 8208 ⌝ }
+{
     let done = r.done;
     let state = r.state;
     let head = plain::put_done(out, done);
@@ -251,7 +268,7 @@ fn tell_settled(out: &mut [u64; 8208], cell: bool, r: Fired) -> usize {
 
 // One function for all four: what they share is cut up once. The place after what it told comes back as it was lent, at the lifetime of every room: so the
 // rooms are given up, and none has to be lent on and taken back.
-fn worked<'a>(
+pub fn worked<'a>(
     g: Given,
     potential: f64,
     us: &[u32],
@@ -265,7 +282,9 @@ fn worked<'a>(
     forces: &'a mut [f64],
     at: &'a mut usize,
     out: &mut [u64; 8208],
-) -> &'a mut usize {
+) -> &'a mut usize
+    ensures { λ r. ⌜ now r ≤ 8208 ⌝ }
+{
     let s = g.settings;
     let setting = s.setting;
     let state = s.state;
@@ -302,7 +321,7 @@ fn worked<'a>(
                 ks,
                 angles,
                 per_angle,
-                masses,
+                positions,
                 exclusions,
                 pairs,
                 references,
@@ -415,7 +434,9 @@ fn put_room_if(there: bool, out: &mut [u64; 8208], at: usize, xs: [f64; 8192], t
     at
 }
 
-fn told(moves: bool, given: Given, t: Rooms, ws: &[u64], out: &mut [u64; 8208]) -> usize {
+fn told(moves: bool, given: Given, t: Rooms, ws: &[u64], out: &mut [u64; 8208]) -> usize
+    ensures { λ r. ⌜ r ≤ 8208 ⌝ }
+{
     let us = tables::u32s(ws);
     let fs = tables::floats(ws);
     let mut positions = tables::floats(ws);
@@ -450,10 +471,12 @@ fn told(moves: bool, given: Given, t: Rooms, ws: &[u64], out: &mut [u64; 8208]) 
     tables::put_room(out, sorted, forces, t.forces)
 }
 
-fn case(work: Work, parts: Parts, from: usize, ws: &[u64], out: &mut [u64; 8208]) -> usize {
+fn case(work: Work, parts: Parts, from: usize, ws: &[u64], out: &mut [u64; 8208]) -> usize
+    ensures { λ r. ⌜ r ≤ 8208 ⌝ }
+{
     let given = take_given(work, parts, from, ws);
     let k = form_of(work);
-    let rooms = take_rooms(k, ws, given.next);
+    let rooms = take_rooms(k, given.masses, ws, given.next);
     let last = rooms.forces;
     if last.next != ws.len() {
         return 0;
@@ -461,7 +484,9 @@ fn case(work: Work, parts: Parts, from: usize, ws: &[u64], out: &mut [u64; 8208]
     told(k.moves, given, rooms, ws, out)
 }
 
-fn masked(work: Work, ws: &[u64], out: &mut [u64; 8208]) -> usize {
+fn masked(work: Work, ws: &[u64], out: &mut [u64; 8208]) -> usize
+    ensures { λ r. ⌜ r ≤ 8208 ⌝ }
+{
     let m = masks::take_mask(ws);
     if !m.known {
         return 0;
@@ -469,7 +494,9 @@ fn masked(work: Work, ws: &[u64], out: &mut [u64; 8208]) -> usize {
     case(work, m.parts, m.next, ws, out)
 }
 
-pub(crate) fn answer(call: u64, ws: &[u64], out: &mut [u64; 8208]) -> usize {
+pub fn answer(call: u64, ws: &[u64], out: &mut [u64; 8208]) -> usize
+    ensures { λ r. ⌜ r ≤ 8208 ⌝ }
+{
     match call {
         85 => case(Work::Evaluate, masks::none(), 0, ws, out),
         87 => masked(Work::Evaluate, ws, out),

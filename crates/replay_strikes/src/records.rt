@@ -15,47 +15,51 @@ use replay_lists::records::remembering;
 use replay_lists::records::take_cell;
 use replay_lists::records::take_state_and;
 use replay_lists::records::take_units;
+ghost use Prim.Native.Nat.{_+_, _≤_};
+ghost use lib.ListN.{length};
 
 struct RuleArg {
     value: Mixing,
     next: usize,
 }
 
-pub(crate) struct LjArg {
-    pub(crate) value: Lj,
-    pub(crate) next: usize,
+pub struct LjArg {
+    pub value: Lj,
+    pub next: usize,
 }
 
-pub(crate) struct LjTermArg {
-    pub(crate) value: LjTerm,
-    pub(crate) next: usize,
+pub struct LjTermArg {
+    pub value: LjTerm,
+    pub next: usize,
 }
 
-pub(crate) struct CoulombTermArg {
-    pub(crate) value: CoulombTerm,
-    pub(crate) next: usize,
+pub struct CoulombTermArg {
+    pub value: CoulombTerm,
+    pub next: usize,
 }
 
-pub(crate) struct BondTermArg {
-    pub(crate) value: BondTerm,
-    pub(crate) next: usize,
+pub struct BondTermArg {
+    pub value: BondTerm,
+    pub next: usize,
 }
 
-pub(crate) struct AngleTermArg {
-    pub(crate) value: AngleTerm,
-    pub(crate) next: usize,
+pub struct AngleTermArg {
+    pub value: AngleTerm,
+    pub next: usize,
 }
 
 // All that an evaluation is given but its tables.
-pub(crate) struct SettingsArg {
-    pub(crate) setting: Setting,
-    pub(crate) state: State,
-    pub(crate) parts: Parts,
-    pub(crate) next: usize,
+pub struct SettingsArg {
+    pub setting: Setting,
+    pub state: State,
+    pub parts: Parts,
+    pub next: usize,
 }
 
 // The rule where it stands in the line, 1 or 2: another word is no case. Rule 1 where it doesn't.
-fn take_rule(there: bool, ws: &[u64], at: usize) -> RuleArg {
+fn take_rule(there: bool, ws: &[u64], at: usize) -> RuleArg
+    ensures { λ r. ⌜ r .next ≤ at + length (now (ws .entry)) + 1 ⌝ }
+{
     if !there {
         return RuleArg {
             value: Mixing::HalfSum,
@@ -82,7 +86,9 @@ fn take_rule(there: bool, ws: &[u64], at: usize) -> RuleArg {
 }
 
 // Epsilon, sigma, cutoff, shift, and the rule where it stands in the line.
-pub(crate) fn take_lj(ruled: bool, ws: &[u64], at: usize) -> LjArg {
+pub fn take_lj(ruled: bool, ws: &[u64], at: usize) -> LjArg
+    ensures { λ r. ⌜ r .next ≤ length (now (ws .entry)) + 1 + length (now (ws .entry)) + 1 ⌝ }
+{
     let epsilon = replay_words::take_float(ws, at);
     let sigma = replay_words::take_float(ws, epsilon.next);
     let cutoff = replay_words::take_float(ws, sigma.next);
@@ -199,7 +205,9 @@ fn take_angle_term_if(there: bool, ws: &[u64], at: usize) -> AngleTermArg {
     }
 }
 
-pub(crate) fn take_settings(parts: Parts, ws: &[u64], at: usize) -> SettingsArg {
+pub fn take_settings(parts: Parts, ws: &[u64], at: usize) -> SettingsArg
+    ensures { λ r. ⌜ r .next ≤ length (now (ws .entry)) + 1 ⌝ }
+{
     let a = take_lj_term(parts.rule, ws, at);
     let b = take_coulomb_term(ws, a.next);
     let c = take_bond_term(ws, b.next);
