@@ -5,7 +5,7 @@ use crate::angles;
 use crate::desks;
 use crate::forces;
 use crate::velocities;
-use replay_strikes::works;
+use replay_melts::works;
 
 // Terms and evaluations.
 fn terms(call: u64, ws: &[u64], out: &mut [u64; 8208]) -> usize {
@@ -27,7 +27,7 @@ fn motion(call: u64, ws: &[u64], out: &mut [u64; 8208]) -> usize {
         return velocities::answer(call, ws, out);
     }
     if call == 106 || call == 107 {
-        return replay_strikes::answer(call, ws, out);
+        return replay_melts::answer(call, ws, out);
     }
     works::answer(call, ws, out)
 }

@@ -1,7 +1,7 @@
 // Two species tables: 58 and 59, the calls 50 and 53 with a mask, and 5a, `species_row`.
 use crate::forces;
 use answer::Done;
-use replay_strikes::masks;
+use replay_melts::masks;
 use replay_words::plain;
 use replay_words::tables;
 
