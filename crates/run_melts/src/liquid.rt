@@ -145,20 +145,6 @@ pub(crate) fn tabulate(table: Table, xs: &mut [u32]) {
     }
 }
 
-// The tables of molecules that have no charge.
-pub(crate) fn molecules(species: &mut [u32], charges: &mut [f64], bonds: &mut [u32]) {
-    tabulate(Table::Species, species);
-    fill(
-        Form::Thirds {
-            a: -0.5,
-            b: 0.25,
-            c: 0.25,
-        },
-        charges,
-    );
-    tabulate(Table::Bonds, bonds);
-}
-
 // No right angle, so that the general way of the minimum image is taken.
 pub(crate) fn tilted(edge: f64) -> Cell {
     Cell::Present(Lattice {

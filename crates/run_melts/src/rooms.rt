@@ -13,6 +13,20 @@ pub(crate) fn starts() -> [u32; 32769] {
     [0; 32769]
 }
 
+// Of the runs.
+pub(crate) fn bins() -> [u32; 4096] {
+    [0; 4096]
+}
+
+pub(crate) fn items() -> [u32; 16385] {
+    [0; 16385]
+}
+
+// An answer's words.
+pub(crate) fn words() -> [u64; 8208] {
+    [0; 8208]
+}
+
 pub(crate) fn part(xs: &[f64], n: usize) -> &[f64] {
     if n <= xs.len() {
         return &xs[0..n];
@@ -20,11 +34,11 @@ pub(crate) fn part(xs: &[f64], n: usize) -> &[f64] {
     xs
 }
 
-pub(crate) fn part_u32(xs: &[u32], n: usize) -> &[u32] {
-    if n <= xs.len() {
-        return &xs[0..n];
+pub(crate) fn rest(ws: &[u64], from: usize) -> &[u64] {
+    if from <= ws.len() {
+        return &ws[from..];
     }
-    xs
+    ws
 }
 
 pub(crate) fn front(xs: &mut [f64], n: usize) -> &mut [f64] {

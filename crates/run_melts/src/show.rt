@@ -17,6 +17,32 @@ pub(crate) fn put_float(x: f64) {
     io::write_all(STDOUT_FILENO, b" ");
 }
 
+pub(crate) fn word_at(ws: &[u64], k: usize) -> u64 {
+    if k < ws.len() {
+        return ws[k];
+    }
+    0
+}
+
+fn put_bits(ws: &[u64], k: usize) {
+    io::print_hex(STDOUT_FILENO, word_at(ws, k), 16);
+    io::write_all(STDOUT_FILENO, b" ");
+}
+
+// The bits of a sum: its energy and the virial's nine.
+pub(crate) fn put_ten(ws: &[u64]) {
+    put_bits(ws, 0);
+    put_bits(ws, 1);
+    put_bits(ws, 2);
+    put_bits(ws, 3);
+    put_bits(ws, 4);
+    put_bits(ws, 5);
+    put_bits(ws, 6);
+    put_bits(ws, 7);
+    put_bits(ws, 8);
+    put_bits(ws, 9);
+}
+
 // Refusal and place, 0 0 where answered.
 pub(crate) fn put_done(done: Done) {
     match done {
