@@ -1,8 +1,8 @@
 -- The highest partner of each low atom: the loop that finds it, and the lookup that it spares. Assumes nothing.
-use Prim.Native.Nat.{ℕ, _+_, _*_, _/_, _≤_, _<_, max}
+use Prim.Native.Nat.{ℕ, _+_, _/_, _≤_, _<_, max}
 use mathlib.Core.Path.{_≡_, refl, sym, ap, _∙_}
 use mathlib.Core.Logic.{⊎-elim}
-use mathlib.Core.Bool.{Bool, true, false, cond, _&&_}
+use mathlib.Core.Bool.{Bool, true, false, _&&_}
 use mathlib.Core.List.{List, _++_}
 use native.Mathlib.Omega.{arith}
 use lib.Dec.{ltb, eqb}
@@ -13,7 +13,7 @@ use Rattle.lists.specs.Lists.{rows}
 use Rattle.lists.proofs.Loops.{room-front}
 use Rattle.lists.proofs.Rows.{rows-at, length-rows}
 use Rattle.lists.proofs.Walks.{some-at}
-use Rattle.lists.proofs.Cases.{below-or, below-or-is, same-or, by-test, true-or-false, and-both}
+use Rattle.lists.proofs.Cases.{below-or, below-or-is, same-or, true-or-false, and-both}
 use Rattle.exclusions.specs.Table.{isTable, isRow, rowAt, samePair, halvingPlace, lookedUp}
 use Rattle.exclusions.proofs.Search.{looked-up}
 use Rattle.exclusions.proofs.RowOrder.{same-pair, pair-same}

@@ -16,7 +16,7 @@ ghost use Rattle.cell.specs.Vec.{positionAt};
 ghost use Rattle.lists.specs.Lists.{ordered, withEach, inside, across};
 ghost use Rattle.bins.specs.Listing.{considerOf, listOf, Ready, Below};
 ghost use mathlib.Core.Bool.{cond, true};
-ghost use Rattle.neighbor_listing.specs.Sides.{SideRooms, LaidOut, Bounded, Framed, SharedAt, Shares};
+ghost use Rattle.neighbor_listing.specs.Sides.{LaidOut, Bounded, Framed, SharedAt, Shares};
 ghost use Rattle.neighbor_listing.specs.Steps.{chosenBy, nearTo, Gathered, Lists, TriedSays};
 
 fn lower(i: u32, j: u32) -> u32

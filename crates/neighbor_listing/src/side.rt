@@ -10,7 +10,7 @@ use cell::vectors;
 use neighbor_asked::strays::is_bounded;
 ghost use mathlib.Core.Path.{_≡_};
 ghost use mathlib.Core.Bool.{cond, true, false};
-ghost use Prim.Native.Nat.{_/_, _≤_, _<_};
+ghost use Prim.Native.Nat.{_/_, _≤_};
 ghost use lib.ListN.{length};
 ghost use Rattle.bins.specs.Listing.{Below};
 ghost use Rattle.neighbor_listing.specs.Sides.{SideRooms, LaidOut, BoxSays, boxHolds, TiltedSays, fractionsOf, inUnit, isTilted, tiltedHolds, isEnclosed, AllEnclosed, Bounded, Framed, stepIn, gapIn, isBeyond, SingleSays, StillSays, SharedAt, SharedSays, steppedSees, stillSees, leastRows, greatestRows, isLevel, FitEnds, SlantSays, isOutside, slantedSees, isUpper, upperSees, slopeSees, ReachSays, Reaches, Flagged, Flags, Bits, FlagsTaken};

@@ -1,4 +1,3 @@
-use Prim.Native.Nat.{ℕ}
 use Rattle.neighbor_listing.proofs.Partners.{blank-cleared}
 use Rattle.neighbor_listing.proofs.running.blank_tops.Statement.{statement}
 use Rattle.neighbor_listing.proofs.running.blank_tops.Tie as tie
