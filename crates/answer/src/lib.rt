@@ -1,10 +1,12 @@
 // The refusals of the scope paper, and the plain answers of the public calls. specs/Seen.antt says which number, place and
 // value of the paper each case stands for, and every contract goes by that.
+#![tactic(auto)]
+
 ghost use Rattle.std.specs.Prelude.{◌≡◌};
 ghost use Rattle.answer.specs.Seen.{number_of, place_of};
 
 // One case for each line of the paper's table, two where the place tells two things apart. A place is as wide as a count.
-#[derive(Drop)]
+#[derive(Clone, Copy)]
 pub enum Refusal {
     // 1: lent lengths disagree, or a room is too short for the atoms
     Lengths,
@@ -80,7 +82,7 @@ impl Refusal {
 }
 
 // Answered with nothing beside what is lent, or refused.
-#[derive(Drop)]
+#[derive(Clone, Copy)]
 pub enum Done {
     Answered,
     Refused(Refusal),

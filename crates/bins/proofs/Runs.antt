@@ -56,7 +56,7 @@ run_step {e} {s₀} {s} {all} {rest} {p} r h q =
 
 run_all : {e : Scene} {s₀ s : Listing} {all : List (ℕ × ℕ)} (ps rest : List (ℕ × ℕ)) → Run e s₀ s all (ps ++ rest) → Run e s₀ (list_of e s ps) all rest
 run_all [] rest h = h
-run_all (p ∷ ps) rest h = run_all ps rest (run_step _ h refl)
+run_all {e = e} {s₀ = s₀} {s = s} {all = all} (p ∷ ps) rest h = run_all {s = consider_of e s p} ps rest (run_step _ h refl)
 
 pub run_part : {e : Scene} {s₀ s : Listing} {all : List (ℕ × ℕ)} (ps rest : List (ℕ × ℕ)) (r : Listing) → Run e s₀ s all (ps ++ rest) → r ≡ list_of e s ps → Run e s₀ r all rest
 run_part ps rest r h q = rw q (run_all ps rest h)

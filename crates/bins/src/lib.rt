@@ -1,5 +1,7 @@
 // What both frames' pair lists are made of: axes, cells, the half stencil, the sorted tables, the listing of candidates. The whole-number frame and
 // the float frame differ in the cell of an atom and in the test of a pair, and in nothing here.
+#![tactic(auto)]
+
 pub mod kernel;
 mod sorting;
 
@@ -9,20 +11,20 @@ ghost use Rattle.bins.specs.Sort.{cell_held, atoms_in, AtomsAskedSays};
 use answer::{Done, Refusal};
 
 // One axis of a grid: how many bins it has, and whether it is periodic. A grid has at most 32,768 cells, so sixteen bits hold a size.
-#[derive(Drop)]
+#[derive(Clone, Copy)]
 pub struct Axis {
     pub size: u16,
     pub round: bool,
 }
 
-#[derive(Drop)]
+#[derive(Clone, Copy)]
 pub struct Grid {
     pub x: Axis,
     pub y: Axis,
     pub z: Axis,
 }
 
-#[derive(Drop)]
+#[derive(Clone, Copy)]
 pub struct Cell {
     pub x: u16,
     pub y: u16,
@@ -52,7 +54,7 @@ pub enum Plan {
 }
 
 // Pairs found, and candidate distances evaluated.
-#[derive(Drop)]
+#[derive(Clone, Copy)]
 pub struct Tally {
     pub count: usize,
     pub checks: usize,

@@ -1,4 +1,6 @@
 // 01's rules of a grid and of a list in leaves, for both frames: total, no public call. A crate of its own, so that each wrong program is tried once and lightly.
+#![tactic(auto)]
+
 ghost use Rattle.std.specs.Prelude.{◌≡◌, ◌&&◌, ◌+◌, ◌-◌, min, ltb, leb};
 
 // "any periodic axis has floor(width/radius) below 3".

@@ -1,5 +1,7 @@
 // Lattice cells and minimum-image displacements (cell.rs): the types and the public calls. Each call tests its own arguments
 // and refuses 3. The work without tests, for the crates above: `kernel`, `matrices`, `vectors`, and the range tests in `ranged`.
+#![tactic(auto)]
+
 ghost use Rattle.cell.specs.Calls.{OrthorhombicSays, CubicSays, IsOrthorhombicSays, MatrixSays, VolumeSays, InverseSays, ToFractionalSays, ToCartesianSays, WrapSays, PerpWidthsSays, MinImageSays};
 
 use answer::{Done, Number, Refusal, YesNo};
@@ -11,7 +13,7 @@ pub mod ranged;
 pub mod vectors;
 
 #[repr(C)]
-#[derive(Drop)]
+#[derive(Clone, Copy)]
 pub struct Vec3 {
     pub x: f64,
     pub y: f64,
@@ -19,7 +21,7 @@ pub struct Vec3 {
 }
 
 // The three lattice vectors, and which axes are periodic.
-#[derive(Drop)]
+#[derive(Clone, Copy)]
 pub struct Lattice {
     pub a: Vec3,
     pub b: Vec3,
@@ -29,7 +31,7 @@ pub struct Lattice {
     pub pz: bool,
 }
 
-#[derive(Drop)]
+#[derive(Clone, Copy)]
 pub enum Cell {
     Absent,
     Present(Lattice),
@@ -60,7 +62,7 @@ pub struct Image {
 
 // What the general way of the minimum image wants to know of a lattice: whether it is taken, whether there is an inverse, and the
 // inverse's rows.
-#[derive(Drop)]
+#[derive(Clone, Copy)]
 pub struct General {
     pub skewed: bool,
     pub singular: bool,

@@ -1,5 +1,7 @@
 // One axis of the minimum image in a box, and one of the general way. The contracts are the source's formulas, x - len * round(x / len)
 // and x - round(x), on every float. `near` has no division, for an |x| below the length; `far` has no branch, for an |x| below 2^51 lengths.
+#![tactic(auto)]
+
 ghost use Rattle.std.specs.Prelude.{◌≡◌};
 ghost use Rattle.float.specs.Def.{abs_of};
 ghost use Rattle.cell_axis.specs.Image.{nearest_of, axis_of, fraction_of, toward_of, shift_of, steps_of, in_reach, NearSays, FarSays};

@@ -1,12 +1,14 @@
 // The minimum image for a loop over differences: the cell's facts are asked once, and most differences in a box need no division.
 // proofs/Law.antt: image_in(prepare(cell), d) is cell::kernel::min_image(d, cell).
+#![tactic(auto)]
+
 ghost use Rattle.std.specs.Prelude.{◌≡◌, true};
 ghost use Rattle.cell_prepared.specs.Facts.{short_of, prepare_of, is_short, short_image, diff_in, image_in, InnerSays, SettledSays};
 
 use cell::{Cell, General, Image, Lattice, Vec3, counting, kernel, vectors};
 
 // A cell's facts (specs/Facts.antt).
-#[derive(Drop)]
+#[derive(Clone, Copy)]
 pub struct Prepared {
     // the lengths of a box that is periodic on each axis, zeros of any other cell
     pub short: Vec3,

@@ -1,6 +1,8 @@
 // One axis of the minimum image in a box where only its square is asked: no test of a sign, and none of the half of a length. In a loop over places that
 // lie side by side the compiler makes each step one instruction for two of them. And what one place's differences with many have in common, by their bounds,
 // and sums of three products with what lies between bounds.
+#![tactic(auto)]
+
 ghost use Rattle.std.specs.Prelude.{◌≡◌, cond};
 ghost use Rattle.std.specs.Float.Ieee.{lt};
 ghost use Rattle.float.specs.Def.{abs_of};

@@ -16,7 +16,7 @@ use Rattle.lists.proofs.Exactness.{length_keep, length_up_to}
 use Rattle.lists.proofs.First.{first_past}
 use Rattle.lists.proofs.Nested.{each_last}
 use Rattle.lists.proofs.Walks.{drop_next}
-use Rattle.hex.proofs.Writing.{length2, length4, put_put}
+use Rattle.hexadecimal.proofs.Writing.{length2, length4, put_put}
 use Rattle.ranges.specs.Rows.{is_absent, absent_of}
 use Rattle.clumps_label.specs.Label.{labels_of, lengths_off, label_asked, label_after, label_of, LabelSays, Outcome}
 use Rattle.clumps_answer.specs.Clumps.{clump_line, members_of, lowest_atoms, clump_rows, clump_lines}

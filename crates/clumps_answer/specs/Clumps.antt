@@ -6,7 +6,7 @@ use Rattle.answer.specs.Seen.{Seen, answered, refused, refused_by, seen_whole}
 use Rattle.answer.specs.declared.Whole.{Whole}
 use Rattle.answer.specs.declared.Refusal.TheVariants.{Lengths}
 use Rattle.lists.specs.Lists.{rows, up_to, each, keep, how_many}
-use Rattle.hex.specs.Glyphs.{text2, text4}
+use Rattle.hexadecimal.specs.Glyphs.{text2, text4}
 use Rattle.sheet_printed.specs.Printed.{refusal_line}
 use Rattle.sheet_answer.specs.List.{SheetCounts, sheet_list_of}
 use Rattle.clumps_label.specs.Label.{labels_of}

@@ -1,4 +1,6 @@
 // The clumps of a job sheet, printed: the list of the sheet, the labels of its atoms, and a line for each clump.
+#![tactic(auto)]
+
 ghost use Rattle.std.specs.Prelude.{◌≡◌, cond, ◌+◌, ◌*◌, ◌≤◌, ◌<◌, length, take};
 ghost use Rattle.std.proofs.lemmas.List.Edits.{sets};
 ghost use Rattle.answer.specs.Seen.{number_of, place_of};
@@ -11,7 +13,7 @@ ghost use Rattle.clumps_answer.specs.Steps.{clump_line_at, RowsAmong};
 
 use answer::{Refusal, Whole};
 use clumps_label::label;
-use hex::{put_byte, put2, put4};
+use hexadecimal::{put_byte, put2, put4};
 use sheet_answer::SheetList;
 use sheet_answer::kernel::list;
 use sheet_printed::put_refusal;

@@ -1,4 +1,6 @@
 // A job sheet from standard input, its clumps to standard output.
+#![tactic(auto)]
+
 ghost use Rattle.std.specs.Prelude.{◌≡◌, ◌≤◌, length, take};
 ghost use Rattle.std.proofs.lemmas.List.Edits.{sets};
 ghost use Rattle.clumps_answer.specs.Clumps.{clumps_printed, solve_clumps_of};

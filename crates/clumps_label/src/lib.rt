@@ -1,4 +1,6 @@
 // Which atoms hang together by listed pairs: each atom's label is the lowest atom that a chain of pairs reaches from it.
+#![tactic(auto)]
+
 mod forest;
 
 ghost use Rattle.std.specs.Prelude.{◌≡◌};

@@ -1,5 +1,7 @@
 // The evaluator, which replaces the Rust's closure: the pair list brought up to date, then each present term, Lennard-Jones, Coulomb, bonds, angles, from zero and
 // merged in this order. specs/Calls.antt says what it answers and leaves; `kernel` has the work and `asked` the tests, for the crates above.
+#![tactic(auto)]
+
 use answer::{Done, Refusal};
 use cell::Cell;
 use neighbor::State;
@@ -18,7 +20,7 @@ ghost use Rattle.potentials_pair.specs.Species.{tables};
 ghost use Rattle.evaluate.specs.Calls.{job_of, EvaluateSays, EvaluateLists};
 
 // What an evaluation goes by besides its tables: the terms, each absent or present with its numbers, the units, and the cell.
-#[derive(Drop)]
+#[derive(Clone, Copy)]
 pub struct Setting {
     pub lj: LjTerm,
     pub coulomb: CoulombTerm,

@@ -1,6 +1,8 @@
 // What crosses the boundary to C: structs of numbers in place of enums and flags. An answer holds a refusal's number and place (0 and 0 where it is
 // answered) and the values, zeros where there are none; a flag is read as C does, set where it is not 0, and handed back as 0 or 1. specs/Flat.antt says
 // which answer each struct stands for, specs/Taken.antt which argument. `give` turns an answer into its struct, `take` a struct into an argument.
+#![tactic(auto)]
+
 use cell::{Rows, Vec3};
 use potentials::Bond;
 use potentials_angle::Angle;

@@ -15,7 +15,7 @@ use neighbor::State;
 use verlet_step::Stepped;
 
 // Between two iterations: the last step, the pace, the largest force component, and how many iterations there were. The atoms stand in what is lent.
-#[derive(Drop)]
+#[derive(Clone, Copy)]
 pub(crate) struct Stage {
     pub last: Stepped,
     pub gait: Gait,

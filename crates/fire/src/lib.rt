@@ -1,5 +1,7 @@
 // Settling a freshly packed box (fire.rs, `fire`): damped steps of velocity Verlet down to a local minimum of the energy.
 // specs/Calls.antt says what the call answers and leaves, specs/Steer.antt has the source's loops.
+#![tactic(auto)]
+
 use answer::Done;
 use evaluate::Setting;
 use neighbor::State;
@@ -12,7 +14,7 @@ ghost use Rattle.potentials_pair.specs.Species.{tables};
 ghost use Rattle.fire.specs.Calls.{settling_of, FireSays};
 
 // Most iterations, the force tolerance (eV/A, on the largest component), the first time step and the largest (fs).
-#[derive(Drop)]
+#[derive(Clone, Copy)]
 pub struct FireOptions {
     pub max_iters: u32,
     pub force_tol: f64,

@@ -6,7 +6,7 @@ ghost use Rattle.fire.specs.Steer.{largest_force, powered_by, no_powers, powers_
 use cell::Vec3;
 
 // Time step, alpha, and the steps since the power was last not above zero.
-#[derive(Drop)]
+#[derive(Clone, Copy)]
 pub(crate) struct Gait {
     pub dt: f64,
     pub alpha: f64,
@@ -14,7 +14,7 @@ pub(crate) struct Gait {
 }
 
 // The power, and the squared norms of all velocities and of all forces.
-#[derive(Drop)]
+#[derive(Clone, Copy)]
 struct Powers {
     power: f64,
     speed2: f64,

@@ -1,4 +1,6 @@
 // What Rust's library gives on an `f64`, and IEEE 754's square root. Each contract is one equation with a definition of specs/Def.antt.
+#![tactic(auto)]
+
 ghost use Rattle.std.specs.Prelude.{◌≡◌, ◌+◌, ◌*◌, ◌/◌, ◌%◌, ◌^◌, ◌<◌, ◌≤◌, true, false, not, T, pos, if◌then◌else◌, from_bits, is_nan, to_bits};
 ghost use Rattle.std.specs.Float.Ieee.Positive.{positive};
 ghost use Rattle.std.specs.Float.{fin, inf, binary64};
@@ -337,8 +339,8 @@ fn normal_of(x: f64) -> Even
 }
 
 fn normal_bits(x: f64, guess: f64) -> u64
-    requires t { T (positive x) × (0 < to_bits binary64 x / 2 ^ 52 % 2048) }
-    requires t_2 { T (not (is_nan guess)) }
+    requires x_normal { T (positive x) × (0 < to_bits binary64 x / 2 ^ 52 % 2048) }
+    requires guess_number { T (not (is_nan guess)) }
     ensures { RootBits (root_of x) result }
 {
     let e = normal_of(x);

@@ -1,6 +1,8 @@
 // The whole-number frame: atoms at whole coordinates in a box whose axes are periodic or open. The exact nearest-image distance, and the list of
 // all pairs within a radius. specs/Build.antt says what a build answers and leaves in what is lent, specs/Listed.antt what that means, specs/Images.antt
 // that no second image of an atom hides behind a listed pair.
+#![tactic(auto)]
+
 use answer::{Done, Refusal, Whole};
 
 pub mod asked;
@@ -15,14 +17,14 @@ ghost use Rattle.frame.specs.Distance.{SquaredSays};
 ghost use Rattle.frame.specs.Listed.{BuildLists};
 
 // One axis of the box: its edge, and whether it is periodic.
-#[derive(Drop)]
+#[derive(Clone, Copy)]
 pub struct Side {
     pub edge: u32,
     pub round: bool,
 }
 
 // Edges and radius to 2^20; twice the radius may equal a periodic edge but not pass it.
-#[derive(Drop)]
+#[derive(Clone, Copy)]
 pub struct Frame {
     pub x: Side,
     pub y: Side,
@@ -32,7 +34,7 @@ pub struct Frame {
 
 // An atom's coordinates.
 #[repr(C)]
-#[derive(Drop)]
+#[derive(Clone, Copy)]
 pub struct Spot {
     pub x: u32,
     pub y: u32,

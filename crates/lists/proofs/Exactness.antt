@@ -38,8 +38,9 @@ module _ {A B : Type 0} (f : A → List B) where
       ⊎_elim (λ h. (a, Memᴰ.head refl, h)) (λ h. let r = mem_each l h in (r.0, Memᴰ.tail r.1, r.2))
       (Memᴰ.append_cases (f a) m)
 
-  pub each_mem : {l : List A} {a : A} {b : B} → a ∈ l → b ∈ f a → b ∈ each f l
+  pub each_mem : {a : A} {l : List A} {b : B} → a ∈ l → b ∈ f a → b ∈ each f l
   unfolding each
+  each_mem {a = a} {l = []} {b = b} x' m = elim x' [ ]
   each_mem {l = x ∷ xs} {b = b} (Memᴰ.head e) m = Memᴰ.append_left (each f xs) (subst (λ (t : A). b ∈ f t) e m)
   each_mem {l = x ∷ xs} (Memᴰ.tail p) m = Memᴰ.append_right (f x) (each_mem p m)
 
@@ -122,10 +123,11 @@ module _ {A : Type 0} (q : A → Bool) where
           ⊎_elim (λ h. (Memᴰ.head h, ap q h ∙ e)) (λ h. (Memᴰ.tail (below h).0, (below h).1)) (Memᴰ.cases_cons m)
       go false e m below = (Memᴰ.tail (below m).0, (below m).1)
 
-  pub keep_mem : {l : List A} {a : A} → a ∈ l → q a ≡ true → a ∈ keep q l
+  pub keep_mem : {a : A} {l : List A} → a ∈ l → q a ≡ true → a ∈ keep q l
   unfolding keep
+  keep_mem {a = a} {l = []} x' t = elim x' [ ]
   keep_mem {l = x ∷ xs} (Memᴰ.head e) t = rw (sym (ap q e) ∙ t) (Memᴰ.head e)
-  keep_mem {l = x ∷ xs} {a} (Memᴰ.tail p) t = go (q x) (keep_mem p t)
+  keep_mem {a} {l = x ∷ xs} (Memᴰ.tail p) t = go (q x) (keep_mem p t)
     where
       go : (b : Bool) → a ∈ keep q xs → a ∈ cond b (x ∷ keep q xs) (keep q xs)
       go true m = Memᴰ.tail m
@@ -272,6 +274,7 @@ exactly_across is js hi hj d = record { sound = snd; complete = cpl; once = one 
 
 -- ---- lists that hold exactly the same are equally long
 taken_out : {A : Type 0} {a : A} {l : List A} → a ∈ l → (r : List A) × (length l ≡ suc (length r)) × ((b : A) → b ∈ l → (b ≡ a) ⊎ (b ∈ r))
+taken_out {A = A} {a = a} {l = []} x' = elim x' [ ]
 taken_out {l = x ∷ xs} (Memᴰ.head e) =
     (xs, refl, λ b m. ⊎_elim (λ f. inl (f ∙ sym e)) (λ p. inr p) (Memᴰ.cases_cons m))
 taken_out {l = x ∷ xs} (Memᴰ.tail p) =

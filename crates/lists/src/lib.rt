@@ -1,1 +1,2 @@
 // Definitions and laws on lists and loops, which every crate above cites: no code.
+#![tactic(auto)]

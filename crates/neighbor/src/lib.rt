@@ -1,5 +1,7 @@
 // The pair list of a float frame (neighbor.rs): its state, when it must be built anew, and the build. The public calls test and refuse; the list itself
 // stands in what the caller lends. specs/Update.antt says what a build answers and leaves, specs/Listed.antt what that means.
+#![tactic(auto)]
+
 use answer::{Done, Number, Refusal, YesNo};
 use cell::Cell;
 
@@ -19,7 +21,7 @@ ghost use Rattle.neighbor.specs.Listed.{UpdateLists};
 // The settings of a list and what it claims of the lent memory: the pairs and references that stand there, the distances that the last build evaluated,
 // whether it laid no grid, how many builds there were, and the cell of the last answered one, none where there is none and after pairs that did not fit. The
 // counter comes round to zero.
-#[derive(Drop)]
+#[derive(Clone, Copy)]
 pub struct State {
     pub cutoff: f64,
     pub skin: f64,

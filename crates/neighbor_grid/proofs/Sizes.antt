@@ -60,7 +60,7 @@ module _ (d : ℤ) (fits : SFits w64 d) where
 -- the number of bins through the machine's sixty-four bits
 pub bins_back : (w r : Float) → to_z w64 (of_z w64 (bins_in w r)) ≡ bins_in w r
 unfolding bins_in
-bins_back w r = to_z-of_z (record { sfits = to_signed_in 63 _ })
+bins_back w r = to_z-of_z {w = w64} (record { sfits = to_signed_in 63 _ })
 
 -- the bin is one of the axis
 bin_less : (size : ℕ) (f : Float) → 1 ≤ size → bin_of size f < size

@@ -1,5 +1,7 @@
 // The grid of a float frame (neighbor.rs, `Grid::build`): which grid the atoms are laid into, if any, and the tables that hand out each cell's atoms.
 // No public call: `lay` is total, and the crates above have tested what they lend.
+#![tactic(auto)]
+
 mod laying;
 mod measuring;
 mod planning;

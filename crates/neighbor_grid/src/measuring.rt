@@ -9,14 +9,14 @@ ghost use Rattle.neighbor_grid.specs.Steps.{bounds_of, fraction_by, measure_of};
 use cell::{Cell, Lattice, Vec3};
 
 // The atoms' bounding box.
-#[derive(Drop)]
+#[derive(Clone, Copy)]
 pub struct Bounds {
     pub lo: Vec3,
     pub hi: Vec3,
 }
 
 // What an atom's fractions are computed from: the rows of the cell's inverse, or the bounding box.
-#[derive(Drop)]
+#[derive(Clone, Copy)]
 pub enum Ruler {
     Folded { x: Vec3, y: Vec3, z: Vec3 },
     Boxed { lo: Vec3, extent: Vec3 },

@@ -1,5 +1,7 @@
 // The pairs of a float frame (neighbor.rs, `build_all_pairs`, `build_binned`, `consider`): what a build stores, counts and leaves in the grid tables.
 // No public call: `list` is total, and the crates above have tested what they lend.
+#![tactic(auto)]
+
 mod loops;
 mod running;
 mod side;

@@ -11,7 +11,7 @@ use cell::{Vec3, matrices, vectors};
 use neighbor_asked::strays::is_bounded;
 
 // The least and the greatest coordinates of a part's places, and whether each lies between them: not where one is not a number.
-#[derive(Drop)]
+#[derive(Clone, Copy)]
 pub struct Bounds {
     pub lo: Vec3,
     pub hi: Vec3,
@@ -20,7 +20,7 @@ pub struct Bounds {
 
 // What the bounds say of all their places: whether one step on each axis takes the differences with an atom to their images, in a box whether it is known
 // to be nothing, that step (of a tilted cell: of the fractions), and whether all of them are out of sight then.
-#[derive(Drop)]
+#[derive(Clone, Copy)]
 pub struct Reach {
     pub single: bool,
     pub still: bool,

@@ -7,7 +7,7 @@ use cell::{Cell, Vec3, vectors};
 use cell_prepared::Prepared;
 
 // What the test of a pair asks: the cell's facts, and the square of the radius.
-#[derive(Drop)]
+#[derive(Clone, Copy)]
 pub struct Sight {
     pub prepared: Prepared,
     pub limit: f64,

@@ -1,4 +1,6 @@
 // The program `pairs`: a job sheet in, its pair list out.
+#![tactic(auto)]
+
 fn main() {
     let mut input = [0u8; 65537];
     let mut out = [0u8; 90133];

@@ -1,6 +1,8 @@
 // Lennard-Jones, harmonic bonds and the direct Coulomb sum over a list of pairs (potentials.rs): the terms, and the work without tests, for the crates above:
 // `kernel`, and the range tests in `ranged`. The public calls, which test their arguments, are `potentials_calls`; specs/Calls.antt says what each answers
 // and leaves.
+#![tactic(auto)]
+
 use answer::Refusal;
 use potentials_pair::Lj;
 use virial::Sum;
@@ -19,26 +21,26 @@ pub mod species;
 
 // A force constant, and a length at rest. (The Rust's `HarmonicBonds`; its tables are lent.)
 #[repr(C)]
-#[derive(Drop)]
+#[derive(Clone, Copy)]
 pub struct Bond {
     pub k: f64,
     pub r0: f64,
 }
 
-#[derive(Drop)]
+#[derive(Clone, Copy)]
 pub enum LjTerm {
     Absent,
     Present(Lj),
 }
 
 // The Rust's `Coulomb`.
-#[derive(Drop)]
+#[derive(Clone, Copy)]
 pub enum CoulombTerm {
     Absent,
     Present { cutoff: f64 },
 }
 
-#[derive(Drop)]
+#[derive(Clone, Copy)]
 pub enum BondTerm {
     Absent,
     Present(Bond),

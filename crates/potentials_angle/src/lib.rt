@@ -1,5 +1,7 @@
 // Cosine angles (02, No. 1): the GROMOS-96 form, in the expressions and the order of potentials.rs' `HarmonicAngles`. The term and the public calls, which
 // test their arguments; specs/Calls.antt says what each answers and leaves. The work without tests, for the crates above: `kernel`, `bends`, `ranged`, `rows`.
+#![tactic(auto)]
+
 ghost use Rattle.potentials_angle.specs.Calls.{UniformAnglesSays, AnglesAllSays};
 
 use answer::{Done, Refusal};
@@ -15,13 +17,13 @@ pub mod rows;
 
 // A force constant, and a cosine at rest.
 #[repr(C)]
-#[derive(Drop)]
+#[derive(Clone, Copy)]
 pub struct Angle {
     pub k: f64,
     pub rest: f64,
 }
 
-#[derive(Drop)]
+#[derive(Clone, Copy)]
 pub enum AngleTerm {
     Absent,
     Present(Angle),
@@ -34,7 +36,7 @@ pub enum AngleAnswer {
 }
 
 // The three atoms of a row: the Rust's (i, apex, k).
-#[derive(Drop)]
+#[derive(Clone, Copy)]
 pub struct Corner {
     pub first: usize,
     pub apex: usize,

@@ -1,5 +1,7 @@
 // The public calls of potentials.rs: each tests its arguments, in 01's order, and `potentials` does the work. What each answers and leaves is said there, in
 // specs/Calls.antt. A crate of its own, since no crate of the house needs a call, and `potentials` is long to prove.
+#![tactic(auto)]
+
 ghost use Rattle.std.specs.Prelude.{◌≡◌};
 ghost use Rattle.potentials_pair.specs.Species.{tables};
 ghost use Rattle.potentials.specs.Calls.{MonatomicSays, UniformSays, argon_of, SpeciesRowSays, SpeciesRowAskedSays, LjPairsSays, LjAllSays, CoulombPairsSays, CoulombAllSays, BondsAllSays};

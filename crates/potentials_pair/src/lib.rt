@@ -1,4 +1,6 @@
 // What one pair of atoms adds: the kernels of potentials.rs over a pair's numbers, and the species table. Total, and no public call.
+#![tactic(auto)]
+
 use cell::Vec3;
 
 pub mod bonds;
@@ -22,7 +24,7 @@ pub struct Mixed {
 }
 
 // What the formulas need of two species: 4 epsilon, sigma squared, and the energy at the cutoff.
-#[derive(Drop)]
+#[derive(Clone, Copy)]
 pub struct Numbers {
     pub depth: f64,
     pub square: f64,
@@ -30,14 +32,14 @@ pub struct Numbers {
 }
 
 // How the sigmas of two species are mixed: the half sum, as the Rust has it, or the root of the product (02, No. 10). Epsilons mix as they do there in both.
-#[derive(Drop)]
+#[derive(Clone, Copy)]
 pub enum Mixing {
     HalfSum,
     Geometric,
 }
 
 // A Lennard-Jones term; epsilon and sigma are those of a species that its table lacks. (The Rust's `LennardJones`; its `params` are a lent table.)
-#[derive(Drop)]
+#[derive(Clone, Copy)]
 pub struct Lj {
     pub epsilon: f64,
     pub sigma: f64,

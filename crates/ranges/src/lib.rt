@@ -1,4 +1,6 @@
 // Range tests of numbers and of slices of numbers.
+#![tactic(auto)]
+
 pub mod rows;
 
 ghost use Rattle.std.specs.Prelude.{◌≡◌};

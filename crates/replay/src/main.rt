@@ -1,4 +1,6 @@
 // Reads cases from standard input, a line each, and writes their answers to standard output.
+#![tactic(auto)]
+
 use libc::{STDIN_FILENO, STDOUT_FILENO};
 
 mod angles;
@@ -47,7 +49,7 @@ fn hear(
         return Pending { heard: 0, filled };
     }
     if heard < line.len() {
-        hex::put_byte(line, heard, b);
+        hexadecimal::put_byte(line, heard, b);
         return Pending {
             heard: heard + 1,
             filled: p.filled,

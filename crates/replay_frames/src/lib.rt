@@ -1,4 +1,6 @@
 // The calls of replay on the whole-number frame and what stands on it. A crate of its own, as replay_lists is.
+#![tactic(auto)]
+
 mod counts;
 mod frames;
 mod labels;

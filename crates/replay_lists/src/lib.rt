@@ -1,5 +1,7 @@
 // The calls of replay on numbers, cells, sums, exclusions and lists. A crate of its own, so that it is proved beside what stands on the same level, and what
 // is left of `replay` at the end is short. How a case is answered: replay/src/calls.rt.
+#![tactic(auto)]
+
 pub mod answers;
 mod boxes;
 mod cells;

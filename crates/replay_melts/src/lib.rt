@@ -1,5 +1,7 @@
 // The calls of replay on a melt: of `strike`, 6a and 6b, here, and of `evaluate`, `verlet_step` and `fire` in `works`, which `run_melts` works by too. A crate of
 // its own, so that what is left of `replay` is short.
+#![tactic(auto)]
+
 pub mod masks;
 pub mod records;
 pub mod works;

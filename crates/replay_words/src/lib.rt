@@ -1,5 +1,7 @@
 // The protocol of the replay program: a line of text into a call and words, words into a line, arguments taken out of words, an answer put together as
 // words. A place past the end reads as nothing, and nothing is written there; the contracts say no more than that places stay within what is lent.
+#![tactic(auto)]
+
 pub mod plain;
 mod put;
 mod read;

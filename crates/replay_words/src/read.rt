@@ -24,11 +24,11 @@ fn word(s: &[u8], at: usize) -> Word {
     if s.len() - 17 < at {
         return no_word();
     }
-    if hex::byte_at(s, at) != 32 {
+    if hexadecimal::byte_at(s, at) != 32 {
         return no_word();
     }
-    let hi = hex::hex8(s, at + 1);
-    let lo = hex::hex8(s, at + 9);
+    let hi = hexadecimal::hex8(s, at + 1);
+    let lo = hexadecimal::hex8(s, at + 9);
     if hi >= 4294967296 {
         return no_word();
     }
@@ -51,7 +51,7 @@ fn store(words: &mut [u64], at: usize, w: u64) {
 pub fn parse(line: &[u8], words: &mut [u64]) -> Line
     ensures { result.count ≤ length words.new }
 {
-    let call = hex::hex2(line, 0);
+    let call = hexadecimal::hex2(line, 0);
     if call >= 256 {
         return no_case();
     }

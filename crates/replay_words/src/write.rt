@@ -4,7 +4,7 @@ ghost use Rattle.std.specs.Prelude.{◌≤◌, length};
 fn put_byte(out: &mut [u8], at: usize, b: u8) -> usize
     ensures { result ≤ length out.new }
 {
-    hex::put_byte(out, at, b);
+    hexadecimal::put_byte(out, at, b);
     if at < out.len() {
         return at + 1;
     }
@@ -21,9 +21,9 @@ fn put_text(out: &mut [u8], at: usize, w: u64) -> usize
     if out.len() - 17 < at {
         return out.len();
     }
-    hex::put_byte(out, at, 32);
-    hex::put8(out, at + 1, w / 4294967296);
-    hex::put8(out, at + 9, w % 4294967296);
+    hexadecimal::put_byte(out, at, 32);
+    hexadecimal::put8(out, at + 1, w / 4294967296);
+    hexadecimal::put8(out, at + 9, w % 4294967296);
     at + 17
 }
 
@@ -36,7 +36,7 @@ fn put_call(out: &mut [u8], at: usize, call: u64) -> usize
     if out.len() - 2 < at {
         return out.len();
     }
-    hex::put2(out, at, call);
+    hexadecimal::put2(out, at, call);
     at + 2
 }
 

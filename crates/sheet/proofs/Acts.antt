@@ -11,7 +11,7 @@ use lib.ListN.{length, get_or, set}
 use lib.Seq.{set_comm, get_or-set_other}
 use lib.Dec.{leb, eqb}
 use borrow.Author.Tests.{le-leb, leb-true, eqb-true, eqb-false}
-use Rattle.hex.proofs.Choice.{cases}
+use Rattle.hexadecimal.proofs.Choice.{cases}
 use Rattle.exclusions.specs.Table.{added}
 use Rattle.exclusions.proofs.Insertion.{longer_added}
 use Rattle.sheet_lines.specs.declared.Head.{Head}

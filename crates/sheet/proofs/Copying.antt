@@ -6,7 +6,7 @@ use native.Mathlib.Nat.{zero-add, le_of_lt}
 use native.Mathlib.Numerals.{add-one}
 use lib.ListN.{length, get_or, take, set}
 use lib.Seq.{sets, take-suc, length-take-le}
-use Rattle.hex.proofs.Writing.{put_put}
+use Rattle.hexadecimal.proofs.Writing.{put_put}
 
 pub one_more : (from l m : List ℕ) (i : ℕ) → i < length from → m ≡ sets l 0 (take i from) → set m i (get_or from i 0) ≡ sets l 0 (take (i + 1) from)
 one_more from l m i h e =

@@ -4,7 +4,7 @@ use mathlib.Core.Path.{◌≡◌, refl, sym, ap, ◌∙◌}
 use mathlib.Core.Bool.{true, false, false≢true}
 use mathlib.Core.List.{List, [], ◌∷◌}
 use lib.Dec.{eqb}
-use Rattle.hex.proofs.Choice.{cases}
+use Rattle.hexadecimal.proofs.Choice.{cases}
 use Rattle.lists.specs.Lists.{ordered}
 use Rattle.exclusions.specs.Table.{before, same_pair, insert, added}
 use Rattle.exclusions.proofs.RowOrder.{pair_same, same_pair_lem, before_trans, before_other, after_other, turned}

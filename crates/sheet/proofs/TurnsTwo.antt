@@ -11,8 +11,8 @@ use lib.Seq.{sets}
 use lib.Dec.{ltb, eqb}
 use borrow.Author.Tests.{lt-ltb, le-ltb, ltb-true}
 use Rattle.lists.proofs.Cases.{by_test}
-use Rattle.hex.specs.Digits.{byte_at, hex2, hex4, hex8}
-use Rattle.hex.proofs.Writing.{put_put}
+use Rattle.hexadecimal.specs.Digits.{byte_at, hex2, hex4, hex8}
+use Rattle.hexadecimal.proofs.Writing.{put_put}
 use Rattle.sheet_lines.specs.Grammar.{WellFormed}
 use Rattle.sheet_lines.specs.Reading.{three_at, header_of, atom_of, exclusion_of}
 use Rattle.sheet_lines.specs.declared.Three.{Three}

@@ -1,5 +1,7 @@
 // The job sheet: its lines read in turn, and what they come to. specs/Read.antt says what `read` answers and leaves,
 // specs/Meaning.antt what a line does.
+#![tactic(auto)]
+
 use answer::Refusal;
 
 mod desk;

@@ -1,4 +1,6 @@
 // A job sheet's printed answer: the list of the sheet (module kernel), and the answer or the refusal written out.
+#![tactic(auto)]
+
 pub mod either;
 pub mod kernel;
 

@@ -1,4 +1,6 @@
 // A job sheet from standard input, its printed answer to standard output; in `rewriting` its written form, in `forms` a sheet of either form.
+#![tactic(auto)]
+
 pub mod forms;
 pub mod rewriting;
 

@@ -14,7 +14,7 @@ use Rattle.answer.specs.Seen.{Seen, answered, refused, refused_by}
 use Rattle.answer.specs.declared.Refusal.{Refusal}
 use Rattle.answer.specs.declared.Refusal.TheVariants.{Lengths}
 use Rattle.lists.proofs.Cases.{by_test, impossible}
-use Rattle.hex.proofs.Writing.{put_put}
+use Rattle.hexadecimal.proofs.Writing.{put_put}
 use Rattle.sheet_lines.specs.declared.Line.{Line}
 use Rattle.sheet_lines.specs.declared.Line.TheVariants.{Header, Atom, Exclusion, Malformed, End}
 use Rattle.sheet_lines_two.specs.declared.TwoLine.{TwoLine}

@@ -13,8 +13,8 @@ use Rattle.lists.proofs.Cases.{by_test, impossible}
 use Rattle.answer.specs.Seen.{Seen, answered, refused, refused_by}
 use Rattle.answer.specs.declared.Refusal.TheVariants.{Lengths}
 use Rattle.exclusions.specs.Table.{added}
-use Rattle.hex.specs.Digits.{byte_at, hex2, hex4, hex8}
-use Rattle.hex.proofs.Choice.{cases}
+use Rattle.hexadecimal.specs.Digits.{byte_at, hex2, hex4, hex8}
+use Rattle.hexadecimal.proofs.Choice.{cases}
 use Rattle.sheet_lines.specs.Grammar.{WellFormed, AllWellFormed, AllWhole, join_all}
 use Rattle.sheet_lines.specs.Reading.{three_at, header_of, atom_of, exclusion_of, line_at, line_width, lines_from, lines_of}
 use Rattle.sheet_lines.specs.declared.Head.{Head}

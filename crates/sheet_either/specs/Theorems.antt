@@ -3,7 +3,7 @@ use Rattle.std.specs.Prelude.{ℕ, ◌+◌, ◌≤◌, ◌<◌, ◌≡◌, lengt
 use mathlib.Core.List.{List, Perm}
 use Rattle.std.proofs.lemmas.List.Edits.{sets}
 use Rattle.answer.specs.Seen.{answered}
-use Rattle.hex.specs.Digits.{byte_at, hex2}
+use Rattle.hexadecimal.specs.Digits.{byte_at, hex2}
 use Rattle.sheet_lines.specs.Grammar.{AllWhole, join_all}
 use Rattle.sheet_lines.specs.Reading.{line_at}
 use Rattle.sheet_lines.specs.declared.Line.TheVariants.{Malformed}

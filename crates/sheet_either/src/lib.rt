@@ -1,5 +1,7 @@
 // A sheet of either form (02, No. 9 and 10): the first header or atom line says which. specs/Either.antt says what `read_either` answers
 // and leaves.
+#![tactic(auto)]
+
 ghost use Rattle.std.specs.Prelude.{◌≡◌, ◌≤◌, length, replicate};
 ghost use Rattle.std.proofs.lemmas.List.Edits.{sets};
 ghost use Rattle.sheet_lines_two.specs.Twos.{twos_of};

@@ -12,10 +12,10 @@ use lib.Seq.{get_or-append_seam, drop-cons, drop-length}
 use lib.Dec.{ltb}
 use borrow.Author.Tests.{lt-ltb, le-ltb, ltb-true, ltb-false}
 use Rattle.lists.proofs.Cases.{impossible}
-use Rattle.hex.specs.Digits.{byte_at}
-use Rattle.hex.specs.Glyphs.{Stands}
-use Rattle.hex.proofs.Choice.{cases}
-use Rattle.hex.proofs.Reading.{stands_split, stands_join}
+use Rattle.hexadecimal.specs.Digits.{byte_at}
+use Rattle.hexadecimal.specs.Glyphs.{Stands}
+use Rattle.hexadecimal.proofs.Choice.{cases}
+use Rattle.hexadecimal.proofs.Reading.{stands_split, stands_join}
 use Rattle.sheet_lines.specs.Grammar.{Unbroken, WholeLine, AllWhole, join_all}
 
 -- ---- bytes

@@ -6,8 +6,8 @@ use mathlib.Core.List.{List, [], ◌∷◌, ◌++◌}
 use native.Mathlib.Omega.{arith}
 use lib.ListN.{length}
 use lib.Dec.{ltb}
-use Rattle.hex.specs.Glyphs.{glyph_of, text2, text4, text8, Stands}
-use Rattle.hex.proofs.Choice.{cases}
+use Rattle.hexadecimal.specs.Glyphs.{glyph_of, text2, text4, text8, Stands}
+use Rattle.hexadecimal.proofs.Choice.{cases}
 use Rattle.sheet_lines.specs.Reading.{line_at, line_width, lines_from, lines_of}
 use Rattle.sheet_lines.specs.Grammar.{text888, line_text, Valid, sheet_text, AllValid, WellFormed, AllWellFormed, Unbroken, WholeLine, AllWhole, join_all}
 use Rattle.sheet_lines.specs.declared.Line.{Line}

@@ -10,9 +10,9 @@ use lib.ListN.{length, drop, length-append}
 use lib.Seq.{drop-cons, drop-append-add}
 use lib.Dec.{ltb, eqb}
 use borrow.Author.Tests.{lt-ltb, le-ltb}
-use Rattle.hex.specs.Digits.{byte_at, hex2, hex4, hex8}
-use Rattle.hex.specs.Glyphs.{Stands}
-use Rattle.hex.proofs.Reading.{stands_split}
+use Rattle.hexadecimal.specs.Digits.{byte_at, hex2, hex4, hex8}
+use Rattle.hexadecimal.specs.Glyphs.{Stands}
+use Rattle.hexadecimal.proofs.Reading.{stands_split}
 use Rattle.sheet_lines.specs.Reading.{three_at, header_of, atom_of, exclusion_of, line_at, line_width, lines_from}
 use Rattle.sheet_lines.specs.Grammar.{line_text, Valid, WellFormed, WholeLine, AllWhole, join_all}
 use Rattle.sheet_lines.specs.declared.Three.{Three}

@@ -1,6 +1,6 @@
 -- The grammar of a sheet (01, "Job sheet"): the bytes of each line, and a sheet as whole lines one after the other. Definitions only.
 use Rattle.std.specs.Prelude.{ℕ, ◌^◌, ◌<◌, ◌≡◌, List, [], ◌∷◌, ◌++◌}
-use Rattle.hex.specs.Glyphs.{text2, text4, text8}
+use Rattle.hexadecimal.specs.Glyphs.{text2, text4, text8}
 use Rattle.sheet_lines.specs.declared.Line.{Line}
 use Rattle.sheet_lines.specs.declared.Line.TheVariants.{Header, Atom, Exclusion, Malformed, End}
 

@@ -1,6 +1,6 @@
 -- The line that stands at a place of a sheet (01, "Job sheet"): which bytes are read as which line. Definitions only.
 use Rattle.std.specs.Prelude.{ℕ, zero, suc, ◌+◌, ◌^◌, cond, List, [], ◌∷◌, length, ltb, eqb}
-use Rattle.hex.specs.Digits.{byte_at, hex2, hex4, hex8}
+use Rattle.hexadecimal.specs.Digits.{byte_at, hex2, hex4, hex8}
 use Rattle.sheet_lines.specs.declared.Three.{Three}
 use Rattle.sheet_lines.specs.declared.Three.TheVariants.{Of, Nothing}
 use Rattle.sheet_lines.specs.declared.Line.{Line}

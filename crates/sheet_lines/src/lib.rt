@@ -1,8 +1,10 @@
 // One line of a job sheet: what stands at a place of the input.
+#![tactic(auto)]
+
 ghost use Rattle.std.specs.Prelude.{◌≡◌, ◌+◌, ◌<◌, ◌^◌};
 ghost use Rattle.sheet_lines.specs.Reading.{three_of, three_at, header_of, atom_of, exclusion_of, line_at, line_width};
 
-use hex::{byte_at, hex2, hex4, hex8};
+use hexadecimal::{byte_at, hex2, hex4, hex8};
 
 // The header's numbers, as they stand: the mask has x at bit 0.
 #[derive(Drop)]

@@ -7,10 +7,10 @@ use native.Mathlib.Omega.{arith}
 use lib.ListN.{length, length-append}
 use lib.Dec.{ltb, eqb}
 use borrow.Author.Tests.{lt-ltb, ltb-true, ne_eqb, eqb-true}
-use Rattle.hex.specs.Digits.{byte_at, hex2, hex4, hex8}
-use Rattle.hex.specs.Glyphs.{text2, text4, text8, Stands}
-use Rattle.hex.proofs.Writing.{length2, length4, length8}
-use Rattle.hex.proofs.Reading.{stands_split, stands_join, hex2_text, text_hex2, hex4_text, text_hex4, hex8_text, text_hex8, in_range}
+use Rattle.hexadecimal.specs.Digits.{byte_at, hex2, hex4, hex8}
+use Rattle.hexadecimal.specs.Glyphs.{text2, text4, text8, Stands}
+use Rattle.hexadecimal.proofs.Writing.{length2, length4, length8}
+use Rattle.hexadecimal.proofs.Reading.{stands_split, stands_join, hex2_text, text_hex2, hex4_text, text_hex4, hex8_text, text_hex8, in_range}
 use Rattle.sheet_lines.specs.Reading.{three_at, header_of, atom_of, exclusion_of}
 use Rattle.sheet_lines.specs.Grammar.{text888, line_text, Valid}
 use Rattle.sheet_lines.specs.declared.Head.{Head}

@@ -1,6 +1,6 @@
 -- The grammar of the second form (02, No. 9 and 10): the bytes of each line, and a sheet as whole lines one after the other. Definitions only.
 use Rattle.std.specs.Prelude.{ℕ, ◌^◌, ◌<◌, ◌≡◌, cond, List, [], ◌∷◌, ◌++◌, eqb}
-use Rattle.hex.specs.Glyphs.{text2, text4, text8}
+use Rattle.hexadecimal.specs.Glyphs.{text2, text4, text8}
 use Rattle.sheet_lines.specs.Grammar.{text888, line_text, Valid, WellFormed}
 use Rattle.sheet_lines.specs.declared.Head.{Head}
 use Rattle.sheet_lines.specs.declared.Line.{Line}

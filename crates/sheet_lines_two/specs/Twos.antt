@@ -2,7 +2,7 @@
 -- No. 10: "a digit pair, 01 or 02, at the end of its header; a header without it still reads as rule 1").
 -- A line is what it says in the first form, and one number more: an atom's species, or a header's digit pair, 0 where none is written. Definitions only.
 use Rattle.std.specs.Prelude.{ℕ, zero, suc, ◌+◌, ◌^◌, Bool, true, false, cond, List, [], ◌∷◌, length, ltb, eqb}
-use Rattle.hex.specs.Digits.{byte_at, hex2, hex4, hex8}
+use Rattle.hexadecimal.specs.Digits.{byte_at, hex2, hex4, hex8}
 use Rattle.sheet_lines.specs.Reading.{three_at, header_of, atom_of, exclusion_of}
 use Rattle.sheet_lines.specs.declared.Head.{Head}
 use Rattle.sheet_lines.specs.declared.Line.{Line}

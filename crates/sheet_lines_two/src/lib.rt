@@ -1,10 +1,12 @@
 // One line of a job sheet of the second form (02, No. 9 and 10): header 11, with a rule at its end or without, atom 12 with a species
 // at its end, exclusion 03. A line is what it says in the first form, with that one number more beside it, so that what it does is said
 // once for both forms.
+#![tactic(auto)]
+
 ghost use Rattle.std.specs.Prelude.{◌≡◌, ◌+◌, ◌<◌, ◌^◌};
 ghost use Rattle.sheet_lines_two.specs.Twos.{plain_two, typed_two, ruled_two, header_two, two_at, head_wide, wide_two, width_two, rule_of, ruled_head, kind_of, told_of};
 
-use hex::{byte_at, hex2, hex4, hex8};
+use hexadecimal::{byte_at, hex2, hex4, hex8};
 use sheet_lines::{Head, Line, atom_of, exclusion_of, header_of, three_of};
 
 // `extra`: an atom's species; a header's rule as it is written, 1 or 2, and 0 where none is; else 0.

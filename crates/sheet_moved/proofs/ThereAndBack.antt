@@ -18,7 +18,7 @@ use Rattle.answer.specs.declared.Refusal.TheVariants.{Lengths, Range}
 use Rattle.lists.specs.Lists.{rows, flat}
 use Rattle.lists.proofs.Cases.{by_test, impossible}
 use Rattle.frame.specs.Build.{ranges_ok}
-use Rattle.hex.proofs.Choice.{cases}
+use Rattle.hexadecimal.proofs.Choice.{cases}
 use Rattle.sheet.specs.Reading.{lead_of, Sound, sheet_of}
 use Rattle.sheet.specs.Read as reading
 use Rattle.sheet.specs.ReadTwo.{SoundTwo, sheet_two, OutcomeTwo, handed_two, read_two_of}

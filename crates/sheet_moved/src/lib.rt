@@ -1,4 +1,6 @@
 // A sheet moved from one form to the other (02, No. 9 and 10), as it is written. specs/Moved.antt says which bytes.
+#![tactic(auto)]
+
 ghost use Rattle.std.specs.Prelude.{◌≡◌};
 ghost use Rattle.sheet.specs.Reading.{lead_of};
 ghost use Rattle.sheet_moved.specs.Moved.{wrote_as, ToOneSays, ToTwoSays};

@@ -10,7 +10,7 @@ use native.Mathlib.Nat.{le_of_lt}
 use lib.Seq.{sets, take-suc, take_all, length-take-le}
 use Rattle.lists.specs.Lists.{each, rows}
 use Rattle.lists.proofs.Rows.{length_rows, rows_at}
-use Rattle.hex.proofs.Writing.{length2, length4, length8, put_put}
+use Rattle.hexadecimal.proofs.Writing.{length2, length4, length8, put_put}
 use Rattle.sheet_printed.specs.Printed.{count_line, pair_line, refusal_line, pair_lines, built_text}
 
 -- a line of three or of four numbers, and its newline

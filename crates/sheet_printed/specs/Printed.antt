@@ -1,7 +1,7 @@
 -- What the program prints, in bytes (01, "Job sheet", "Output"). Definitions only.
 use Rattle.std.specs.Prelude.{ℕ, Bool, cond, List, [], ◌∷◌, ◌++◌}
 use Rattle.lists.specs.Lists.{each}
-use Rattle.hex.specs.Glyphs.{text2, text4, text8}
+use Rattle.hexadecimal.specs.Glyphs.{text2, text4, text8}
 
 abbrev pub flag_of : Bool → ℕ
 flag_of on = cond on 1 0

@@ -1,10 +1,12 @@
 // What the program prints for a sheet, written into a lent buffer. What lies past the buffer's end is not written.
+#![tactic(auto)]
+
 ghost use Rattle.std.specs.Prelude.{◌≡◌, ◌*◌, ◌≤◌, length, take};
 ghost use Rattle.std.proofs.lemmas.List.Edits.{sets};
 ghost use Rattle.lists.specs.Lists.{rows};
 ghost use Rattle.sheet_printed.specs.Printed.{count_line, pair_line, refusal_line, flag_of, pair_lines, built_text};
 
-use hex::{put_byte, put2, put4, put8};
+use hexadecimal::{put_byte, put2, put4, put8};
 
 // 8f, the refusal's number and its place; how many bytes that is.
 pub fn put_refusal(out: &mut [u8], number: u64, place: u64) -> usize

@@ -1,5 +1,7 @@
 // A sheet's written form: the sheet is read, and written anew from what was read. specs/Rewrite.antt says which bytes, specs/Theorems.antt
 // that sheets of equal meaning, and these alone, have one written form.
+#![tactic(auto)]
+
 ghost use Rattle.std.specs.Prelude.{◌≡◌, ◌*◌, ◌≤◌, length, take};
 ghost use Rattle.std.proofs.lemmas.List.Edits.{sets};
 ghost use Rattle.answer.specs.Seen.{number_of, place_of};

@@ -24,7 +24,7 @@ use Rattle.frame.specs.Steps.{Framed}
 use Rattle.frame.proofs.Ranges.{ranges_framed}
 use Rattle.exclusions.specs.Table.{before, is_table, insert, added}
 use Rattle.exclusions.proofs.Search.{tail_table, ascending}
-use Rattle.hex.proofs.Writing.{sets_append}
+use Rattle.hexadecimal.proofs.Writing.{sets_append}
 use Rattle.sheet_lines.specs.declared.Head.{Head}
 use Rattle.sheet_lines.specs.declared.Line.{Line}
 use Rattle.sheet_lines.specs.declared.Line.TheVariants.{Header, Atom, Exclusion, Malformed, End}

@@ -10,8 +10,8 @@ use Rattle.lists.specs.Lists.{numbers, up_to, rows}
 use Rattle.lists.proofs.Exactness.{length_up_to}
 use Rattle.lists.proofs.Walks.{numbers_next, numbers_end, drop_next, drop_past}
 use Rattle.lists.proofs.Rows.{length_rows, rows_at}
-use Rattle.hex.specs.Glyphs.{text2, text4, text8}
-use Rattle.hex.proofs.Writing.{length2, length4, length8, sets_append, put_put}
+use Rattle.hexadecimal.specs.Glyphs.{text2, text4, text8}
+use Rattle.hexadecimal.proofs.Writing.{length2, length4, length8, sets_append, put_put}
 use Rattle.sheet_lines.specs.Reading.{line_width}
 use Rattle.sheet_lines.specs.Grammar.{text888, line_text, sheet_text}
 use Rattle.sheet_lines.specs.declared.Head.{Head}

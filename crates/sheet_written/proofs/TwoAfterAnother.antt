@@ -17,8 +17,8 @@ use Rattle.lists.proofs.Exactness.{length_up_to}
 use Rattle.lists.proofs.Walks.{numbers_next, numbers_end}
 use Rattle.lists.proofs.Rows.{length_rows}
 use Rattle.frame.specs.declared.Frame.{Frame}
-use Rattle.hex.specs.Glyphs.{text2, text4, text8}
-use Rattle.hex.proofs.Writing.{length2, length4, length8, put_put}
+use Rattle.hexadecimal.specs.Glyphs.{text2, text4, text8}
+use Rattle.hexadecimal.proofs.Writing.{length2, length4, length8, put_put}
 use Rattle.sheet_lines.specs.Grammar.{text888, line_text, sheet_text}
 use Rattle.sheet_lines.specs.declared.Head.{Head}
 use Rattle.sheet_lines.specs.declared.Line.{Line}

@@ -1,5 +1,7 @@
 // A sheet from a whole-number frame: its one written form. specs/Written.antt says which bytes, specs/Write.antt what `write`
 // answers and leaves, specs/Theorems.antt that `read` gives back what was written.
+#![tactic(auto)]
+
 use answer::{Done, Refusal, Whole};
 use frame::Frame;
 use sheet_lines::Head;

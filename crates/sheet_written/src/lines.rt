@@ -6,7 +6,7 @@ ghost use Rattle.sheet_lines.specs.Grammar.{text888, line_text, sheet_text};
 ghost use Rattle.sheet_lines.specs.declared.Line.TheVariants.{Header, Atom, Exclusion};
 ghost use Rattle.sheet_written.specs.Written.{atom_lines, row_line};
 
-use hex::{put_byte, put2, put4, put8};
+use hexadecimal::{put_byte, put2, put4, put8};
 use sheet_lines::Head;
 
 // Three numbers of eight digits.

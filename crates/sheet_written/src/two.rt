@@ -12,7 +12,7 @@ use crate::head_of;
 use crate::lines::{put_rows, put888};
 use answer::{Done, Refusal, Whole};
 use frame::Frame;
-use hex::{put_byte, put2, put4, put8};
+use hexadecimal::{put_byte, put2, put4, put8};
 use sheet_lines::Head;
 
 fn put_header_two(out: &mut [u8], h: Head)

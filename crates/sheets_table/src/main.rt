@@ -1,6 +1,8 @@
 // A table of job sheets, each after a letter and its length (eight hexadecimal digits and a newline): p is answered as `pairs` would, r as `rewrite`, c as
 // `clumps`, and f, of either form, as `pairs_either`, `to_two` and `to_one`, one after the other.
-use hex::hex8;
+#![tactic(auto)]
+
+use hexadecimal::hex8;
 use libc::STDIN_FILENO;
 use sheet_console::forms::{print_either, print_one, print_two};
 use sheet_console::print;

@@ -1,5 +1,7 @@
 // How many pairs sit at each distance, over any number of whole-number frames: the list of a frame is built, and each listed pair is added to the shell
 // of its squared distance. specs/Shells.antt says what a call answers and leaves in what is lent, specs/Theorems.antt what a run of calls counts.
+#![tactic(auto)]
+
 use answer::Refusal;
 use frame::{Built, Frame};
 

@@ -1,5 +1,7 @@
 // Why the skin is enough. A list that was built at cutoff plus skin is kept while no atom has left its half of the skin: `within_skin` asks that,
 // exactly; specs/Theorems.antt says that a kept list misses no pair within the cutoff, and by which laws of lengths.
+#![tactic(auto)]
+
 ghost use Rattle.std.specs.Prelude.{◌≡◌, true, ◌&&◌, ◌*◌, ◌/◌, ◌<◌, length};
 ghost use Rattle.lists.specs.Lists.{up_to, every};
 ghost use Rattle.frame.specs.Distance.{spot_of, squared_of, frame_ok, spot_ok};

@@ -1,6 +1,8 @@
 // Atoms struck from a running melt, and put into it (02, No. 11): positions, velocities, masses, charges and species close up together, with everything that
 // names them. In place: what lies past the new counts stays as it came. specs/Calls.antt says what both calls answer and leave, specs/Theorems.antt what that
 // means.
+#![tactic(auto)]
+
 use answer::{Done, Refusal};
 use cell::Vec3;
 use neighbor::State;
@@ -37,7 +39,7 @@ pub struct Struck {
 
 // One atom with all its numbers.
 #[repr(C)]
-#[derive(Drop)]
+#[derive(Clone, Copy)]
 pub struct NewAtom {
     pub position: Vec3,
     pub velocity: Vec3,

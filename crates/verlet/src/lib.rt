@@ -1,5 +1,7 @@
 // Kinetic energy, temperature and the Berendsen thermostat (verlet.rs), and the parts of a step. Every public call tests its
 // arguments; specs/Calls.antt says what each answers and leaves.
+#![tactic(auto)]
+
 ghost use Rattle.verlet.specs.Calls.{KineticEnergySays, TemperatureSays, BerendsenSays};
 
 use answer::{Done, Number, Refusal};
@@ -10,7 +12,7 @@ pub mod moves;
 pub mod ranged;
 
 // The Rust's `Option<Berendsen>`.
-#[derive(Drop)]
+#[derive(Clone, Copy)]
 pub enum Thermostat {
     Absent,
     Present { target_k: f64, tau_fs: f64 },

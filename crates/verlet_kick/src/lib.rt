@@ -1,5 +1,7 @@
 // The end of a step: half a kick by the new forces, and the new potential. Total, no public call: a crate of its own, so that wrong programs of it are tried
 // without the step around them.
+#![tactic(auto)]
+
 ghost use Rattle.std.specs.Prelude.{◌≡◌};
 ghost use Rattle.verlet_kick.specs.Kick.{second_kick, second_kick_after};
 

@@ -1,5 +1,7 @@
 // One step of velocity Verlet and the call that finishes a stopped one (verlet.rs, `verlet_step`): the loops of `verlet` with the evaluation between them.
 // specs/Calls.antt says what both answer and leave; `kernel` has the work without the tests and without the thermostat, for the crates above.
+#![tactic(auto)]
+
 use answer::Done;
 use evaluate::Setting;
 use neighbor::State;
@@ -13,7 +15,7 @@ ghost use Rattle.potentials_pair.specs.Species.{tables};
 ghost use Rattle.verlet_step.specs.Calls.{motion_of, StepSays, FinishSays, StepLists};
 
 // How a step goes on in time.
-#[derive(Drop)]
+#[derive(Clone, Copy)]
 pub struct Pace {
     pub dt: f64,
     pub thermostat: Thermostat,
@@ -21,7 +23,7 @@ pub struct Pace {
 
 // A step, or why not; whether a 7 or 8 stopped it after the drift; whether the list was built anew; the list's state and the potential, which come back in
 // every case. Positions, velocities and forces stand in what the caller lends.
-#[derive(Drop)]
+#[derive(Clone, Copy)]
 pub struct Stepped {
     pub done: Done,
     pub stopped: bool,

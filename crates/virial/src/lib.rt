@@ -1,5 +1,7 @@
 // Energy, force and virial bundles, and the pressures that they feed (virial.rs). Every public call tests its arguments;
 // specs/Calls.antt says what each answers and leaves.
+#![tactic(auto)]
+
 ghost use Rattle.virial.specs.Calls.{ZerosSays, MergeSays, AddPairForceSays, VirialFromPairSays, ScalarVirialSays, PressureSays, PressureTensorSays, ToGpaSays};
 
 use answer::{Done, Number, Refusal};
@@ -11,7 +13,7 @@ mod tensors;
 
 // Energy, and the virial row by row. (The Rust's `Contribution`; its forces are a lent slice, three floats an atom.)
 #[repr(C)]
-#[derive(Drop)]
+#[derive(Clone, Copy)]
 pub struct Sum {
     pub energy: f64,
     pub xx: f64,
@@ -27,7 +29,7 @@ pub struct Sum {
 
 // The unit constants, which the caller supplies.
 #[repr(C)]
-#[derive(Drop)]
+#[derive(Clone, Copy)]
 pub struct Units {
     pub force_to_accel: f64,
     pub kb_ev_per_k: f64,

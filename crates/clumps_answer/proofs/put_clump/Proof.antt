@@ -1,6 +1,6 @@
 use Rattle.clumps_answer.specs.Clumps.{clump_line}
-use Rattle.hex.proofs.Writing.{length2, length4}
-use Rattle.hex.specs.Glyphs.{text2, text4}
+use Rattle.hexadecimal.proofs.Writing.{length2, length4}
+use Rattle.hexadecimal.specs.Glyphs.{text2, text4}
 use Rattle.sheet_printed.proofs.Parts.{three_parts}
 use borrow.Author.Rules.{rules}
 use Rattle.clumps_answer.proofs.put_clump.Statement.{statement}

@@ -7,10 +7,10 @@ use Rattle.sheet_lines_two.proofs.two_at.Statement.{statement}
 use Rattle.sheet_lines_two.proofs.two_at.Tie as tie
 use Rattle.sheet_lines_two.proofs.two_at.Reads as reads
 use Rattle.sheet_lines_two.proofs.two_at.Lts as lts
-use Rattle.hex.proofs.byte_at.Reads as byte-at-reads
-use Rattle.hex.proofs.hex2.Reads as hex2-reads
-use Rattle.hex.proofs.hex4.Reads as hex4-reads
-use Rattle.hex.proofs.hex8.Reads as hex8-reads
+use Rattle.hexadecimal.proofs.byte_at.Reads as byte-at-reads
+use Rattle.hexadecimal.proofs.hex2.Reads as hex2-reads
+use Rattle.hexadecimal.proofs.hex4.Reads as hex4-reads
+use Rattle.hexadecimal.proofs.hex8.Reads as hex8-reads
 use Rattle.sheet_lines.proofs.atom_of.Reads as atom-of-reads
 use Rattle.sheet_lines.proofs.exclusion_of.Reads as exclusion-of-reads
 use Rattle.sheet_lines.proofs.three_of.Reads as three-of-reads

@@ -1,5 +1,5 @@
-use Rattle.hex.proofs.Writing.{length2, length4}
-use Rattle.hex.specs.Glyphs.{text2, text4}
+use Rattle.hexadecimal.proofs.Writing.{length2, length4}
+use Rattle.hexadecimal.specs.Glyphs.{text2, text4}
 use Rattle.sheet_printed.proofs.Parts.{three_parts}
 use Rattle.sheet_printed.specs.Printed.{pair_line}
 use borrow.Author.Rules.{rules}

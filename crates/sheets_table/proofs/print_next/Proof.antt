@@ -5,7 +5,7 @@ use Rattle.sheets_table.proofs.print_next.Statement.{statement}
 use Rattle.sheets_table.proofs.print_next.Tie as tie
 use Rattle.sheets_table.proofs.print_next.Reads as reads
 use Rattle.sheets_table.proofs.print_next.Lts as lts
-use Rattle.hex.proofs.hex8.Reads as hex8-reads
+use Rattle.hexadecimal.proofs.hex8.Reads as hex8-reads
 use Rattle.sheets_table.proofs.letter_of.Reads as letter-of-reads
 use Rattle.sheets_table.proofs.read_and_print.Reads as read-and-print-reads
 

@@ -4,7 +4,7 @@ use Rattle.sheet_written.proofs.lines.put888.Statement.{statement}
 use Rattle.sheet_written.proofs.lines.put888.Tie as tie
 use Rattle.sheet_written.proofs.lines.put888.Reads as reads
 use Rattle.sheet_written.proofs.lines.put888.Lts as lts
-use Rattle.hex.proofs.put8.Reads as put8-reads
+use Rattle.hexadecimal.proofs.put8.Reads as put8-reads
 
 -- src/lines.rt:22:5
 put8-requires : tie.Need-put8-requires

@@ -1,5 +1,5 @@
-use Rattle.hex.proofs.Writing.{length2, length4}
-use Rattle.hex.specs.Glyphs.{text2, text4}
+use Rattle.hexadecimal.proofs.Writing.{length2, length4}
+use Rattle.hexadecimal.specs.Glyphs.{text2, text4}
 use Rattle.sheet_lines.specs.Grammar.{line_text, text888}
 use Rattle.sheet_printed.proofs.Parts.{three_parts}
 use Rattle.sheet_written.proofs.OneAfterAnother.{long888}
@@ -8,9 +8,9 @@ use Rattle.sheet_written.proofs.lines.put_atom.Statement.{statement}
 use Rattle.sheet_written.proofs.lines.put_atom.Tie as tie
 use Rattle.sheet_written.proofs.lines.put_atom.Reads as reads
 use Rattle.sheet_written.proofs.lines.put_atom.Lts as lts
-use Rattle.hex.proofs.put2.Reads as put2-reads
-use Rattle.hex.proofs.put4.Reads as put4-reads
-use Rattle.hex.proofs.put_byte.Reads as put-byte-reads
+use Rattle.hexadecimal.proofs.put2.Reads as put2-reads
+use Rattle.hexadecimal.proofs.put4.Reads as put4-reads
+use Rattle.hexadecimal.proofs.put_byte.Reads as put-byte-reads
 use Rattle.sheet_written.proofs.lines.put888.Reads as put888-reads
 
 -- src/lines.rt:42:5

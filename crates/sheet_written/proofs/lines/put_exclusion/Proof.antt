@@ -1,5 +1,5 @@
-use Rattle.hex.proofs.Writing.{length2, length4}
-use Rattle.hex.specs.Glyphs.{text2, text4}
+use Rattle.hexadecimal.proofs.Writing.{length2, length4}
+use Rattle.hexadecimal.specs.Glyphs.{text2, text4}
 use Rattle.sheet_lines.specs.Grammar.{line_text}
 use Rattle.sheet_printed.proofs.Parts.{three_parts}
 use borrow.Author.Rules.{rules}
@@ -7,9 +7,9 @@ use Rattle.sheet_written.proofs.lines.put_exclusion.Statement.{statement}
 use Rattle.sheet_written.proofs.lines.put_exclusion.Tie as tie
 use Rattle.sheet_written.proofs.lines.put_exclusion.Reads as reads
 use Rattle.sheet_written.proofs.lines.put_exclusion.Lts as lts
-use Rattle.hex.proofs.put2.Reads as put2-reads
-use Rattle.hex.proofs.put4.Reads as put4-reads
-use Rattle.hex.proofs.put_byte.Reads as put-byte-reads
+use Rattle.hexadecimal.proofs.put2.Reads as put2-reads
+use Rattle.hexadecimal.proofs.put4.Reads as put4-reads
+use Rattle.hexadecimal.proofs.put_byte.Reads as put-byte-reads
 
 -- src/lines.rt:52:5
 put2-requires : tie.Need-put2-requires

@@ -4,10 +4,10 @@ use Rattle.sheet_written.proofs.lines.put_header.Statement.{statement}
 use Rattle.sheet_written.proofs.lines.put_header.Tie as tie
 use Rattle.sheet_written.proofs.lines.put_header.Reads as reads
 use Rattle.sheet_written.proofs.lines.put_header.Lts as lts
-use Rattle.hex.proofs.put2.Reads as put2-reads
-use Rattle.hex.proofs.put4.Reads as put4-reads
-use Rattle.hex.proofs.put8.Reads as put8-reads
-use Rattle.hex.proofs.put_byte.Reads as put-byte-reads
+use Rattle.hexadecimal.proofs.put2.Reads as put2-reads
+use Rattle.hexadecimal.proofs.put4.Reads as put4-reads
+use Rattle.hexadecimal.proofs.put8.Reads as put8-reads
+use Rattle.hexadecimal.proofs.put_byte.Reads as put-byte-reads
 use Rattle.sheet_written.proofs.lines.put888.Reads as put888-reads
 
 -- src/lines.rt:30:5

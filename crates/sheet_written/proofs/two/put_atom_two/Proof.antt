@@ -4,10 +4,10 @@ use Rattle.sheet_written.proofs.two.put_atom_two.Statement.{statement}
 use Rattle.sheet_written.proofs.two.put_atom_two.Tie as tie
 use Rattle.sheet_written.proofs.two.put_atom_two.Reads as reads
 use Rattle.sheet_written.proofs.two.put_atom_two.Lts as lts
-use Rattle.hex.proofs.put2.Reads as put2-reads
-use Rattle.hex.proofs.put4.Reads as put4-reads
-use Rattle.hex.proofs.put8.Reads as put8-reads
-use Rattle.hex.proofs.put_byte.Reads as put-byte-reads
+use Rattle.hexadecimal.proofs.put2.Reads as put2-reads
+use Rattle.hexadecimal.proofs.put4.Reads as put4-reads
+use Rattle.hexadecimal.proofs.put8.Reads as put8-reads
+use Rattle.hexadecimal.proofs.put_byte.Reads as put-byte-reads
 use Rattle.sheet_written.proofs.lines.put888.Reads as put888-reads
 
 put2-requires : tie.Need-put2-requires

@@ -1,0 +1,20 @@
+use Prim.Native.Nat.{◌-◌, ◌/◌}
+use Rattle.candidates.proofs.Turns.{Counting, count_begin, count_step, count_end}
+use Rattle.candidates.specs.Checks.{there, rows_below}
+use borrow.Author.Rules.{rules}
+use lib.ListN.{length}
+use native.Mathlib.Omega.{arith}
+use Rattle.candidates.proofs.kernel.rows_below.Goals as goal
+
+pub loop-k-init : goal.loop-k-init
+loop-k-init c = count_begin
+
+pub overflow_add-count : goal.overflow_add-count
+overflow_add-count c = omega (arith, c.one-count.ensures.upper_bound, c.loop-k.invariant.few, c.loop-k.invariant.most)
+
+pub loop-k-preserved : goal.loop-k-preserved
+loop-k-preserved c = count_step c.loop-k.invariant c.loop-k-test.true c.is_there.ensures c.one-count.ensures.value c.one-count.ensures.upper_bound
+
+pub returns : goal.returns
+unfolding rows_below
+returns c = count_end c.loop-k.invariant c.loop-k-test.false

@@ -1,0 +1,13 @@
+use Prim.Native.Nat.{◌-◌, ◌/◌}
+use Rattle.candidates.proofs.Turns.{Counting, count_begin, count_step, count_end}
+use Rattle.candidates.specs.Checks.{there, rows_below}
+use borrow.Author.Rules.{rules}
+use lib.ListN.{length}
+use native.Mathlib.Omega.{arith}
+use Rattle.candidates.proofs.kernel.rows_below.Given as goal
+
+abbrev pub invariant-loop-k : goal.invariant-loop-k
+invariant-loop-k l = Counting (there l.n) l.table l.count l.k
+
+abbrev pub decreases-loop-k : goal.decreases-loop-k
+decreases-loop-k l = length l.table / 2 - l.k

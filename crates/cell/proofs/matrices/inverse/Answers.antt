@@ -1,0 +1,7 @@
+use Rattle.cell.specs.Matrix.{inverse_of}
+use borrow.Author.Rules.{rules}
+use Rattle.cell.proofs.matrices.inverse.Goals as goal
+
+pub returns : goal.returns
+unfolding inverse_of
+returns c = cc

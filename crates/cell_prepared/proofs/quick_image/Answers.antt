@@ -1,0 +1,7 @@
+use Rattle.cell_prepared.specs.Facts.{image_in}
+use borrow.Author.Rules.{rules}
+use Rattle.cell_prepared.proofs.quick_image.Goals as goal
+
+pub returns : goal.returns
+unfolding image_in
+returns c = simp (c.quick_diff.ensures, c.boxes_by-counts.ensures)

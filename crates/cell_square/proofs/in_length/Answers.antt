@@ -1,0 +1,5 @@
+use borrow.Author.Rules.{rules}
+use Rattle.cell_square.proofs.in_length.Goals as goal
+
+pub returns : goal.returns
+returns c = rw c.magnitude.ensures

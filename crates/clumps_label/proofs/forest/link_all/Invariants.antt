@@ -1,0 +1,19 @@
+use Prim.Native.Nat.{◌≤◌, ◌-◌, ◌/◌, ℕ}
+use Rattle.clumps_label.proofs.Trees.{moved_none, moved_row, row_there}
+use Rattle.clumps_label.specs.Label.{linked}
+use Rattle.clumps_label.specs.Steps.{Moved}
+use Rattle.lists.proofs.Rows.{length_rows, rows_at}
+use Rattle.lists.specs.Lists.{rows}
+use borrow.Author.Rules.{rules}
+use lib.ListN.{length, take}
+use lib.Seq.{take_all}
+use mathlib.Core.List.{List, foldl}
+use mathlib.Core.Path.{◌≡◌, subst}
+use native.Mathlib.Omega.{arith}
+use Rattle.clumps_label.proofs.forest.link_all.Given as goal
+
+abbrev pub invariant-loop-k : goal.invariant-loop-k
+invariant-loop-k l = (l.k ≤ length l.pairs / 2) × Moved (λ f. foldl linked f (take l.k (rows l.pairs))) l.initial.p l.p
+
+abbrev pub decreases-loop-k : goal.decreases-loop-k
+decreases-loop-k l = l.m - l.k

@@ -1,0 +1,13 @@
+use Prim.Native.Nat.{ℕ, ◌≤◌, ◌<◌, ◌-◌}
+use Rattle.clumps_label.proofs.Trees.{planting, all_planted}
+use borrow.Author.Rules.{rules}
+use lib.ListN.{length, get_or, length-set}
+use mathlib.Core.Path.{◌≡◌, refl}
+use native.Mathlib.Omega.{arith}
+use Rattle.clumps_label.proofs.forest.plant.Given as goal
+
+abbrev pub invariant-loop-i : goal.invariant-loop-i
+invariant-loop-i l = (l.i ≤ length l.p) × (length l.p ≡ length l.initial.p) × ((j : ℕ) → j < l.i → get_or l.p j 0 ≡ j)
+
+abbrev pub decreases-loop-i : goal.decreases-loop-i
+decreases-loop-i l = length l.p - l.i

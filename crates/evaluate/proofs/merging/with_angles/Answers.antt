@@ -1,0 +1,10 @@
+use Rattle.evaluate.proofs.Folding.{merged_one, merged_none}
+use Rattle.evaluate.specs.Terms.{angle_gives}
+use borrow.Author.Rules.{rules}
+use Rattle.evaluate.proofs.merging.with_angles.Goals as goal
+
+pub returns-in_default : goal.returns-in_default
+returns-in_default c = unfold angle_gives in rw c.in_default.is (merged_none _)
+
+pub returns : goal.returns
+returns c = unfold angle_gives in rw c.in-Present.is (merged_one _ c.angles_all-own.ensures c.merge.ensures)

@@ -1,0 +1,8 @@
+use Rattle.exclusions.proofs.Search.{all_taken}
+use Rattle.exclusions.specs.Table.{is_table}
+use borrow.Author.Rules.{rules}
+use mathlib.Core.Path.{◌∙◌, ap}
+use Rattle.exclusions.proofs.kernel.is_table.Goals as goal
+
+pub returns : goal.returns
+returns c = c.is_table.ensures ∙ ap is_table (all_taken c.args.table.now)

@@ -1,0 +1,11 @@
+use Rattle.fire.specs.Steps.{paced_after}
+use borrow.Author.Rules.{rules}
+use Rattle.fire.proofs.kernel.pace.Goals as goal
+
+pub returns-in-Refused : goal.returns-in-Refused
+unfolding paced_after
+returns-in-Refused c = rw (c.stage_of.ensures, c.in-Refused.is) (rw (← c.in-Refused.is))
+
+pub returns : goal.returns
+unfolding paced_after
+returns c = rw (c.stage_of-2.ensures, c.largest-m.ensures, c.in_default.is, ← c.steer-next.ensures) (rw (← c.in_default.is))

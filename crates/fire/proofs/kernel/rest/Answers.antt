@@ -1,0 +1,11 @@
+use Rattle.fire.specs.Steps.{paced_first}
+use borrow.Author.Rules.{rules}
+use Rattle.fire.proofs.kernel.rest.Goals as goal
+
+pub returns-in-Refused : goal.returns-in-Refused
+unfolding paced_first
+returns-in-Refused c = rw (c.stage_of.ensures, c.first_step-last.ensures, c.fresh-gait.ensures, c.in-Refused.is) (rw (← c.in-Refused.is))
+
+pub returns : goal.returns
+unfolding paced_first
+returns c = rw (c.stage_of-2.ensures, c.largest-m.ensures, c.clear.ensures, c.first_step-last.ensures, c.fresh-gait.ensures, c.in_default.is) (rw (← c.in_default.is))

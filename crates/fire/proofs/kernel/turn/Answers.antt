@@ -1,0 +1,9 @@
+use Rattle.fire.proofs.Turns.{turned_by_lem}
+use borrow.Author.Rules.{rules}
+use Rattle.fire.proofs.kernel.turn.Goals as goal
+
+pub pace-requires : goal.pace-requires
+pace-requires c = c.requires
+
+pub returns : goal.returns
+returns c = turned_by_lem c.args.dt_max c.args.s _ _ _ _ _ _ _ _ c.advance-r.ensures c.pace.ensures

@@ -1,0 +1,20 @@
+use Prim.Native.Nat.{◌≤◌, ◌-◌}
+use Rattle.fire.specs.Steer.{larger_at, largest_force}
+use Rattle.float.specs.Literals.{f0}
+use Rattle.lists.proofs.Loops.{fold_up_to_none, fold_up_to_turn}
+use Rattle.lists.specs.Loops.{fold_up_to}
+use borrow.Author.Rules.{rules}
+use lib.ListN.{length}
+use mathlib.Core.Path.{◌≡◌, sym}
+use native.Mathlib.Omega.{arith}
+use Rattle.fire.proofs.steer.largest.Goals as goal
+
+pub loop-k-init : goal.loop-k-init
+loop-k-init c = (search rules, sym (fold_up_to_none _ _))
+
+pub loop-k-preserved : goal.loop-k-preserved
+loop-k-preserved c = (search rules, fold_up_to_turn _ c.loop-k.k _ c.loop-k.invariant.1 (rw (c.max-m.ensures, c.abs.ensures)))
+
+pub returns : goal.returns
+unfolding largest_force
+returns c = let e : c.loop-k.k ≡ length c.args.fs.now = omega arith in rw (← e) c.loop-k.invariant.1

@@ -1,0 +1,7 @@
+use Rattle.fire.specs.Steer.{pull_norm}
+use borrow.Author.Rules.{rules}
+use Rattle.fire.proofs.steer.pull_norm.Goals as goal
+
+pub returns : goal.returns
+unfolding pull_norm
+returns c = rw (c.max.ensures, c.root.ensures)

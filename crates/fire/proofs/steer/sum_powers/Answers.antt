@@ -1,0 +1,19 @@
+use Prim.Native.Nat.{◌≤◌, ◌-◌, ◌/◌, min}
+use Rattle.fire.specs.Steer.{powered_at, no_powers, powers_of}
+use Rattle.lists.proofs.Loops.{fold_up_to_none, fold_up_to_turn}
+use Rattle.lists.specs.Loops.{fold_up_to}
+use borrow.Author.Rules.{rules}
+use lib.ListN.{length}
+use mathlib.Core.Path.{◌≡◌, sym, ◌∙◌}
+use native.Mathlib.Omega.{arith}
+use Rattle.fire.proofs.steer.sum_powers.Goals as goal
+
+pub loop-i-init : goal.loop-i-init
+loop-i-init c = (search rules, c.shorter-n.ensures, c.no_powers-p.ensures ∙ sym (fold_up_to_none _ _))
+
+pub loop-i-preserved : goal.loop-i-preserved
+loop-i-preserved c = (search rules, c.loop-i.invariant.1, fold_up_to_turn _ c.loop-i.i _ c.loop-i.invariant.2 (rw (c.add_power-p.ensures, c.triple-f.ensures, c.triple-v.ensures)))
+
+pub returns : goal.returns
+unfolding powers_of
+returns c = let e : c.loop-i.i ≡ min (length c.args.fs.now / 3) (length c.args.vs.now / 3) = omega arith in rw (← e) c.loop-i.invariant.2

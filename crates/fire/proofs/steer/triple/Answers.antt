@@ -1,0 +1,8 @@
+use Rattle.virial.specs.Virial.{velocity_at}
+use borrow.Author.Rules.{rules}
+use mathlib.Core.Path.{refl}
+use Rattle.fire.proofs.steer.triple.Goals as goal
+
+pub returns : goal.returns
+unfolding velocity_at
+returns c = refl

@@ -1,0 +1,8 @@
+use Rattle.float.proofs.Branches.{yes, max_picked}
+use Rattle.std.proofs.Common.{rules}
+use lib.Ieee.{of_bits}
+use Rattle.float.proofs.max.Goals as goal
+
+pub returns : goal.returns
+unfolding of_bits
+returns c = rw (c.pick.ensures, c.pick-number.ensures, c.pick-larger.ensures) (max_picked _ _ (yes c.well_formed.0.1) (yes c.well_formed.1.0.1))

@@ -1,0 +1,7 @@
+use Rattle.frame.specs.Distance.{edge_ok}
+use borrow.Author.Rules.{rules}
+use Rattle.frame.proofs.asked.edge_ok.Goals as goal
+
+pub returns : goal.returns
+unfolding edge_ok
+returns c = c.is_edge.ensures

@@ -1,0 +1,7 @@
+use Rattle.frame.specs.Laying.{narrow}
+use borrow.Author.Rules.{rules}
+use Rattle.frame.proofs.laying.is_narrow.Goals as goal
+
+pub returns : goal.returns
+unfolding narrow
+returns c = c.is_narrow.ensures

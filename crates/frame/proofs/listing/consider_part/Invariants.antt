@@ -1,0 +1,16 @@
+use Prim.Native.Nat.{◌-◌, ◌≤◌}
+use Rattle.bins.proofs.Runs.{Run, run_begin, run_with, run_with_end, ready_with}
+use Rattle.frame.specs.Steps.{scene_by}
+use Rattle.lists.proofs.Exactness.{length_with}
+use Rattle.lists.specs.Lists.{with_each}
+use borrow.Author.Rules.{rules}
+use lib.ListN.{length, drop}
+use mathlib.Core.Path.{◌≡◌, refl, ◌∙◌}
+use native.Mathlib.Omega.{arith}
+use Rattle.frame.proofs.listing.consider_part.Given as goal
+
+abbrev pub invariant-loop-k : goal.invariant-loop-k
+invariant-loop-k l = (l.k ≤ length l.part) × (length l.pairs ≡ length l.initial.pairs) × Run (scene_by l.f l.xs l.table) (record { tally = l.initial.now; mem = l.initial.pairs }) (record { tally = l.now; mem = l.pairs }) (with_each l.i l.part) (with_each l.i (drop l.k l.part))
+
+abbrev pub decreases-loop-k : goal.decreases-loop-k
+decreases-loop-k l = length l.part - l.k

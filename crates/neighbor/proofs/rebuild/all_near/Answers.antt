@@ -1,0 +1,14 @@
+use Rattle.std.proofs.Common.{◌-◌, ◌*◌, rules}
+use Rattle.float.specs.Arith.{at, ◌⊖◌}
+use Rattle.neighbor.proofs.Asking.{Looking, looking_begin, looking_turn, looking_end}
+use Rattle.ranges.specs.Ranged.{within}
+use Rattle.neighbor.proofs.rebuild.all_near.Goals as goal
+
+pub loop-k-init : goal.loop-k-init
+loop-k-init c = looking_begin _ _ _
+
+pub loop-k-preserved : goal.loop-k-preserved
+loop-k-preserved c = looking_turn _ _ _ c.loop-k.invariant c.loop-k-test.true c.is_within-ok.ensures
+
+pub returns : goal.returns
+returns c = looking_end _ _ _ c.loop-k.invariant c.loop-k-test.false

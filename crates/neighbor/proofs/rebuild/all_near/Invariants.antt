@@ -1,0 +1,11 @@
+use Rattle.std.proofs.Common.{◌-◌, ◌*◌, rules}
+use Rattle.float.specs.Arith.{at, ◌⊖◌}
+use Rattle.neighbor.proofs.Asking.{Looking, looking_begin, looking_turn, looking_end}
+use Rattle.ranges.specs.Ranged.{within}
+use Rattle.neighbor.proofs.rebuild.all_near.Given as goal
+
+abbrev pub invariant-loop-k : goal.invariant-loop-k
+invariant-loop-k l = Looking (λ k. within l.t (at l.xs k ⊖ at l.refs k)) (3 * l.from) l.end l.ok l.k
+
+abbrev pub decreases-loop-k : goal.decreases-loop-k
+decreases-loop-k l = l.end - l.k

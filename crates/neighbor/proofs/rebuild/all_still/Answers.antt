@@ -1,0 +1,14 @@
+use Rattle.std.proofs.Common.{◌-◌, rules}
+use Rattle.cell.specs.Vec.{position_at}
+use Rattle.neighbor.proofs.Asking.{Looking, looking_begin, looking_turn, looking_end}
+use Rattle.neighbor_asked.specs.Strays.{still}
+use Rattle.neighbor.proofs.rebuild.all_still.Goals as goal
+
+pub loop-i-init : goal.loop-i-init
+loop-i-init c = looking_begin _ _ _
+
+pub loop-i-preserved : goal.loop-i-preserved
+loop-i-preserved c = looking_turn _ _ _ c.loop-i.invariant c.loop-i-test.true (rw (← c.spot_at.ensures, ← c.spot_at-in-loop-i.ensures) c.is_still-ok.ensures)
+
+pub returns : goal.returns
+returns c = looking_end _ _ _ c.loop-i.invariant c.loop-i-test.false

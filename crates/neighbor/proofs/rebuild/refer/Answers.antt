@@ -1,0 +1,15 @@
+use Rattle.std.proofs.Common.{◌≡◌, ◌-◌, ◌≤◌, length, refl, arith, length-set, rules}
+use Rattle.float.specs.Arith.{at}
+use Rattle.lists.proofs.Loops.{part_turn, part_none}
+use Rattle.lists.specs.Loops.{part_at}
+use lib.Ieee.{nan}
+use Rattle.neighbor.proofs.rebuild.refer.Goals as goal
+
+pub loop-k-init : goal.loop-k-init
+loop-k-init c = (omega arith, refl, part_none (λ j _. at c.args.xs.now j) nan c.args.refs.now)
+
+pub loop-k-preserved : goal.loop-k-preserved
+loop-k-preserved c = (omega arith, simp length-set c.loop-k.invariant.1, part_turn (λ j _. at c.args.xs.now j) nan c.loop-k.k c.args.refs.now (omega (arith, c.requires)) c.loop-k.invariant.2 refl)
+
+pub returns : goal.returns
+returns c = let e : c.loop-k.k ≡ length c.args.xs.now = omega (arith, c.loop-k.invariant.0, c.loop-k-test.false) in rw (← e) c.loop-k.invariant.2

@@ -1,0 +1,11 @@
+use Rattle.std.proofs.Common.{◌-◌, arith, rules}
+use Rattle.cell.specs.Vec.{position_at}
+use Rattle.neighbor_asked.specs.Strays.{strayed}
+use Rattle.neighbor.proofs.Asking.{Searching, searching_begin, searching_block, searching_block_finds, searching_end, from_first}
+use Rattle.neighbor.proofs.rebuild.some_far_blocks.Given as goal
+
+abbrev pub invariant-loop-i : goal.invariant-loop-i
+invariant-loop-i l = Searching (λ k. strayed l.p l.limit (position_at l.xs k) (position_at l.refs k)) 0 l.n l.i
+
+abbrev pub decreases-loop-i : goal.decreases-loop-i
+decreases-loop-i l = l.n - l.i

@@ -1,0 +1,5 @@
+use Rattle.std.proofs.Common.{rules}
+use Rattle.neighbor.proofs.states.full.Goals as goal
+
+pub returns : goal.returns
+returns c = simp c.emptied.ensures

@@ -1,0 +1,7 @@
+use Rattle.neighbor.specs.State.{radius_of}
+use Rattle.std.proofs.Common.{rules}
+use Rattle.neighbor.proofs.states.radius.Goals as goal
+
+pub returns : goal.returns
+unfolding radius_of
+returns c = simp c.skin.ensures

@@ -1,0 +1,5 @@
+use borrow.Author.Rules.{rules}
+use Rattle.neighbor_grid.proofs.measuring.turned.Goals as goal
+
+pub returns : goal.returns
+returns c = cc

@@ -1,0 +1,15 @@
+use Prim.Native.Nat.{◌-◌, ◌≤◌}
+use Rattle.bins.proofs.Runs.{Run, run_begin, run_across, run_across_end, ready_across}
+use Rattle.neighbor_listing.specs.Steps.{scene_by}
+use Rattle.lists.specs.Lists.{across}
+use borrow.Author.Rules.{rules}
+use lib.ListN.{length, drop}
+use mathlib.Core.Path.{◌≡◌, refl, ◌∙◌}
+use native.Mathlib.Omega.{arith}
+use Rattle.neighbor_listing.proofs.loops.cross_many.Given as goal
+
+abbrev pub invariant-loop-k : goal.invariant-loop-k
+invariant-loop-k l = (l.k ≤ length l.home) × (length l.pairs ≡ length l.initial.pairs) × Run (scene_by l.s l.xs l.tops l.table) (record { tally = l.initial.now; mem = l.initial.pairs }) (record { tally = l.now; mem = l.pairs }) (across l.home l.other) (across (drop l.k l.home) l.other)
+
+abbrev pub decreases-loop-k : goal.decreases-loop-k
+decreases-loop-k l = length l.home - l.k

@@ -1,0 +1,15 @@
+use Prim.Native.Nat.{◌-◌, ◌≤◌}
+use Rattle.bins.proofs.Runs.{Run, run_begin, run_with, run_with_end, ready_with}
+use Rattle.neighbor_listing.specs.Steps.{chosen_by}
+use Rattle.lists.specs.Lists.{with_each}
+use borrow.Author.Rules.{rules}
+use lib.ListN.{length, drop}
+use mathlib.Core.Path.{◌≡◌, refl, ◌∙◌}
+use native.Mathlib.Omega.{arith}
+use Rattle.neighbor_listing.proofs.loops.settle_all.Given as goal
+
+abbrev pub invariant-loop-k : goal.invariant-loop-k
+invariant-loop-k l = (l.k ≤ length l.near) × (length l.pairs ≡ length l.initial.pairs) × Run (chosen_by l.tops l.table) (record { tally = l.initial.now; mem = l.initial.pairs }) (record { tally = l.now; mem = l.pairs }) (with_each l.i l.near) (with_each l.i (drop l.k l.near))
+
+abbrev pub decreases-loop-k : goal.decreases-loop-k
+decreases-loop-k l = length l.near - l.k

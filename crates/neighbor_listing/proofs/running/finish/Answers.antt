@@ -1,0 +1,12 @@
+use Rattle.neighbor_listing.specs.Listed.{shown_of}
+use borrow.Author.Rules.{rules}
+use borrow.Author.Tests.{le-leb, lt-leb}
+use Rattle.neighbor_listing.proofs.running.finish.Goals as goal
+
+pub returns-then-count-room : goal.returns-then-count-room
+unfolding shown_of
+returns-then-count-room c = simp (le-leb _ _ c.if-count-room.true, c.checks_of-checks.ensures)
+
+pub returns : goal.returns
+unfolding shown_of
+returns c = simp (lt-leb _ _ c.if-count-room.false)

@@ -1,0 +1,6 @@
+use Rattle.neighbor_listing.proofs.Flagging.{bounds_are}
+use borrow.Author.Rules.{rules}
+use Rattle.neighbor_listing.proofs.side.bounds_of.Goals as goal
+
+pub returns : goal.returns
+returns c = bounds_are c.all_enclosed-sound.ensures

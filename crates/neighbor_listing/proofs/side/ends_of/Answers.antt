@@ -1,0 +1,22 @@
+use Prim.Native.Nat.{◌-◌, ◌≤◌}
+use borrow.Author.Rules.{rules}
+use native.Mathlib.Omega.{arith}
+use Rattle.neighbor_listing.proofs.side.ends_of.Goals as goal
+
+pub bounds-bx-k : goal.bounds-bx-k
+bounds-bx-k c = omega (arith, c.loop-k-test.true, c.requires.0, c.requires.1.x64)
+
+pub bounds-by-k : goal.bounds-by-k
+bounds-by-k c = omega (arith, c.loop-k-test.true, c.requires.0, c.requires.1.y64)
+
+pub bounds-bz-k : goal.bounds-bz-k
+bounds-bz-k c = omega (arith, c.loop-k-test.true, c.requires.0, c.requires.1.z64)
+
+pub overflow_add-k : goal.overflow_add-k
+overflow_add-k c = omega (arith, c.loop-k-test.true, c.requires.0)
+
+pub loop-k-smaller : goal.loop-k-smaller
+loop-k-smaller c = omega (arith, c.loop-k-test.true)
+
+pub loop-k-preserved : goal.loop-k-preserved
+loop-k-preserved c = omega (arith, c.loop-k-test.true)

@@ -1,0 +1,5 @@
+use borrow.Author.Rules.{rules}
+use Rattle.neighbor_listing.proofs.side.step_of.Goals as goal
+
+pub returns : goal.returns
+returns c = rw (c.step.ensures, c.step-2.ensures, c.step-3.ensures)

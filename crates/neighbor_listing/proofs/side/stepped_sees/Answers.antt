@@ -1,0 +1,5 @@
+use borrow.Author.Rules.{rules}
+use Rattle.neighbor_listing.proofs.side.stepped_sees.Goals as goal
+
+pub returns : goal.returns
+returns c = rw c.norm2.ensures

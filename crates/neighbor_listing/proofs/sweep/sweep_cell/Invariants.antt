@@ -1,0 +1,17 @@
+use Prim.Native.Nat.{◌-◌, ◌≤◌}
+use Rattle.bins.proofs.Runs.{Run, run_each, run_each_end, ready_each}
+use Rattle.bins.proofs.Sweeps.{rows_begin, rows_from}
+use Rattle.bins.specs.Traversal.{visit, cell_pairs}
+use Rattle.neighbor_listing.proofs.Considered.{part_is, part_below}
+use Rattle.neighbor_listing.specs.Steps.{atoms_by, scene_by}
+use borrow.Author.Rules.{rules}
+use lib.ListN.{length}
+use mathlib.Core.Path.{◌≡◌, refl, ◌∙◌}
+use native.Mathlib.Omega.{arith}
+use Rattle.neighbor_listing.proofs.sweep.sweep_cell.Given as goal
+
+abbrev pub invariant-loop-row : goal.invariant-loop-row
+invariant-loop-row l = (l.row ≤ 14) × (length l.pairs ≡ length l.initial.pairs) × Run (scene_by l.s l.xs l.tops l.table) (record { tally = l.initial.now; mem = l.initial.pairs }) (record { tally = l.now; mem = l.pairs }) (cell_pairs l.g (atoms_by l.g l.starts l.items) l.home) (rows_from l.g (atoms_by l.g l.starts l.items) l.home l.row)
+
+abbrev pub decreases-loop-row : goal.decreases-loop-row
+decreases-loop-row l = 14 - l.row

@@ -1,0 +1,60 @@
+use Prim.Native.Nat.{◌≤◌, ◌-◌, ◌/◌}
+use Rattle.lists.specs.Lists.{rows}
+use Rattle.potentials_pair.specs.Pull.{held}
+use Rattle.potentials_pair.specs.Species.{tables}
+use Rattle.potentials.proofs.Charged.{coulomb_row_lem}
+use Rattle.potentials.proofs.Folds.{Left, left_begin, rows_end}
+use Rattle.potentials.proofs.Laid.{rows_turn}
+use Rattle.potentials.proofs.Near.{lj_row_lem}
+use Rattle.potentials.specs.Rows.{lj_rowed, coulomb_rowed}
+use Rattle.potentials.specs.Steps.{lj_step, coulomb_step, Kept}
+use lib.ListN.{length}
+use mathlib.Core.List.{foldl}
+use mathlib.Core.Path.{◌≡◌, refl, sym, ◌∙◌}
+use native.Mathlib.Omega.{arith}
+use Rattle.potentials.proofs.both.by_blocks.Goals as goal
+
+pub loop-k-init : goal.loop-k-init
+loop-k-init c = (omega arith, refl, refl, refl, refl, refl, c.requires.kept, left_begin _ _, left_begin _ _)
+
+pub block_end-to-requires : goal.block_end-to-requires
+block_end-to-requires c = c.loop-k-test.true
+
+pub lay_rows-went-requires : goal.lay_rows-went-requires
+lay_rows-went-requires c = (omega (arith, c.block_end-to.ensures.0), c.block_end-to.ensures.2, c.block_end-to.ensures.1, c.loop-k.invariant.1 ∙ c.requires.ways_len.0)
+
+pub add-s-requires : goal.add-s-requires
+add-s-requires c = record { from_le_to = (omega (arith, c.block_end-to.ensures.0), c.block_end-to.ensures.2, c.block_end-to.ensures.1, c.lay_rows-went.auto.ways ∙ c.loop-k.invariant.1 ∙ c.requires.ways_len.0, c.loop-k.invariant.3 ∙ c.requires.ways_len.2); kept = c.loop-k.invariant.6 }
+
+pub add-t-requires : goal.add-t-requires
+add-t-requires c = (omega (arith, c.block_end-to.ensures.0), c.block_end-to.ensures.2, c.block_end-to.ensures.1, c.lay_rows-went.auto.ways ∙ c.loop-k.invariant.1 ∙ c.requires.ways_len.0, c.loop-k.invariant.2 ∙ c.requires.ways_len.1, c.add-s.auto.pulls ∙ c.loop-k.invariant.3 ∙ c.requires.ways_len.2)
+
+pub loop-k-smaller : goal.loop-k-smaller
+loop-k-smaller c = omega (arith, c.loop-k-test.true, c.block_end-to.ensures.0, c.block_end-to.ensures.1)
+
+pub loop-k-preserved : goal.loop-k-preserved
+loop-k-preserved c = (c.block_end-to.ensures.1, c.lay_rows-went.auto.ways ∙ c.loop-k.invariant.1, c.add-t.auto.two ∙ c.loop-k.invariant.2, c.add-t.auto.pulls ∙ c.add-s.auto.pulls ∙ c.loop-k.invariant.3, c.add-s.auto.forces ∙ c.loop-k.invariant.4, c.add-t.auto.forces ∙ c.loop-k.invariant.5, c.add-s.ensures.kept_2, rows_turn (lj_step c.args.lj c.args.p _ c.args.species.now c.args.xs.now) c.args.table.now (lj_rowed c.args.lj _ c.args.species.now c.args.table.now c.loop-k.k c.lay_rows-went.new.ways) c.loop-k.k (omega (arith, c.block_end-to.ensures.0)) c.block_end-to.ensures.1 (lj_row_lem c.args.lj _ c.args.species.now c.lay_rows-went.ensures) c.loop-k.invariant.7 c.add-s.ensures.forces_after, rows_turn (coulomb_step c.args.ke c.args.cutoff c.args.p c.args.charges.now c.args.xs.now) c.args.table.now (coulomb_rowed c.args.ke c.args.cutoff c.args.charges.now c.args.table.now c.loop-k.k c.lay_rows-went.new.ways) c.loop-k.k (omega (arith, c.block_end-to.ensures.0)) c.block_end-to.ensures.1 (coulomb_row_lem c.args.ke c.args.cutoff c.args.charges.now c.lay_rows-went.ensures) c.loop-k.invariant.8 c.add-t.ensures)
+
+pub shape_of-ways : goal.shape_of-ways
+shape_of-ways c = c.loop-k.invariant.1
+
+pub shape_of-atoms : goal.shape_of-atoms
+shape_of-atoms c = c.loop-k.invariant.6.block.atoms144 ∙ sym c.requires.kept.block.atoms144
+
+pub shape_of-room : goal.shape_of-room
+shape_of-room c = c.loop-k.invariant.6.block.room561 ∙ sym c.requires.kept.block.room561
+
+pub shape_of-two : goal.shape_of-two
+shape_of-two c = c.loop-k.invariant.2
+
+pub shape_of-pulls : goal.shape_of-pulls
+shape_of-pulls c = c.loop-k.invariant.3
+
+pub shape_of-forces : goal.shape_of-forces
+shape_of-forces c = c.loop-k.invariant.4
+
+pub shape_of-others : goal.shape_of-others
+shape_of-others c = c.loop-k.invariant.5
+
+pub returns : goal.returns
+returns c = record { forces_after = rows_end c.args.table.now c.loop-k-test.false c.loop-k.invariant.7; others_after = rows_end c.args.table.now c.loop-k-test.false c.loop-k.invariant.8 }

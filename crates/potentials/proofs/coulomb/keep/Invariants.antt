@@ -1,0 +1,14 @@
+use Prim.Native.Nat.{◌≤◌, ◌-◌}
+use Rattle.potentials.proofs.Charged.{charges_begin, charges_turn, charges_end}
+use Rattle.potentials.specs.Rows.{ChargesPicked}
+use borrow.Author.Rules.{rules}
+use lib.ListN.{length, length-set}
+use mathlib.Core.Path.{◌≡◌, refl}
+use native.Mathlib.Omega.{arith}
+use Rattle.potentials.proofs.coulomb.keep.Given as goal
+
+abbrev pub invariant-loop-t : goal.invariant-loop-t
+invariant-loop-t l = (l.t ≤ l.n) × (length l.kept ≡ length l.initial.kept) × (length l.two ≡ length l.initial.two) × ChargesPicked l.ke l.cutoff l.charges l.table l.from l.ways l.t l.kept l.two l.c
+
+abbrev pub decreases-loop-t : goal.decreases-loop-t
+decreases-loop-t l = l.n - l.t

@@ -1,0 +1,14 @@
+use Prim.Native.Nat.{◌≤◌, ◌-◌}
+use Rattle.potentials.proofs.Near.{near_begin, near_turn, near_end, near_kept}
+use Rattle.potentials.specs.Rows.{NearPicked}
+use borrow.Author.Rules.{rules}
+use lib.ListN.{length, length-set}
+use mathlib.Core.Path.{◌≡◌, refl}
+use native.Mathlib.Omega.{arith}
+use Rattle.potentials.proofs.lennard_jones.keep.Given as goal
+
+abbrev pub invariant-loop-t : goal.invariant-loop-t
+invariant-loop-t l = (l.t ≤ l.n) × (length l.atoms ≡ length l.initial.atoms) × (length l.room ≡ length l.initial.room) × NearPicked l.cutoff l.ways l.t l.initial.atoms l.atoms l.initial.room l.room l.c
+
+abbrev pub decreases-loop-t : goal.decreases-loop-t
+decreases-loop-t l = l.n - l.t

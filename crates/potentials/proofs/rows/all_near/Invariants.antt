@@ -1,0 +1,14 @@
+use Prim.Native.Nat.{◌≤◌, ◌-◌}
+use Rattle.potentials.proofs.Laid.{axis_begin, axis_turn, axis_end}
+use Rattle.potentials.specs.Rows.{AxisSays}
+use borrow.Author.Rules.{rules}
+use lib.ListN.{length, length-set}
+use mathlib.Core.Path.{◌≡◌, refl}
+use native.Mathlib.Omega.{arith}
+use Rattle.potentials.proofs.rows.all_near.Given as goal
+
+abbrev pub invariant-loop-t : goal.invariant-loop-t
+invariant-loop-t l = (l.t ≤ l.n) × (length l.ways ≡ length l.initial.ways) × AxisSays l.len l.o l.t l.initial.ways l.ways l.ok
+
+abbrev pub decreases-loop-t : goal.decreases-loop-t
+decreases-loop-t l = l.n - l.t

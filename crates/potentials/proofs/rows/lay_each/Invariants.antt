@@ -1,0 +1,14 @@
+use Prim.Native.Nat.{◌≤◌, ◌-◌}
+use Rattle.potentials.proofs.Laid.{rowed_begin, rowed_turn, rowed_end}
+use Rattle.potentials.specs.Rows.{Rowed}
+use borrow.Author.Rules.{rules}
+use lib.ListN.{length}
+use mathlib.Core.Path.{◌≡◌, refl, ◌∙◌}
+use native.Mathlib.Omega.{arith}
+use Rattle.potentials.proofs.rows.lay_each.Given as goal
+
+abbrev pub invariant-loop-t : goal.invariant-loop-t
+invariant-loop-t l = (l.t ≤ l.n) × (length l.ways ≡ length l.initial.ways) × Rowed l.p l.xs l.table l.from l.t l.ways
+
+abbrev pub decreases-loop-t : goal.decreases-loop-t
+decreases-loop-t l = l.n - l.t

@@ -1,0 +1,6 @@
+use Rattle.potentials_angle.specs.Calls.{angles_asked}
+use borrow.Author.Rules.{rules}
+use Rattle.potentials_angle.proofs.asked.asked.Goals as goal
+
+pub returns : goal.returns
+returns c = unfold angles_asked in cc

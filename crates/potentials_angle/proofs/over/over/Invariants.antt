@@ -1,0 +1,17 @@
+use Prim.Native.Nat.{◌≤◌, ◌-◌, ◌/◌}
+use Rattle.cell_prepared.specs.Facts.{image_in}
+use Rattle.lists.specs.Lists.{up_to}
+use Rattle.potentials.proofs.Folds.{Left, left_begin, numbers_turn, numbers_over}
+use Rattle.potentials_angle.specs.Terms.{angle_step}
+use Rattle.potentials_pair.specs.Pull.{held}
+use lib.ListN.{length}
+use mathlib.Core.List.{foldl}
+use mathlib.Core.Path.{◌≡◌, refl, ◌∙◌}
+use native.Mathlib.Omega.{arith}
+use Rattle.potentials_angle.proofs.over.over.Given as goal
+
+abbrev pub invariant-loop-r : goal.invariant-loop-r
+invariant-loop-r l = (l.r ≤ length l.angles / 3) × (length l.forces ≡ length l.initial.forces) × Left (angle_step (λ d. image_in l.p d) l.angle l.angles l.per_angle l.xs) (up_to (length l.angles / 3)) l.r (held l.s l.forces) (foldl (angle_step (λ d. image_in l.p d) l.angle l.angles l.per_angle l.xs) (held l.initial.s l.initial.forces) (up_to (length l.angles / 3)))
+
+abbrev pub decreases-loop-r : goal.decreases-loop-r
+decreases-loop-r l = length l.angles / 3 - l.r

@@ -1,0 +1,6 @@
+use Rattle.potentials.specs.Calls.{bonds_asked}
+use borrow.Author.Rules.{rules}
+use Rattle.potentials_calls.proofs.asked.bonds_asked.Goals as goal
+
+pub returns : goal.returns
+returns c = unfold bonds_asked in cc

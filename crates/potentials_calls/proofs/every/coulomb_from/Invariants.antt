@@ -1,0 +1,18 @@
+use Prim.Native.Nat.{◌*◌, ◌/◌}
+use Rattle.lists.specs.Lists.{all_pairs}
+use Rattle.potentials.specs.Steps.{coulomb_step}
+use Rattle.potentials_calls.proofs.AllPairs.{filled_less, left_turn, left_first, left_last}
+use Rattle.potentials_calls.specs.AllPairs.{pairs_from, PairsLeft}
+use Rattle.potentials_pair.specs.Pull.{held}
+use lib.ListN.{length}
+use lib.Seq.{length-take-le}
+use mathlib.Core.List.{foldl}
+use mathlib.Core.Path.{◌≡◌, refl, sym, ◌∙◌}
+use native.Mathlib.Omega.{arith}
+use Rattle.potentials_calls.proofs.every.coulomb_from.Given as goal
+
+abbrev pub invariant-loop-j : goal.invariant-loop-j
+invariant-loop-j l = (length l.table ≡ length l.initial.table) × (length l.forces ≡ length l.initial.forces) × PairsLeft (coulomb_step l.ke l.cutoff l.p l.charges l.xs) (length l.xs / 3) l.i l.j (held l.s l.forces) (foldl (coulomb_step l.ke l.cutoff l.p l.charges l.xs) (held l.initial.s l.initial.forces) (all_pairs (length l.xs / 3)))
+
+abbrev pub decreases-loop-j : goal.decreases-loop-j
+decreases-loop-j l = length (pairs_from (length l.xs / 3) l.i l.j)

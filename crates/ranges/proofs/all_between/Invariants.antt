@@ -1,0 +1,16 @@
+use Prim.Native.Nat.{◌≤◌, ◌-◌}
+use Rattle.lists.specs.Lists.{every}
+use Rattle.ranges.proofs.Looked.{all_next, all_past}
+use Rattle.ranges.specs.Ranged.{between}
+use borrow.Author.Rules.{rules}
+use lib.Ieee.{nan}
+use lib.ListN.{length, drop}
+use mathlib.Core.Bool.{◌&&◌}
+use mathlib.Core.Path.{◌≡◌, refl, sym, ◌∙◌}
+use Rattle.ranges.proofs.all_between.Given as goal
+
+abbrev pub invariant-loop-i : goal.invariant-loop-i
+invariant-loop-i l = (l.i ≤ length l.xs) × (every (between l.low l.high) l.xs ≡ (l.ok && every (between l.low l.high) (drop l.i l.xs)))
+
+abbrev pub decreases-loop-i : goal.decreases-loop-i
+decreases-loop-i l = length l.xs - l.i

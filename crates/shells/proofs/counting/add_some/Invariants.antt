@@ -1,0 +1,16 @@
+use Prim.Native.Nat.{◌-◌, ◌/◌, ◌<◌}
+use Rattle.lists.proofs.Rows.{length_rows}
+use Rattle.lists.specs.Lists.{rows}
+use Rattle.shells.proofs.Totals.{AddedUpTo, up_start, up_long, up_end, up_turn, up_full}
+use Rattle.shells.specs.Shells.{shell_at}
+use borrow.Author.Rules.{rules}
+use lib.ListN.{length}
+use mathlib.Core.Path.{◌≡◌, ◌∙◌, sym}
+use native.Mathlib.Omega.{arith}
+use Rattle.shells.proofs.counting.add_some.Given as goal
+
+abbrev pub invariant-loop-k : goal.invariant-loop-k
+invariant-loop-k l = AddedUpTo (shell_at l.f l.xs l.width (length l.initial.totals)) (rows l.pairs) l.initial.totals l.k l.totals
+
+abbrev pub decreases-loop-k : goal.decreases-loop-k
+decreases-loop-k l = l.n - l.k

@@ -1,0 +1,8 @@
+use Rattle.frame.specs.Distance.{spot_of}
+use borrow.Author.Rules.{rules}
+use mathlib.Core.Path.{refl}
+use Rattle.shells.proofs.counting.spot.Goals as goal
+
+pub returns : goal.returns
+unfolding spot_of
+returns c = refl

@@ -1,0 +1,17 @@
+use Prim.Native.Nat.{◌-◌, ◌+◌, ◌*◌}
+use Rattle.float.specs.Arith.{at}
+use Rattle.strike.proofs.Rows.{row_below}
+use Rattle.strike.proofs.Turns.{carry_start, carry_turn, carry_done, carried_not, carried_on}
+use Rattle.strike.specs.Steps.{Carrying}
+use borrow.Author.Rules.{rules}
+use lib.Ieee.{nan}
+use mathlib.Core.Path.{refl}
+use native.Mathlib.Omega.{arith}
+use Rattle.std.proofs.Common.{ap, not}
+use Rattle.strike.proofs.closing.carry.Given as goal
+
+abbrev pub invariant-loop-c : goal.invariant-loop-c
+invariant-loop-c l = Carrying nan (λ j. at l.initial.xs (l.width * l.from + j)) (l.width * l.to) l.width l.c l.initial.xs l.xs
+
+abbrev pub decreases-loop-c : goal.decreases-loop-c
+decreases-loop-c l = l.width - l.c

@@ -1,0 +1,18 @@
+use Prim.Native.Nat.{◌-◌, ◌≤◌, ◌*◌, ◌+◌}
+use Rattle.float.specs.Arith.{at}
+use Rattle.strike.proofs.Rows.{row_there, row_below}
+use Rattle.strike.proofs.Turns.{closed_none, closed_few, closed_long, closed_rest, closed_turn}
+use Rattle.strike.specs.Closed.{survives, link_survives, row_survives, new_number}
+use Rattle.strike.specs.Steps.{Closed, Carrying}
+use borrow.Author.Rules.{rules}
+use lib.Ieee.{nan}
+use lib.ListN.{length, get_or}
+use mathlib.Core.Path.{◌≡◌, subst, refl, sym, ap, ◌∙◌}
+use native.Mathlib.Omega.{arith}
+use Rattle.strike.proofs.closing.close_beside.Given as goal
+
+abbrev pub invariant-loop-k : goal.invariant-loop-k
+invariant-loop-k l = (l.k ≤ l.rows) × Closed (at l.initial.xs) l.width (link_survives l.marks l.per l.links l.names) l.k l.initial.xs l.to l.xs
+
+abbrev pub decreases-loop-k : goal.decreases-loop-k
+decreases-loop-k l = l.rows - l.k

@@ -1,0 +1,14 @@
+use Prim.Native.Nat.{◌-◌, ◌≤◌}
+use Rattle.strike.proofs.Turns.{counted_none, counted_turn, counted_few, all_numbered}
+use Rattle.strike.specs.Steps.{CountedTo}
+use borrow.Author.Rules.{rules}
+use lib.ListN.{length, length-set}
+use mathlib.Core.Path.{◌≡◌, refl}
+use native.Mathlib.Omega.{arith}
+use Rattle.strike.proofs.closing.number.Given as goal
+
+abbrev pub invariant-loop-k : goal.invariant-loop-k
+invariant-loop-k l = (l.k ≤ length l.marks) × (length l.fresh ≡ length l.initial.fresh) × CountedTo l.marks l.k l.to l.fresh
+
+abbrev pub decreases-loop-k : goal.decreases-loop-k
+decreases-loop-k l = length l.marks - l.k

@@ -1,0 +1,19 @@
+-- The invariant: ke is the energy of the first i atoms. Assumes nothing.
+use Prim.Native.Nat.{◌≤◌, ◌-◌, ◌/◌, min}
+use Rattle.float.specs.Literals.{f0}
+use Rattle.float.specs.Arith.{◌⊕◌, at}
+use Rattle.lists.proofs.Loops.{fold_up_to_none, fold_up_to_turn}
+use Rattle.lists.specs.Loops.{fold_up_to}
+use Rattle.verlet.specs.Verlet.{kinetic_at, kinetic_energy_of}
+use Rattle.virial.specs.Virial.{velocity_at}
+use borrow.Author.Rules.{rules}
+use lib.ListN.{length}
+use mathlib.Core.Path.{◌≡◌, sym}
+use native.Mathlib.Omega.{arith}
+use Rattle.verlet.proofs.kernel.kinetic_energy.Given as goal
+
+abbrev pub invariant-loop-i : goal.invariant-loop-i
+invariant-loop-i l = (l.i ≤ l.n) × (l.n ≡ min (length l.vs / 3) (length l.ms)) × (l.ke ≡ fold_up_to (λ k e. e ⊕ kinetic_at l.accel (at l.ms k) (velocity_at l.vs k)) l.i f0)
+
+abbrev pub decreases-loop-i : goal.decreases-loop-i
+decreases-loop-i l = l.n - l.i

@@ -1,0 +1,7 @@
+use Rattle.verlet.specs.Verlet.{lambda_of}
+use borrow.Author.Rules.{rules}
+use Rattle.verlet.proofs.kernel.lambda.Goals as goal
+
+pub returns : goal.returns
+unfolding lambda_of
+returns c = rw (c.root.ensures, c.max.ensures)

@@ -1,0 +1,21 @@
+-- The invariant: what is left from k on decides. Assumes nothing.
+use Prim.Native.Nat.{◌≤◌, ◌-◌, ◌<◌}
+use Rattle.lists.proofs.Walks.{every_passes, every_fails, every_past}
+use Rattle.lists.specs.Lists.{every}
+use Rattle.verlet.proofs.Steps.{drifted_length, drifted_at}
+use Rattle.verlet.specs.Parts.{coordinate}
+use Rattle.verlet.specs.Verlet.{kicked_of, drifted_of}
+use borrow.Author.Rules.{rules}
+use borrow.Author.Tests.{not-true, not-false}
+use lib.Ieee.{nan}
+use lib.ListN.{length, drop}
+use mathlib.Core.Path.{◌≡◌, refl, sym, ◌∙◌, ap}
+use native.Mathlib.Omega.{arith}
+use Rattle.std.proofs.Common.{not}
+use Rattle.verlet.proofs.moves.all_drift.Given as goal
+
+abbrev pub invariant-loop-k : goal.invariant-loop-k
+invariant-loop-k l = (l.k ≤ length l.xs) × (every coordinate (drifted_of l.dt (kicked_of l.units l.dt l.fs l.ms l.vs) l.xs) ≡ every coordinate (drop l.k (drifted_of l.dt (kicked_of l.units l.dt l.fs l.ms l.vs) l.xs)))
+
+abbrev pub decreases-loop-k : goal.decreases-loop-k
+decreases-loop-k l = length l.xs - l.k

@@ -1,0 +1,7 @@
+use Rattle.verlet.specs.Parts.{kick_fits}
+use borrow.Author.Rules.{rules}
+use Rattle.verlet.proofs.moves.kick_fits.Goals as goal
+
+pub returns : goal.returns
+unfolding kick_fits
+returns c = rw (c.three_each.ensures, c.three_each-2.ensures)

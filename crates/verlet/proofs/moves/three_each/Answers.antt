@@ -1,0 +1,8 @@
+use Rattle.verlet.specs.Parts.{three_each}
+use borrow.Author.Rules.{rules}
+use mathlib.Core.Path.{refl}
+use Rattle.verlet.proofs.moves.three_each.Goals as goal
+
+pub returns : goal.returns
+unfolding three_each
+returns c = refl
