@@ -7,7 +7,11 @@ ghost use Rattle.clumps_answer.specs.Clumps.{clumps_printed, solve_clumps_of};
 
 use answer::Whole;
 use clumps_answer::solve_clumps;
-use libc::{STDIN_FILENO, STDOUT_FILENO};
+
+// The number of standard input.
+const STDIN: i32 = 0;
+// The number of standard output.
+const STDOUT: i32 = 1;
 
 // The clumps of one sheet, or its refusal's line; `out` is room to write it in.
 pub fn print(sheet: &[u8], out: &mut [u8])
@@ -17,7 +21,7 @@ pub fn print(sheet: &[u8], out: &mut [u8])
     match answer {
         Whole::Answered(n) => {
             let wrote = n as usize;
-            io::write_all(STDOUT_FILENO, &out[..wrote]);
+            io::write_all(STDOUT, &out[..wrote]);
         }
         Whole::Refused(_) => {}
     }
@@ -36,7 +40,7 @@ fn read_and_print(input: &mut [u8], out: &mut [u8]) -> usize
     requires { 11264 ≤ length out.old }
     ensures { out.new ≡ sets out.old 0 (clumps_printed (take result input.new)) }
 {
-    let got = io::read_full(STDIN_FILENO, input);
+    let got = io::read_full(STDIN, input);
     print_whole(&input[..got], out);
     got
 }

@@ -1,7 +1,6 @@
 // Reads cases from standard input, a line each, and writes their answers to standard output.
 #![tactic(auto)]
 
-use libc::{STDIN_FILENO, STDOUT_FILENO};
 
 mod angles;
 mod calls;
@@ -9,6 +8,11 @@ mod desks;
 mod forces;
 mod lines;
 mod velocities;
+
+// The number of standard input.
+const STDIN: i32 = 0;
+// The number of standard output.
+const STDOUT: i32 = 1;
 
 // The bytes of the line so far, and the bytes of answers that are not written yet.
 #[derive(Drop)]
@@ -29,7 +33,7 @@ fn with_room(out: &[u8], filled: usize) -> usize {
     if filled < 139539 {
         return filled;
     }
-    io::write_all(STDOUT_FILENO, front(out, filled));
+    io::write_all(STDOUT, front(out, filled));
     0
 }
 
@@ -77,7 +81,7 @@ fn hear_all(
 
 // As many bytes as are there; 0 at the end of the input.
 fn read_some(chunk: &mut [u8]) -> usize {
-    let got = libc::read(STDIN_FILENO, chunk);
+    let got = libc::read(STDIN, chunk);
     io::count(got, chunk)
 }
 
@@ -85,11 +89,11 @@ fn read_some(chunk: &mut [u8]) -> usize {
 fn finish(out: &mut [u8], p: Pending) {
     let at = with_room(out, p.filled);
     if p.heard == 0 {
-        io::write_all(STDOUT_FILENO, front(out, at));
+        io::write_all(STDOUT, front(out, at));
         return;
     }
     let end = replay_words::print_no_case(out, at);
-    io::write_all(STDOUT_FILENO, front(out, end));
+    io::write_all(STDOUT, front(out, end));
 }
 
 // A proved loop has to end, and nothing says that the input does: the turns count down, from a number that no run uses up.

@@ -1,10 +1,12 @@
 // A line's words on standard output, a blank after each. (No contract speaks of what is written: the program's output is compared.)
 use answer::Done;
-use libc::STDOUT_FILENO;
+
+// The number of standard output.
+const STDOUT: i32 = 1;
 
 pub(crate) fn put(n: u64) {
-    io::print_decimal(STDOUT_FILENO, n);
-    io::write_all(STDOUT_FILENO, b" ");
+    io::print_decimal(STDOUT, n);
+    io::write_all(STDOUT, b" ");
 }
 
 pub(crate) fn put_flag(b: bool) {
@@ -27,10 +29,10 @@ pub(crate) fn put_done(done: Done) {
 
 // The last word of a line.
 pub(crate) fn end(n: u64) {
-    io::print_decimal(STDOUT_FILENO, n);
-    io::write_all(STDOUT_FILENO, b"\n");
+    io::print_decimal(STDOUT, n);
+    io::write_all(STDOUT, b"\n");
 }
 
 pub(crate) fn end_line() {
-    io::write_all(STDOUT_FILENO, b"\n");
+    io::write_all(STDOUT, b"\n");
 }

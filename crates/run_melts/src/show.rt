@@ -1,10 +1,12 @@
 // A line's words on standard output, a blank after each. (No contract speaks of what is written: the programs' output is compared.)
 use answer::Done;
-use libc::STDOUT_FILENO;
+
+// The number of standard output.
+const STDOUT: i32 = 1;
 
 pub(crate) fn put(n: u64) {
-    io::print_decimal(STDOUT_FILENO, n);
-    io::write_all(STDOUT_FILENO, b" ");
+    io::print_decimal(STDOUT, n);
+    io::write_all(STDOUT, b" ");
 }
 
 pub(crate) fn put_flag(b: bool) {
@@ -13,8 +15,8 @@ pub(crate) fn put_flag(b: bool) {
 
 // A float's bits, 16 hexadecimal digits.
 pub(crate) fn put_float(x: f64) {
-    io::print_hex(STDOUT_FILENO, float::to_bits(x), 16);
-    io::write_all(STDOUT_FILENO, b" ");
+    io::print_hex(STDOUT, float::to_bits(x), 16);
+    io::write_all(STDOUT, b" ");
 }
 
 pub(crate) fn word_at(ws: &[u64], k: usize) -> u64 {
@@ -25,8 +27,8 @@ pub(crate) fn word_at(ws: &[u64], k: usize) -> u64 {
 }
 
 fn put_bits(ws: &[u64], k: usize) {
-    io::print_hex(STDOUT_FILENO, word_at(ws, k), 16);
-    io::write_all(STDOUT_FILENO, b" ");
+    io::print_hex(STDOUT, word_at(ws, k), 16);
+    io::write_all(STDOUT, b" ");
 }
 
 // The bits of a sum: its energy and the virial's nine.
@@ -59,6 +61,6 @@ pub(crate) fn put_done(done: Done) {
 
 // The last word of a line.
 pub(crate) fn end(n: u64) {
-    io::print_decimal(STDOUT_FILENO, n);
-    io::write_all(STDOUT_FILENO, b"\n");
+    io::print_decimal(STDOUT, n);
+    io::write_all(STDOUT, b"\n");
 }

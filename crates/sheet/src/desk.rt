@@ -13,7 +13,7 @@ use answer::{Refusal, Whole};
 use exclusions::exclude;
 use sheet_lines::{Head, Line, line_at, width};
 
-#[derive(Drop)]
+#[derive(Clone, Copy)]
 pub(crate) struct Desk {
     pub has: bool,
     pub head: Head,

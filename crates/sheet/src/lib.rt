@@ -21,7 +21,7 @@ use sheet_lines::Head;
 
 // What a sheet says beside its coordinates and exclusions: the atoms, the box (edges, and which axes are periodic), the
 // radius, and how many exclusions there are.
-#[derive(Drop)]
+#[derive(Clone, Copy)]
 pub struct Job {
     pub atoms: u32,
     pub ex: u32,

@@ -5,10 +5,14 @@ ghost use Rattle.sheet_moved.specs.Moved.{to_one_of, to_two_of};
 ghost use Rattle.sheet_moved.specs.Whole.{moved_one, moved_two, laid_whole};
 
 use answer::Whole;
-use libc::{STDIN_FILENO, STDOUT_FILENO};
 use sheet_answer::either::solve_either;
 use sheet_moved::{Moved, to_one, to_two};
 use sheet_printed::put_refusal;
+
+// The number of standard input.
+const STDIN: i32 = 0;
+// The number of standard output.
+const STDOUT: i32 = 1;
 
 // The answer of one sheet, or its refusal's line; `out` is room to write it in.
 pub fn print_either(sheet: &[u8], out: &mut [u8])
@@ -18,7 +22,7 @@ pub fn print_either(sheet: &[u8], out: &mut [u8])
     match answer {
         Whole::Answered(n) => {
             let wrote = n as usize;
-            io::write_all(STDOUT_FILENO, &out[..wrote]);
+            io::write_all(STDOUT, &out[..wrote]);
         }
         Whole::Refused(_) => {}
     }
@@ -27,7 +31,7 @@ pub fn print_either(sheet: &[u8], out: &mut [u8])
 fn print_line(number: u64, place: u64) {
     let mut line = [0u8; 13];
     let n = put_refusal(&mut line, number, place);
-    io::write_all(STDOUT_FILENO, &line[..n]);
+    io::write_all(STDOUT, &line[..n]);
 }
 
 // A sheet moved to the second form, or its refusal's line.
@@ -38,7 +42,7 @@ pub fn print_two(sheet: &[u8], out: &mut [u8])
     match answer {
         Whole::Answered(n) => {
             let wrote = n as usize;
-            io::write_all(STDOUT_FILENO, &out[..wrote]);
+            io::write_all(STDOUT, &out[..wrote]);
         }
         Whole::Refused(r) => {
             print_line(r.number(), r.place());
@@ -54,7 +58,7 @@ pub fn print_one(sheet: &[u8], out: &mut [u8])
     match moved {
         Moved::Answered(n) => {
             let wrote = n as usize;
-            io::write_all(STDOUT_FILENO, &out[..wrote]);
+            io::write_all(STDOUT, &out[..wrote]);
         }
         Moved::Refused(r) => {
             print_line(r.number(), r.place());
@@ -68,7 +72,7 @@ pub fn print_one(sheet: &[u8], out: &mut [u8])
 fn read_and_print_either(input: &mut [u8], out: &mut [u8]) -> usize
     ensures { out.new ≡ (solve_either_of (take result input.new) out.old).out }
 {
-    let got = io::read_full(STDIN_FILENO, input);
+    let got = io::read_full(STDIN, input);
     print_either(&input[..got], out);
     got
 }
@@ -92,7 +96,7 @@ fn read_and_print_two(input: &mut [u8], out: &mut [u8]) -> usize
     requires { 51243 ≤ length out.old }
     ensures { out.new ≡ (laid_whole (moved_two (take result input.new)) out.old).out }
 {
-    let got = io::read_full(STDIN_FILENO, input);
+    let got = io::read_full(STDIN, input);
     print_whole_two(&input[..got], out);
     got
 }
@@ -116,7 +120,7 @@ fn read_and_print_one(input: &mut [u8], out: &mut [u8]) -> usize
     requires { 43049 ≤ length out.old }
     ensures { out.new ≡ (laid_whole (moved_one (take result input.new)) out.old).out }
 {
-    let got = io::read_full(STDIN_FILENO, input);
+    let got = io::read_full(STDIN, input);
     print_whole_one(&input[..got], out);
     got
 }

@@ -9,8 +9,12 @@ ghost use Rattle.std.proofs.lemmas.List.Edits.{sets};
 ghost use Rattle.sheet_answer.specs.Solve.{printed, solve_of};
 
 use answer::Whole;
-use libc::{STDIN_FILENO, STDOUT_FILENO};
 use sheet_answer::solve;
+
+// The number of standard input.
+const STDIN: i32 = 0;
+// The number of standard output.
+const STDOUT: i32 = 1;
 
 // The answer of one sheet, or its refusal's line; `out` is room to write it in.
 pub fn print(sheet: &[u8], out: &mut [u8])
@@ -20,7 +24,7 @@ pub fn print(sheet: &[u8], out: &mut [u8])
     match answer {
         Whole::Answered(n) => {
             let wrote = n as usize;
-            io::write_all(STDOUT_FILENO, &out[..wrote]);
+            io::write_all(STDOUT, &out[..wrote]);
         }
         Whole::Refused(_) => {}
     }
@@ -39,7 +43,7 @@ fn read_and_print(input: &mut [u8], out: &mut [u8]) -> usize
     requires { 90133 ≤ length out.old }
     ensures { out.new ≡ sets out.old 0 (printed (take result input.new)) }
 {
-    let got = io::read_full(STDIN_FILENO, input);
+    let got = io::read_full(STDIN, input);
     print_whole(&input[..got], out);
     got
 }

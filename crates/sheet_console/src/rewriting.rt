@@ -4,8 +4,12 @@ ghost use Rattle.std.proofs.lemmas.List.Edits.{sets};
 ghost use Rattle.sheet_rewritten.specs.Rewrite.{rewritten, rewrite_of};
 
 use answer::Whole;
-use libc::{STDIN_FILENO, STDOUT_FILENO};
 use sheet_rewritten::rewrite;
+
+// The number of standard input.
+const STDIN: i32 = 0;
+// The number of standard output.
+const STDOUT: i32 = 1;
 
 // The written form of one sheet, or its refusal's line; `out` is room to write it in.
 pub fn print_form(sheet: &[u8], out: &mut [u8])
@@ -15,7 +19,7 @@ pub fn print_form(sheet: &[u8], out: &mut [u8])
     match answer {
         Whole::Answered(n) => {
             let wrote = n as usize;
-            io::write_all(STDOUT_FILENO, &out[..wrote]);
+            io::write_all(STDOUT, &out[..wrote]);
         }
         Whole::Refused(_) => {}
     }
@@ -33,7 +37,7 @@ fn read_and_print(input: &mut [u8], out: &mut [u8]) -> usize
     requires { 43049 ≤ length out.old }
     ensures { out.new ≡ sets out.old 0 (rewritten (take result input.new)) }
 {
-    let got = io::read_full(STDIN_FILENO, input);
+    let got = io::read_full(STDIN, input);
     print_whole_form(&input[..got], out);
     got
 }

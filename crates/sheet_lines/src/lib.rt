@@ -7,7 +7,7 @@ ghost use Rattle.sheet_lines.specs.Reading.{three_of, three_at, header_of, atom_
 use hexadecimal::{byte_at, hex2, hex4, hex8};
 
 // The header's numbers, as they stand: the mask has x at bit 0.
-#[derive(Drop)]
+#[derive(Clone, Copy)]
 pub struct Head {
     pub atoms: u32,
     pub ex: u32,
@@ -24,7 +24,7 @@ pub enum Three {
     Nothing,
 }
 
-#[derive(Drop)]
+#[derive(Clone, Copy)]
 pub enum Line {
     Header(Head),
     Atom { number: u32, x: u32, y: u32, z: u32 },

@@ -10,7 +10,7 @@ use hexadecimal::{byte_at, hex2, hex4, hex8};
 use sheet_lines::{Head, Line, atom_of, exclusion_of, header_of, three_of};
 
 // `extra`: an atom's species; a header's rule as it is written, 1 or 2, and 0 where none is; else 0.
-#[derive(Drop)]
+#[derive(Clone, Copy)]
 pub struct TwoLine {
     pub core: Line,
     pub extra: u32,

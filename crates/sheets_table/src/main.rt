@@ -3,10 +3,12 @@
 #![tactic(auto)]
 
 use hexadecimal::hex8;
-use libc::STDIN_FILENO;
 use sheet_console::forms::{print_either, print_one, print_two};
 use sheet_console::print;
 use sheet_console::rewriting::print_form;
+
+// The number of standard input.
+const STDIN: i32 = 0;
 
 fn print_by(letter: u8, sheet: &[u8], out: &mut [u8]) {
     if letter == 112 {
@@ -34,7 +36,7 @@ fn letter_of(head: &[u8]) -> u8 {
 }
 
 fn read_and_print(letter: u8, sheet: &mut [u8], out: &mut [u8]) {
-    let got = io::read_full(STDIN_FILENO, sheet);
+    let got = io::read_full(STDIN, sheet);
     print_by(letter, &sheet[..got], out);
 }
 
@@ -50,10 +52,10 @@ fn print_next(head: &[u8], sheet: &mut [u8], out: &mut [u8]) {
 // A proved loop has to end, and nothing says that the input does: the turns count down, from a number that no run uses up.
 fn print_all(head: &mut [u8], sheet: &mut [u8], out: &mut [u8]) {
     let mut turns = u64::MAX;
-    let mut got = io::read_full(STDIN_FILENO, head);
+    let mut got = io::read_full(STDIN, head);
     while turns > 0 && got == 10 {
         print_next(head, sheet, out);
-        got = io::read_full(STDIN_FILENO, head);
+        got = io::read_full(STDIN, head);
         turns -= 1;
     }
 }

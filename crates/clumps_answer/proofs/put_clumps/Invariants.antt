@@ -1,0 +1,16 @@
+use Prim.Native.Nat.{◌*◌, ◌-◌, ◌≤◌}
+use Rattle.clumps_answer.proofs.Lines.{lines_to, line_turn, length_line, lines_are}
+use Rattle.clumps_answer.specs.Clumps.{clump_rows, clump_lines}
+use Rattle.lists.specs.Lists.{each, numbers}
+use borrow.Author.Rules.{rules}
+use lib.ListN.{length}
+use lib.Seq.{sets, length-sets}
+use mathlib.Core.Path.{◌≡◌, refl, ap, ◌∙◌}
+use native.Mathlib.Omega.{arith}
+use Rattle.clumps_answer.proofs.put_clumps.Given as goal
+
+abbrev pub invariant-loop-i : goal.invariant-loop-i
+invariant-loop-i l = (l.i ≤ length l.labels) × (l.at ≤ 11 * l.i) × (l.at ≡ length (lines_to l.labels l.i)) × (l.out ≡ sets l.initial.out 0 (lines_to l.labels l.i))
+
+abbrev pub decreases-loop-i : goal.decreases-loop-i
+decreases-loop-i l = length l.labels - l.i

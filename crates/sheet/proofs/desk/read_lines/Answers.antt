@@ -1,0 +1,50 @@
+use Prim.Native.Nat.{◌-◌}
+use Rattle.sheet.proofs.Keeping.{below_line}
+use Rattle.sheet.proofs.Turns.{Halfway, halfway_start, kept_wide, halfway_next, halfway_stop, halfway_end}
+use borrow.Author.Rules.{rules}
+use lib.ListN.{length}
+use mathlib.Core.Path.{sym, ◌∙◌}
+use native.Mathlib.Omega.{arith}
+use Rattle.sheet.proofs.desk.read_lines.Goals as goal
+
+pub loop-at-init : goal.loop-at-init
+loop-at-init c = halfway_start c.args.s.now c.args.coords.now c.args.seen.now c.args.table.now c.blank-desk.result c.requires.0 c.requires.1 c.requires.2 c.blank-desk.ensures
+
+pub overflow_add-n : goal.overflow_add-n
+overflow_add-n c = omega (arith, c.loop-at.invariant.within, c.loop-at-test.true, c.well_formed)
+
+pub keep-kept-requires : goal.keep-kept-requires
+keep-kept-requires c = (rw c.line_at-line.ensures (below_line _ _), c.loop-at.invariant.fit, c.loop-at.invariant.size, c.loop-at.invariant.marked)
+
+pub overflow_add-at : goal.overflow_add-at
+overflow_add-at c = omega (arith, (kept_wide c.loop-at.invariant c.line_at-line.result c.width-wide.result c.loop-at-test.true c.line_at-line.ensures c.width-wide.ensures c.keep-kept.result c.keep-kept.new.coords c.keep-kept.new.seen c.keep-kept.new.table c.keep-kept.ensures.table_after _ c.in-Next.is).1, c.loop-at-test.true, c.well_formed)
+
+pub loop-at-smaller : goal.loop-at-smaller
+loop-at-smaller c = omega (arith, (kept_wide c.loop-at.invariant c.line_at-line.result c.width-wide.result c.loop-at-test.true c.line_at-line.ensures c.width-wide.ensures c.keep-kept.result c.keep-kept.new.coords c.keep-kept.new.seen c.keep-kept.new.table c.keep-kept.ensures.table_after _ c.in-Next.is).0, c.loop-at-test.true)
+
+pub loop-at-preserved : goal.loop-at-preserved
+loop-at-preserved c = halfway_next c.loop-at.invariant c.line_at-line.result c.width-wide.result c.loop-at-test.true c.line_at-line.ensures c.width-wide.ensures c.keep-kept.result c.keep-kept.new.coords c.keep-kept.new.seen c.keep-kept.new.table c.keep-kept.ensures.table_after _ c.in-Next.is c.keep-kept.ensures.fit_kept c.keep-kept.auto.coords c.keep-kept.auto.seen
+
+pub shape_of-coords-in-Refused : goal.shape_of-coords-in-Refused
+shape_of-coords-in-Refused c = c.keep-kept.auto.coords ∙ (c.loop-at.invariant.size ∙ sym c.requires.0)
+
+pub shape_of-seen-in-Refused : goal.shape_of-seen-in-Refused
+shape_of-seen-in-Refused c = c.keep-kept.auto.seen ∙ (c.loop-at.invariant.marked ∙ sym c.requires.1)
+
+pub shape_of-table-in-Refused : goal.shape_of-table-in-Refused
+shape_of-table-in-Refused c = c.keep-kept.auto.table ∙ (c.loop-at.invariant.fit.size ∙ sym c.requires.2)
+
+pub returns-in-Refused : goal.returns-in-Refused
+returns-in-Refused c = record { table_after = halfway_stop c.loop-at.invariant c.line_at-line.result c.width-wide.result c.loop-at-test.true c.line_at-line.ensures c.width-wide.ensures c.keep-kept.result c.keep-kept.new.coords c.keep-kept.new.seen c.keep-kept.new.table c.keep-kept.ensures.table_after _ c.in-Refused.is; fit_kept = tt }
+
+pub shape_of-coords : goal.shape_of-coords
+shape_of-coords c = c.loop-at.invariant.size ∙ sym c.requires.0
+
+pub shape_of-seen : goal.shape_of-seen
+shape_of-seen c = c.loop-at.invariant.marked ∙ sym c.requires.1
+
+pub shape_of-table : goal.shape_of-table
+shape_of-table c = c.loop-at.invariant.fit.size ∙ sym c.requires.2
+
+pub returns : goal.returns
+returns c = record { table_after = halfway_end c.args.s.now c.args.coords.now c.args.seen.now c.loop-at.coords c.loop-at.seen c.loop-at.table c.loop-at.desk c.loop-at.at c.loop-at.n c.loop-at.invariant c.loop-at-test.false; fit_kept = c.loop-at.invariant.fit }

@@ -1,0 +1,13 @@
+use Prim.Native.Nat.{◌≤◌, ◌+◌, ◌-◌}
+use Rattle.sheet.proofs.Leads.{lead_more, lead_stop, lead_end}
+use Rattle.sheet.specs.Reading.{lead_of}
+use lib.ListN.{length, drop}
+use mathlib.Core.Path.{◌≡◌, refl}
+use native.Mathlib.Omega.{arith}
+use Rattle.sheet.proofs.judge.lead.Given as goal
+
+abbrev pub invariant-loop-i : goal.invariant-loop-i
+invariant-loop-i l = (l.i ≤ length l.seen) × (l.from + lead_of l.v (drop l.from l.seen) ≡ l.i + lead_of l.v (drop l.i l.seen))
+
+abbrev pub decreases-loop-i : goal.decreases-loop-i
+decreases-loop-i l = length l.seen - l.i

@@ -1,0 +1,19 @@
+use Rattle.answer.specs.Seen.{seen_whole}
+use Rattle.sheet_moved.proofs.ThereAndBack.{to_two_fits}
+use Rattle.sheet_written.specs.Write.{Outcome}
+use borrow.Author.Rules.{rules}
+use lib.Seq.{length-take-le}
+use mathlib.Core.Path.{ap, sym}
+use Rattle.sheet_console.proofs.forms.print_two.Goals as goal
+
+pub slice_bounds-write_all-end : goal.slice_bounds-write_all-end
+slice_bounds-write_all-end c = to_two_fits c.args.sheet.now c.args.out.now c.to_two-answer.result c.to_two-answer.new.out c.in-Answered.n c.to_two-answer.ensures (ap seen_whole c.in-Answered.is)
+
+pub slice_bounds-write_all-end-in-Answered : goal.slice_bounds-write_all-end-in-Answered
+slice_bounds-write_all-end-in-Answered c = sym (length-take-le c.in-Answered.n c.to_two-answer.new.out (to_two_fits c.args.sheet.now c.args.out.now c.to_two-answer.result c.to_two-answer.new.out c.in-Answered.n c.to_two-answer.ensures (ap seen_whole c.in-Answered.is)))
+
+pub returns-in-Answered : goal.returns-in-Answered
+returns-in-Answered c = ap (λ (o : Outcome). o.out) c.to_two-answer.ensures
+
+pub returns-in-Refused : goal.returns-in-Refused
+returns-in-Refused c = ap (λ (o : Outcome). o.out) c.to_two-answer.ensures

@@ -1,0 +1,16 @@
+use Prim.Native.Nat.{◌+◌, ◌*◌, ◌-◌, ◌≤◌}
+use Rattle.lists.specs.Lists.{rows, each}
+use Rattle.sheet_printed.proofs.Parts.{one_pair}
+use Rattle.sheet_printed.specs.Printed.{pair_lines}
+use borrow.Author.Rules.{rules}
+use lib.ListN.{length, take, get_or}
+use lib.Seq.{sets, length-sets}
+use mathlib.Core.Path.{◌≡◌, refl, ap, ◌∙◌}
+use native.Mathlib.Omega.{arith}
+use Rattle.sheet_printed.proofs.put_pairs.Given as goal
+
+abbrev pub invariant-loop-i : goal.invariant-loop-i
+invariant-loop-i l = (l.i ≤ l.count) × (l.out ≡ sets l.initial.out 21 (pair_lines (take l.i (rows l.pairs))))
+
+abbrev pub decreases-loop-i : goal.decreases-loop-i
+decreases-loop-i l = l.count - l.i

@@ -1,0 +1,5 @@
+use borrow.Author.Rules.{rules}
+use Rattle.sheet_rewritten.proofs.refuse.Goals as goal
+
+pub returns : goal.returns
+returns c = rw (c.number.ensures, c.place.ensures) at c.put_refusal.ensures
