@@ -1,7 +1,6 @@
 // Reads cases from standard input, a line each, and writes their answers to standard output.
 #![tactic(auto)]
 
-
 mod angles;
 mod calls;
 mod desks;
@@ -9,8 +8,8 @@ mod forces;
 mod lines;
 mod velocities;
 
-// The number of standard input.
-const STDIN: i32 = 0;
+use std::io::{Read, Stdin};
+
 // The number of standard output.
 const STDOUT: i32 = 1;
 
@@ -79,10 +78,12 @@ fn hear_all(
     p
 }
 
-// As many bytes as are there; 0 at the end of the input.
-fn read_some(chunk: &mut [u8]) -> usize {
-    let got = libc::read(STDIN, chunk);
-    io::count(got, chunk)
+// As many bytes as are there; 0 at the end of the input, and where it cannot be read.
+fn read_some(from: &mut Stdin, chunk: &mut [u8]) -> usize {
+    match from.read(chunk) {
+        Ok(n) => n,
+        Err(_) => 0,
+    }
 }
 
 // What is pending at the end of the input. A line without its newline is no case.
@@ -98,6 +99,7 @@ fn finish(out: &mut [u8], p: Pending) {
 
 // A proved loop has to end, and nothing says that the input does: the turns count down, from a number that no run uses up.
 fn serve(
+    from: &mut Stdin,
     chunk: &mut [u8],
     line: &mut [u8],
     words: &mut [u64],
@@ -109,10 +111,10 @@ fn serve(
         filled: 0,
     };
     let mut turns = u64::MAX;
-    let mut n = read_some(chunk);
+    let mut n = read_some(from, chunk);
     while turns > 0 && n > 0 {
         p = hear_all(front(chunk, n), line, words, answer, out, p);
-        n = read_some(chunk);
+        n = read_some(from, chunk);
         turns -= 1;
     }
     finish(out, p);
@@ -133,11 +135,12 @@ fn blank_out() -> [u8; 279078] {
 
 // The largest case has 8,192 words, 139,266 bytes; its line is kept with one byte more, so that a longer one is no case by its length. The largest answer
 // has 16 words more and a newline, 139,539 bytes: two fit into what is written at once.
-fn main() {
+fn main(rt: HostRuntime) {
+    let mut from = rt.stdin();
     let mut chunk = blank_chunk();
     let mut line = blank_line();
     let mut words = [0u64; 8192];
     let mut answer = [0u64; 8208];
     let mut out = blank_out();
-    serve(&mut chunk, &mut line, &mut words, &mut answer, &mut out);
+    serve(&mut from, &mut chunk, &mut line, &mut words, &mut answer, &mut out);
 }

@@ -1,0 +1,7 @@
+use Rattle.field_structs.specs.Flat.{flat_state}
+use borrow.Author.Rules.{rules}
+use Rattle.field_structs.proofs.give.state.Goals as goal
+
+pub returns : goal.returns
+unfolding flat_state
+returns c = rw (c.flag_of.ensures, c.cell.ensures)

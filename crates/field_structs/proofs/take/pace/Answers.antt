@@ -1,0 +1,7 @@
+use Rattle.field_structs.specs.Taken.{pace_of}
+use borrow.Author.Rules.{rules}
+use Rattle.field_structs.proofs.take.pace.Goals as goal
+
+pub returns : goal.returns
+unfolding pace_of
+returns c = rw c.thermostat.ensures
