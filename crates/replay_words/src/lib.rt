@@ -49,7 +49,7 @@ pub struct Small {
 }
 
 // A table: the place of its first element, and the place after its last.
-#[derive(Drop)]
+#[derive(Clone, Copy)]
 pub struct Table {
     pub from: usize,
     pub next: usize,
