@@ -1,5 +1,5 @@
 // Where the static library is, the four unit constants, and, for the tests, the module tree of the original.
-//   TYNGYRLAK_LIB_DIR  the folder of libfield.a; without it ../target/staticlib, where `rt staticlib field` writes it
+//   TYNGYRLAK_LIB_DIR  the folder of libfield.a; without it ../crates/field/out, where `rt lib` in crates/field writes it
 //   TYNGYRLAK_UNITS    the bits of the four constants of `units`, 16 hexadecimal digits each, between commas
 //   FIELD_SRC          the folder of the original's cell.rs, neighbor.rs, ..; without it the tests that compare are marked ignored
 // A folder is an absolute path, or one from this folder.
@@ -33,12 +33,12 @@ fn archive() {
         return;
     }
     let here = PathBuf::from(env::var_os("CARGO_MANIFEST_DIR").expect("cargo sets it"));
-    let folder = here.join(named.unwrap_or("../target/staticlib".into()));
+    let folder = here.join(named.unwrap_or("../crates/field/out".into()));
     let file = folder.join("libfield.a");
     println!("cargo::rerun-if-changed={}", file.display());
     if !file.is_file() {
         println!(
-            "cargo::error=there is no {}: `rt staticlib field` at the top of the repository makes it, or TYNGYRLAK_LIB_DIR names its folder",
+            "cargo::error=there is no {}: `rt lib` in crates/field makes it, or TYNGYRLAK_LIB_DIR names its folder",
             file.display()
         );
         return;

@@ -1,5 +1,5 @@
 #!/usr/bin/env python3
-"""angles.py REPLAY [WORD..]: cosine angles held against physics that was not written here. REPLAY is the program `replay` (target/bin/replay, with words
+"""angles.py REPLAY [WORD..]: cosine angles held against physics that was not written here. REPLAY is the program `replay` (crates/replay/out/replay, with words
 before it where it needs an emulator); `lmp` is LAMMPS (Debian: apt-get install lammps). Writes a page to standard output, and ends with 1 where a bound is
 passed: docs/ANGLES.md is such a page.
 

@@ -6,8 +6,8 @@ refuse each.
     tools/edits.py CRATE ..     those of some crates
     tools/edits.py --list       their names
 
-It works on a copy of the repository in a temporary folder, with the libraries of target/ that are proved (`rt check` first: it proves the others again).
-Its status is rt's. Python 3.9 or newer, run anywhere in the repository."""
+It works on a copy of the repository in a temporary folder, with what `rt check` kept in the crates' out/ (check them first: it proves the others again).
+Its status is rt's, which is 1 too where an edit no longer fits the text. Python 3.9 or newer, run anywhere in the repository."""
 import os
 import shutil
 import subprocess
@@ -36,10 +36,6 @@ def main():
                 shutil.copytree(source, to)
             else:
                 shutil.copy(source, to)
-        for name in ("rlib", "stamp", "log"):
-            source = os.path.join(ROOT, "target", name)
-            if os.path.isdir(source):
-                shutil.copytree(source, os.path.join(copy, "target", name))
         for crate in os.listdir(os.path.join(copy, "crates")):
             kept = os.path.join(copy, "crates", crate, "must-fail")
             shutil.rmtree(kept, ignore_errors=True)

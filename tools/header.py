@@ -59,7 +59,10 @@ def structs():
         lines = read("crates/%s.rt" % source).split("\n")
         for at, line in enumerate(lines):
             m = re.match(r"pub struct (\w+) \{$", line)
-            if m and lines[at - 1] == "#[repr(C)]":
+            marks = at
+            while lines[marks - 1].startswith("#["):
+                marks -= 1
+            if m and "#[repr(C)]" in lines[marks:at]:
                 fields = []
                 for field in lines[at + 1 : lines.index("}", at)]:
                     f = re.match(r"    pub (\w+): (.+),$", field)

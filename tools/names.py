@@ -15,7 +15,7 @@ ROOT = os.path.dirname(os.path.dirname(os.path.abspath(__file__)))
 FRAMES = {"frame", "neighbor", "neighbor_grid", "neighbor_listing"}
 # what a call is given, what it leaves, and how an answer and its memory are shown as that
 CALL = {"Given", "Outcome", "given", "shown"}
-DECLARED = re.compile(r"^(?:(?:abbrev|unfoldable|opaque|rec|pub) )*(?:(?:data|record) )?([^\W\d][\w'′·-]*)(?: \(.*)? ?:(?!:)")
+DECLARED = re.compile(r"^(?:(?:abbrev|unfoldable|opaque|rec|pub) )*(?:(?:data|record) )?([^\W\d][\w'-]*)(?: \(.*)? ?:(?!:)")
 
 
 def main():

@@ -17,7 +17,7 @@ def read(path):
 
 
 def crates():
-    return [line.split(":")[0] for line in read("crates.txt").split("\n") if line.strip()]
+    return re.findall(r"^(\w+)[^:#\n]*:", read("crates.txt"), re.M)
 
 
 def sources(crate):
@@ -144,8 +144,8 @@ class Crates:
     def home(self, source, crate, word):
         """The crate and the file of specs/ that a word of a source, or of a file of specs/, comes from."""
         alias, _, name = word.rpartition(".")
-        for line in re.findall(r"^(?:ghost )?use (Rattle·.*?);?$", source, re.M):
-            m = re.match(r"Rattle·(\w+?)(?:·specs)?\.specs\.(\w+)(?:\.\{(.*)\}| as (\S+))?$", line)
+        for line in re.findall(r"^(?:ghost )?use (Rattle\..*?);?$", source, re.M):
+            m = re.match(r"Rattle\.(\w+)\.specs\.(\w+)(?:\.\{(.*)\}| as (\S+))?$", line)
             if not m:
                 continue
             if alias and m.group(4) == alias or not alias and m.group(3) and name in re.findall(r"[^\s,]+", m.group(3)):
@@ -197,23 +197,19 @@ class Function:
         m = re.search(r"\) -> (.+)$", signature, re.S)
         self.result = m.group(1).strip() if m else None
         self.requires = re.search(r"\n\s*requires\b", head)
-        self.ensures = re.findall(r"ensures \w*\s*\{ λ (\w+)\. ⌜ (.*?) ⌝ \}", head, re.S)
+        self.ensures = re.findall(r"^\s*ensures (?:\w+ )?\{ (.*) \}$", head, re.M)
         self.by = {}
         self.exported = 'extern "C"' in head
 
     def outcome(self):
         return (["result"] if self.result else []) + self.lent
 
-    def part(self, text, binder):
+    def part(self, text):
         """Which part of the outcome a term is: the result, a field of it, or a lent memory at exit."""
         text = bare(text)
-        m = re.match(r"now \(«?(\w+?)»? \.exit\)$", text)
-        if m:
-            return m.group(1)
-        if binder != "_" and text in (binder, "now " + binder):
-            return "result"
-        m = binder != "_" and re.match(r"%s \.(\w+)$" % binder, text)
-        return "result ." + m.group(1) if m else None
+        if re.match(r"\w+\.new$", text):
+            return text[: -len(".new")]
+        return "result" if text in ("result", "result.now") else text if re.match(r"result\.\w+$", text) else None
 
     def note(self, part, how):
         if part:
@@ -230,17 +226,21 @@ class Function:
                 found.append(text[at : end + 1])
                 at = end + 1
             else:
-                m = re.match(r"[^\s(){}]+(?: \.\w+)*", text[at:])
+                m = re.match(r"[^\s(){}]+", text[at:])
                 found.append(m.group(0))
                 at += len(m.group(0))
         return found
 
-    def equation(self, left, binder, source=None):
+    def equation(self, left, source=None):
         left = left.strip()
+        if left.startswith("record {"):
+            for field in left[len("record {") : -1].split(";"):
+                self.equation(field.split(" = ", 1)[1], source)
+            return
         pieces = parts(bare(left), ",") if left.startswith("(") else [left]
-        if len(pieces) > 1 or self.part(left, binder):
+        if len(pieces) > 1 or self.part(left):
             for p in pieces:
-                self.note(self.part(p, binder), "equation")
+                self.note(self.part(p), "equation")
             return
         name, *given = self.terms(bare(left))
         crate, module, word = self.tree.home(source or self.source, self.crate, name)
@@ -250,22 +250,22 @@ class Function:
             if "seen" in said:
                 how += ", whose answer is told by " + ", ".join("answer/proofs/Only." + law for law in sorted(set(seen_laws(said))))
             for g in given:
-                self.note(self.part(g, binder), how)
+                self.note(self.part(g), how)
 
-    def relation(self, text, binder):
+    def relation(self, text):
         name, *given = self.terms(text)
         crate, module, word = self.tree.home(self.source, self.crate, name)
         laws = self.tree.laws(crate, word)
         if laws:
             for g in given:
-                self.note(self.part(g, binder), "law " + laws[0])
+                self.note(self.part(g), "law " + laws[0])
             return
         said = self.tree.definition(crate, module, word)
         m = re.search(r"^%s ([^=]*) = ([^×→]*?) ≡ [^×→]*$" % re.escape(word), said, re.M)
         if m:  # a name for an equation: its left side with what the name is given
             values = dict(zip(m.group(1).split(), given))
             left = " ".join(values.get(t, t) for t in self.terms(m.group(2)))
-            self.equation(left, binder, self.tree.text("crates/%s/specs/%s.antt" % (crate, module)))
+            self.equation(left, self.tree.text("crates/%s/specs/%s.antt" % (crate, module)))
             return
         if re.match(r"pub record ", said):
             held = re.findall(r"[({]([^:(){}]+) :", said.split(" where")[0])
@@ -274,26 +274,26 @@ class Function:
             equal = set(re.findall(r"^\s+pub \S+ : (\w+) ≡ ", said, re.M))
             for n, g in zip(names[implicit:], given):
                 if n in equal:
-                    self.note(self.part(g, binder), "fields of %s" % word)
+                    self.note(self.part(g), "fields of %s" % word)
 
     def verdict(self):
         if self.exported:
-            law = self.name.replace("_", "-") + "-only"
+            law = self.name + "_only"
             told = re.search(r"^pub %s : OneOutcome " % law, self.tree.text("crates/%s/proofs/Only.antt" % self.crate), re.M)
             return "law %s/proofs/Only.%s" % (self.crate, law) if told else "neither: no law " + law
-        for binder, text in self.ensures:
-            for said in parts(bare(" ".join(text.split())), " × "):
+        for text in self.ensures:
+            for said in parts(bare(text), " × "):
                 said = bare(said)
                 sides = parts(said, " ≡ ")
                 if len(sides) > 1:
                     # by entry values alone
-                    if ".exit" not in sides[1] and binder not in re.findall(r"\w+", sides[1]):
-                        self.equation(sides[0], binder)
+                    if not re.search(r"\.new\b|\bresult\b", sides[1]):
+                        self.equation(sides[0])
                 elif not re.search(r" [≤<] ", said) or said[0].isupper():
-                    self.relation(said, binder)
-        fields = {p.split(" .")[1] for p in self.by if p.startswith("result .")}
+                    self.relation(said)
+        fields = {p.split(".")[1] for p in self.by if p.startswith("result.")}
         if self.result and "result" not in self.by and fields and fields >= self.tree.fields(self.crate, self.result.split("::")[-1]):
-            self.by["result"] = "equation for each field" if self.by["result ." + min(fields)] == "equation" else self.by["result ." + min(fields)]
+            self.by["result"] = "equation for each field" if self.by["result." + min(fields)] == "equation" else self.by["result." + min(fields)]
         if not self.ensures:
             return "neither: no ensures" + ("" if self.outcome() else ", no result and nothing lent")
         left = [p for p in self.outcome() if p not in self.by]
@@ -303,9 +303,12 @@ class Function:
         return "; ".join(ways) if ways else "neither: says nothing of an outcome"
 
 
+# what is seen of an answer, and the law of answer/proofs/Only.antt that this tells the answer
+SEEN = {"seen_done": "done_only", "seen_number": "number_only", "seen_yes_no": "yes_no_only", "seen_whole": "whole_only"}
+
+
 def seen_laws(said):
-    names = {"seenDone": "done-only", "seenNumber": "number-only", "seenYesNo": "yes-no-only", "seenWhole": "whole-only"}
-    return [names[n] for n in re.findall(r"seen\w+", said) if n in names]
+    return [SEEN[n] for n in re.findall(r"seen\w+", said) if n in SEEN]
 
 
 def public():

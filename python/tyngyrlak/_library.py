@@ -36,7 +36,7 @@ def library():
 
 
 def made():
-    """What the shared object was made of, as python/shared.sh noted it in it; it starts with `proved` where that is the archive of `rt staticlib field`."""
+    """What the shared object was made of, as python/shared.sh noted it in it; it starts with `proved` where that is the archive of `rt lib` in crates/field."""
     try:
         return ctypes.string_at(ctypes.addressof(ctypes.c_char.in_dll(library(), "tyngyrlak_made"))).decode()
     except ValueError:

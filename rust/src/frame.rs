@@ -81,7 +81,7 @@ impl Frame {
     /// Whether each atom has moved, by nearest image, so that four times its squared displacement is at most the squared skin.
     ///
     /// Then a list that [`Frame::widened`] built over the `old` coordinates has every pair of the `new` ones that is within this frame's radius: the library's
-    /// theorem `skin-enough` says so. Refused where the counts differ (1), and as a build of either at radius plus skin (2, 3).
+    /// theorem `skin_enough` says so. Refused where the counts differ (1), and as a build of either at radius plus skin (2, 3).
     pub fn within_skin(&self, skin: u32, old: &[[u32; 3]], new: &[[u32; 3]]) -> Result<bool, Error> {
         let r = raw::tyn_within_skin(self.flat(), skin, old.as_flattened(), new.as_flattened());
         r.done.of("tyn_within_skin")?;
