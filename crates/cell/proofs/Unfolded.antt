@@ -1,30 +1,26 @@
 -- An image with counts is the source's expression of the difference and the counts (specs/Unfolded.antt). Assumes nothing.
-use mathlib.Core.Path.{◌≡◌, refl, sym, ap, ◌∙◌, subst}
+use mathlib.Core.Path.{◌≡◌, refl, sym, ap, ◌∙◌}
 use mathlib.Core.Bool.{Bool, true, false, cond, ◌&&◌, false≢true}
 use lib.Dec.{T}
-use lib.IntN.{ℤ, pos}
 use lib.Ieee.{Float, binary64, fits, to_signed}
 use lib.Ieee.Fits.{add-fits, div-fits}
 use Rattle.answer.specs.Seen.{Seen, answered, refused}
 use Rattle.float.proofs.Branches.{both_true}
 use Rattle.float.specs.Arith.{◌⊖◌, ◌⊗◌, ◌⊘◌}
-use Rattle.float.specs.Def.{round_of}
 use Rattle.cell_axis.specs.Image.{nearest_of, axis_of, fraction_of}
 use Rattle.cell.proofs.Whole.{there_and_back}
 use Rattle.cell.specs.Matrix.{matrix_of, singular_of, inverse_of, times_of}
-use Rattle.cell.specs.Boxes.{rounded_of, fits_of, triple, counted_of, no_boxes}
+use Rattle.cell.specs.Boxes.{rounded_of, fits_of, triple, counted_of}
 use Rattle.cell.specs.Cell.{round_axis_of, round_fraction_of, general_image_of, box_image_of, skewed_of, lattice_image_of, lattice_boxes_of, boxes_of, quotients_of, image_of}
 use Rattle.cell.specs.Ranged.{other_limit, vec_within, cell_in_range}
-use Rattle.cell.specs.Calls.{MinImageSays, when}
-use Rattle.cell.specs.Seen.{seen_image}
-use Rattle.cell.specs.Unfolded.{float_of, axis_less, fraction_less, box_less, fractions_less, less_of, Unfolds, MinImageUnfolds}
+use Rattle.cell.specs.Calls.{when}
+use Rattle.cell.specs.Unfolded.{axis_less, fraction_less, box_less, fractions_less, less_of, Unfolds, MinImageUnfolds}
 use Rattle.cell.specs.declared.Vec3.{Vec3}
 use Rattle.cell.specs.declared.Lattice.{Lattice}
 use Rattle.cell.specs.declared.Cell.{Cell}
 use Rattle.cell.specs.declared.Cell.TheVariants.{Absent, Present}
 use Rattle.cell.specs.declared.Triple.{Triple}
 use Rattle.cell.specs.declared.Image.{Image}
-use Rattle.cell.specs.declared.ImageAnswer.{ImageAnswer}
 use Rattle.cell.specs.declared.Boxes.{Boxes}
 use Rattle.cell.specs.declared.Boxes.TheVariants.{Counted, NoFit, NoInverse}
 

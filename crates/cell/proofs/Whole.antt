@@ -1,10 +1,10 @@
 -- A number that fits: `as i32` is `as i64`, and brought back to a float it is the number that was rounded. Assumes nothing.
 use mathlib.Core.Path.{◌≡◌, refl, sym, ap, ◌∙◌, subst}
 use Prim.Native.Nat.{ℕ, zero, suc, ◌+◌, ◌-◌, ◌*◌, ◌/◌, ◌^◌, ◌≤◌, ◌<◌, min}
-use native.Mathlib.Nat.{lt_of_lt_of_le, mul-one, one-mul, suc-mul, div-lt_iff_lt-mul, mul-div_cancel}
+use native.Mathlib.Nat.{mul-one, suc-mul, div-lt_iff_lt-mul, mul-div_cancel}
 use native.Mathlib.Omega.{arith}
-use mathlib.Core.Bool.{Bool, true, false, cond, ◌&&◌, ◌||◌, false≢true, true≢false}
-use lib.IntN.{ℤ, pos, negsuc, neg_ℤ}
+use mathlib.Core.Bool.{Bool, true, false, cond, ◌&&◌, ◌||◌, false≢true}
+use lib.IntN.{ℤ, pos, neg_ℤ}
 use lib.Dec.{T, ltb, eqb, ltb→lt, eqb→eq}
 use lib.Ieee.{Float, nan, inf, fin, up, down, neg, lt, le, eq, to_signed, round, binary64, of_int, of_bits, fits}
 use lib.Ieee.Exact.{HasValue}

@@ -1,5 +1,5 @@
 -- How many boxes the minimum image takes off a difference: 02, No. 2, in the reading of docs/CALLS-02.md. Definitions only.
-use Rattle.std.specs.Prelude.{ℕ, Bool, cond, ◌&&◌, ℤ, pos, Float}
+use Rattle.std.specs.Prelude.{Bool, cond, ◌&&◌, pos, Float}
 use Rattle.std.specs.Float.Ieee.{neg, lt, le, to_signed}
 use Rattle.float.specs.Arith.{bits}
 use Rattle.float.specs.Def.{round_of}

@@ -1,6 +1,6 @@
 -- What ties the counts to the difference (02, No. 2: "the three whole counts that it took off"): an image with counts is the source's own expression of the difference and
 -- the counts, float for float, so a path is unfolded by them. proofs/Unfolded.antt shows it of what `min_image` answers.
-use Rattle.std.specs.Prelude.{◌≡◌, ℕ, zero, suc, Bool, cond, ℤ, pos, negsuc, Float}
+use Rattle.std.specs.Prelude.{◌≡◌, zero, suc, Bool, cond, ℤ, pos, negsuc, Float}
 use Rattle.std.specs.Float.{fin, binary64}
 use Rattle.std.specs.Float.Ieee.{of_int}
 use Rattle.answer.specs.Seen.{answered}

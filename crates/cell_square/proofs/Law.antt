@@ -5,14 +5,14 @@ use mathlib.Core.Bool.{Bool, true, false, not, cond, ◌&&◌, ◌||◌, beq, fa
 use Prim.Native.Nat.{ℕ, zero, suc, ◌+◌, ◌-◌, ◌*◌, ◌≤◌, ◌<◌}
 use native.Mathlib.Nat.{mul-one, one-mul, zero-mul, mul_comm, mul_assoc, mul-pos, add_comm, zero-lt-suc, le_of_lt, mul-le-mul_right}
 use native.Mathlib.Omega.{arith}
-use lib.IntN.{ℤ, pos}
+use lib.IntN.{ℤ}
 use lib.Dec.{T, ltb, eqb, ltb→lt, lt→ltb, nltb→le, eqb→eq, not_T}
 use lib.Ieee.{Float, nan, inf, fin, Format, binary64, up, down, neg, sum, add, sub, mul, lt, le, eq, fits, round, of_bits}
 use lib.Ieee.Bits.{is_false, is_true}
 use lib.Ieee.Fits.{down_pos, up_pos, sub-fits, and_l, and_r}
 use lib.Ieee.Order.{round_mono}
 use Rattle.float.specs.Def.{abs_of, negative}
-use Rattle.float.specs.Arith.{◌⊕◌, ◌⊖◌, ◌⊗◌}
+use Rattle.float.specs.Arith.{◌⊖◌}
 use Rattle.float.proofs.Branches.{zero+, yes, same, zero_left, zero_right, sign_fits, abs_low, abs_high}
 use Rattle.float.proofs.Unique.{round_own, zero_exp}
 use Rattle.float.proofs.Fraction.{sub_at, round_neg}

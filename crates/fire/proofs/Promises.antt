@@ -2,7 +2,7 @@
 use Prim.Native.Nat.{ℕ, zero, suc, ◌+◌, ◌≤◌, ◌<◌}
 use native.Mathlib.Omega.{arith}
 use mathlib.Core.Path.{◌≡◌, refl, sym, ap, ◌∙◌, subst}
-use mathlib.Core.Bool.{Bool, true, false, cond, false≢true}
+use mathlib.Core.Bool.{true, false, false≢true}
 use lib.Ieee.{Float, le, lt}
 use lib.ListN.{length}
 use Rattle.answer.specs.declared.Done.{Done}
@@ -18,7 +18,7 @@ use Rattle.verlet_step.specs.Calls.{Motion, units_of, landed_after, landed_by, a
 use Rattle.verlet_step.specs.Calls as Step
 use Rattle.fire.specs.declared.FireOptions.{FireOptions}
 use Rattle.fire.specs.declared.steer.Gait.{Gait}
-use Rattle.fire.specs.Calls.{Relaxing, Outcome, begun_after, begun_by, next_motion, turned_after, turned_by, converged_of, goes_on, relaxed_by, ran_by, settling_asked, ran_unless, ended, fired_of}
+use Rattle.fire.specs.Calls.{Relaxing, begun_after, begun_by, next_motion, turned_after, turned_by, converged_of, goes_on, relaxed_by, ran_by, settling_asked, ran_unless, ended, fired_of}
 use Rattle.fire.specs.Steer.{largest_force}
 use Rattle.fire.specs.Theorems.{FireEnds, FireConverges, LeftBy, FireEvaluates}
 use Rattle.fire.proofs.Largest.{none_past}

@@ -1,9 +1,8 @@
 -- What `fire` answers and leaves in everything lent: one outcome, made from the entry values alone. Definitions only.
-use Rattle.std.specs.Prelude.{ℕ, zero, suc, ◌+◌, ◌≡◌, Bool, true, false, cond, not, List, Float, length}
+use Rattle.std.specs.Prelude.{ℕ, zero, suc, ◌+◌, ◌≡◌, Bool, false, cond, not, List, Float, length}
 use Rattle.std.specs.Float.Ieee.{le}
 use Rattle.answer.specs.declared.Done.{Done}
 use Rattle.answer.specs.declared.Done.TheVariants as DoneCases
-use Rattle.answer.specs.declared.Refusal.{Refusal}
 use Rattle.answer.specs.Seen.{Seen, answered, refused, seen_done}
 use Rattle.float.specs.Literals.{f0}
 use Rattle.virial.specs.Virial.{zero_forces}

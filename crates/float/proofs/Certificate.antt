@@ -1,8 +1,8 @@
 -- The certificate of a root: what the parts of a square are, and that what `confirmed` lets pass is the whole number nearest to the root. Assumes nothing.
-use Rattle.std.proofs.Common.{◌≡◌, ℕ, zero, suc, ◌+◌, ◌-◌, ◌*◌, ◌/◌, ◌%◌, ◌^◌, ◌<◌, ◌≤◌, Bool, true, false, cond, not, ◌&&◌, T, eqb, ltb, leb, sym, refl, ap, ◌∙◌, subst, lt_of_le_of_lt, mul_assoc, mul_comm, add-mul, mul-le-mul, mul-add, mul_right_comm, mul_left_comm, arith, eqb→eq, ltb→lt, leb→le, nltb→le}
+use Rattle.std.proofs.Common.{◌≡◌, ℕ, ◌+◌, ◌-◌, ◌*◌, ◌/◌, ◌%◌, ◌^◌, ◌<◌, ◌≤◌, Bool, true, false, cond, not, ◌&&◌, T, eqb, ltb, leb, sym, ap, ◌∙◌, subst, lt_of_le_of_lt, mul_assoc, mul_comm, add-mul, mul-le-mul, mul-add, mul_right_comm, arith, eqb→eq, ltb→lt, leb→le, nltb→le}
 use lib.Dec.{nleb→lt}
 use Rattle.float.specs.Def.{whole_root}
-use Rattle.float.specs.Steps.{Within, Confirmed}
+use Rattle.float.specs.Steps.{Confirmed}
 use Rattle.float.proofs.WholeRoots.{sq_plus, sq_twice, sq_lt_back, whole_root_lem, IsRoot}
 
 -- ---- the nearest whole number

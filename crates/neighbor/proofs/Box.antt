@@ -1,5 +1,5 @@
 -- What a state remembers after an update, and that the second question keeps a list only in the remembered cell. Assumes nothing.
-use Rattle.std.proofs.Common.{◌≡◌, ℕ, Bool, true, false, cond, not, ◌&&◌, ◌||◌, ltb, List, length, sym, refl, arith, eqb-true}
+use Rattle.std.proofs.Common.{◌≡◌, ℕ, Bool, true, false, cond, not, ◌||◌, ltb, List, length, sym, refl, arith, eqb-true}
 use mathlib.Core.Bool.{false≢true}
 use lib.Ieee.{Float, to_bits, binary64}
 use borrow.Author.Tests.{not-true, not-false}
@@ -18,7 +18,7 @@ use Rattle.neighbor.specs.declared.Question.{Question}
 use Rattle.neighbor.specs.declared.Question.TheVariants.{Outdated}
 use Rattle.neighbor.specs.State.{radius_of, kept_of, built_of, emptied_of}
 use Rattle.neighbor.specs.Rebuild.{needs_of, same_number, same_vector, same_flag, same_lattice, same_box, outdated_of}
-use Rattle.neighbor.specs.Update.{Given, Outcome, stays, kept_all, built_all, full_all, listed_all, listed_by, rebuilt_all, unfit, keeps_of, update_of}
+use Rattle.neighbor.specs.Update.{Given, stays, kept_all, built_all, full_all, listed_all, listed_by, rebuilt_all, unfit, keeps_of, update_of}
 use Rattle.neighbor.specs.Box.{vector_bits, box_bits, SameBits, Remembered, UpdateRemembers, KeptInBox, UpdateKeeps}
 
 never : {A : Type 0} {n p : ℕ} → ◌≡◌ {A = Seen (Unit {0})} (answered tt) (refused n p) → A

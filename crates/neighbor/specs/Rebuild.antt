@@ -10,7 +10,6 @@ use Rattle.lists.specs.Lists.{up_to, some, every}
 use Rattle.ranges.specs.Ranged.{within}
 use Rattle.answer.specs.declared.Done.{Done}
 use Rattle.answer.specs.declared.Done.TheVariants.{Answered, Refused}
-use Rattle.answer.specs.declared.Refusal.TheVariants.{Lengths, TooMany, Range, Claims}
 use Rattle.answer.specs.declared.YesNo.{YesNo}
 use Rattle.answer.specs.Seen.{Seen, answered, refused_by, seen_yes_no}
 use Rattle.cell.specs.declared.Vec3.{Vec3}

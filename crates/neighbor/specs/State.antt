@@ -1,10 +1,8 @@
 -- The state of a list: its settings, its radius, and the three states that are made (01, "Pair list rules", "Refusal numbers"; neighbor.rs, `new`, `search_radius`, `build`).
 -- Definitions only.
-use Rattle.std.specs.Prelude.{◌≡◌, ℕ, ◌+◌, ◌-◌, ◌%◌, Bool, false, cond, ◌&&◌, Float}
+use Rattle.std.specs.Prelude.{◌≡◌, ℕ, ◌+◌, ◌-◌, ◌%◌, Bool, false, cond, Float}
 use Rattle.float.specs.Arith.{◌⊕◌, bits}
 use Rattle.float.specs.Def.{max_of}
-use Rattle.ranges.specs.Ranged.{within, between}
-use Rattle.cell.specs.Ranged.{entry_limit}
 use Rattle.cell.specs.declared.Cell.{Cell}
 use Rattle.cell.specs.declared.Cell.TheVariants as CellCases
 use Rattle.answer.specs.Seen.{Seen, answered, refused, refused_by, seen_number}

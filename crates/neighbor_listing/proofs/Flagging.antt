@@ -10,7 +10,6 @@ use lib.Dec.{ltb}
 use lib.Ieee.{Float, nan, le}
 use lib.ListN.{length, get_or, set, take, drop, length-set, length-drop}
 use lib.Seq.{get_or-set_same, get_or-set_other, get_or-drop, length-take-le}
-use Rattle.float.specs.Arith.{at}
 use Rattle.float.proofs.Branches.{both_true}
 use Rattle.lists.specs.Lists.{keep, with_each, inside}
 use Rattle.lists.proofs.Walks.{drop_past, rest_of}

@@ -2,7 +2,7 @@
 use Prim.Native.Nat.{ℕ, ◌*◌, ◌≤◌, ◌<◌}
 use mathlib.Core.Path.{◌≡◌, refl, sym, ap, ◌∙◌, subst}
 use mathlib.Core.Bool.{Bool, true, false, cond, not, ◌&&◌, true≢false}
-use native.Mathlib.Nat.{mul-one, zero-mul}
+use native.Mathlib.Nat.{zero-mul}
 use mathlib.Core.List.{List}
 use native.Mathlib.Omega.{arith}
 use borrow.Author.Tests.{not-true, ltb-false}
@@ -14,8 +14,8 @@ use lib.Ieee.Bits.{is_false}
 use lib.Ieee.Fits.{add-fits, sub-fits}
 use Rattle.float.specs.Arith.{◌⊕◌, ◌⊖◌, ◌⊗◌, bits, at, row}
 use Rattle.float.specs.Def.{abs_of}
-use Rattle.float.proofs.Branches.{both_true, yes}
-use Rattle.cell_axis.specs.Image.{nearest_of, fraction_of, near_axis_of, NearSays}
+use Rattle.float.proofs.Branches.{both_true}
+use Rattle.cell_axis.specs.Image.{nearest_of, near_axis_of, NearSays}
 use Rattle.cell_axis.proofs.Law.{bounded, near_apart}
 use Rattle.cell_axis.proofs.Unit.{nearest_one}
 use Rattle.cell_square.specs.Square.{step_of, calm_of, gap_of, SideSays, OneStep, SteadySays, SharedSteady, CalmSays}
@@ -25,7 +25,7 @@ use Rattle.cell_square.proofs.Opposite.{Opposite, opposite_sub, opposite_three, 
 use Rattle.cell_square.proofs.Between.{calm_nothing}
 use Rattle.cell_square.proofs.Zeros.{still_square}
 use Rattle.cell.specs.declared.Vec3.{Vec3}
-use Rattle.cell.specs.Vec.{sub_of, dot_of, norm2_of, position_at}
+use Rattle.cell.specs.Vec.{dot_of, norm2_of, position_at}
 use Rattle.cell.specs.Matrix.{Matrix, matrix_of, times_row, times_of}
 use Rattle.cell.specs.Cell.{round_axis_of}
 use Rattle.cell.specs.General.{general_by, image_by, rounded_by}

@@ -3,7 +3,7 @@ ghost use Rattle.std.specs.Prelude.{◌+◌, ◌≤◌, length, ◌≡◌, false
 
 use replay_words::Table;
 
-#[derive(Drop)]
+#[derive(Clone, Copy)]
 pub struct Parts {
     pub angles: bool, // 1: the term of angles after bonds', and its two tables after theirs
     pub cell: bool, // 2: a cell at the end of State

@@ -14,7 +14,7 @@ use verlet::Thermostat;
 use verlet_step::{Pace, Stepped};
 use virial::Sum;
 
-#[derive(Drop)]
+#[derive(Clone, Copy)]
 pub enum Work {
     Evaluate,
     Step,
@@ -157,7 +157,7 @@ struct Rooms {
     forces: Table,
 }
 
-#[derive(Drop)]
+#[derive(Clone, Copy)]
 struct Form {
     moves: bool,
     has_potential: bool,

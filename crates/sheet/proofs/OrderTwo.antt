@@ -14,7 +14,7 @@ use Rattle.lists.specs.Exact.{◌∈◌}
 use Rattle.lists.proofs.Cases.{by_test, impossible}
 use Rattle.answer.specs.Seen.{Seen, answered, refused}
 use Rattle.exclusions.specs.Table.{added}
-use Rattle.sheet_lines.specs.Grammar.{WellFormed, AllWellFormed, AllWhole, join_all}
+use Rattle.sheet_lines.specs.Grammar.{AllWellFormed, AllWhole, join_all}
 use Rattle.sheet_lines.specs.declared.Head.{Head}
 use Rattle.sheet_lines.specs.declared.Line.{Line}
 use Rattle.sheet_lines.specs.declared.Line.TheVariants.{Header, Atom, Exclusion, Malformed, End}
@@ -23,10 +23,10 @@ use Rattle.sheet_lines_two.specs.declared.TwoLine.{TwoLine}
 use Rattle.sheet_lines_two.specs.Twos.{rule_of, ruled_head, kind_of, told_of, twos_of}
 use Rattle.sheet_lines_two.specs.Grammar.{two_text, ValidTwo, WellTwo}
 use Rattle.sheet_lines_two.proofs.WholeTwos.{in_twos, twos_valid, twos_reordered}
-use Rattle.sheet.specs.Meaning.{Meaning, Atoms, and_then, acted, act_of, headed, seated, excluding, fresh, placed}
-use Rattle.sheet.specs.Reading.{Sound, refusal_for, onward, run, blank, stray_of, unmarked_of, counted, tested, sound_with, then_tested}
+use Rattle.sheet.specs.Meaning.{Meaning, and_then, headed, seated, excluding, fresh, placed}
+use Rattle.sheet.specs.Reading.{refusal_for, onward, run, blank, stray_of, unmarked_of, counted, tested, sound_with, then_tested}
 use Rattle.sheet.specs.ReadTwo.{SoundTwo, species_in, rule_in, with_species, paired, ran_two, sheet_two}
-use Rattle.sheet.specs.Theorems.{HeadsAlike, RunAlike, RunsAlike, RuleSaid, HeaderSaysRule, TwoInAnyOrder, AcceptedTwoInAnyOrder}
+use Rattle.sheet.specs.Theorems.{HeadsAlike, RunAlike, RunsAlike, RuleSaid, HeaderSaysRule, AcceptedTwoInAnyOrder}
 use Rattle.sheet.proofs.Order.{run_order, run_well}
 use Rattle.sheet.proofs.AnyOrder.{same_number_lem, same_two}
 

@@ -1,11 +1,10 @@
 -- Laws of what `read_two` writes after the lines, and `read_two` by its cases. Assumes nothing.
-use Prim.Native.Nat.{ℕ, ◌*◌, ◌≤◌, ◌<◌}
-use mathlib.Core.Path.{◌≡◌, refl, sym, ap, ◌∙◌}
+use Prim.Native.Nat.{ℕ, ◌≤◌, ◌<◌}
+use mathlib.Core.Path.{◌≡◌, refl, sym, ap}
 use mathlib.Core.Bool.{true, false}
 use mathlib.Core.List.{List, map}
 use lib.ListN.{length}
 use lib.Seq.{sets}
-use native.Mathlib.Omega.{arith}
 use borrow.Author.Tests.{lt-ltb, le-ltb}
 use Rattle.answer.specs.Seen.{Seen, answered, refused, refused_by, number_of, place_of}
 use Rattle.answer.specs.declared.Refusal.{Refusal}
@@ -16,7 +15,7 @@ use Rattle.sheet_lines_two.specs.Twos.{told_of, twos_of}
 use Rattle.sheet.specs.Meaning.{Meaning}
 use Rattle.sheet.specs.Reading.{tested, run, blank, Sound, sound_with, then_tested}
 use Rattle.sheet.specs.Read.{Outcome, job_for, handed}
-use Rattle.sheet.specs.ReadTwo.{species_in, rule_in, with_species, paired, ran_two, sheet_two, OutcomeTwo, handed_two, read_two_of}
+use Rattle.sheet.specs.ReadTwo.{species_in, rule_in, with_species, ran_two, sheet_two, OutcomeTwo, handed_two, read_two_of}
 use Rattle.sheet.specs.declared.Job.{Job}
 use Rattle.sheet.proofs.Settling.{sound_few}
 

@@ -1,7 +1,7 @@
 -- Laws of the lines of any form in turn: one turn of a reader's loop, its ends, and how far a line goes. A form is its lines from a place on, each told in the
 -- first form. Assumes nothing.
-use Prim.Native.Nat.{ℕ, zero, suc, ◌+◌, ◌-◌, ◌≤◌, ◌<◌}
-use mathlib.Core.Path.{◌≡◌, refl, sym, ap, ◌∙◌}
+use Prim.Native.Nat.{ℕ, suc, ◌+◌, ◌-◌, ◌≤◌, ◌<◌}
+use mathlib.Core.Path.{◌≡◌, sym, ap, ◌∙◌}
 use mathlib.Core.Bool.{false}
 use mathlib.Core.Option.{Option, none, some}
 use mathlib.Core.List.{List, [], ◌∷◌}
@@ -11,7 +11,6 @@ use lib.ListN.{length}
 use Rattle.lists.proofs.Cases.{impossible}
 use Rattle.answer.specs.Seen.{Seen, answered, refused, refused_by, number_of, place_of}
 use Rattle.answer.specs.declared.Refusal.{Refusal}
-use Rattle.lists.specs.Lists.{rows}
 use Rattle.exclusions.specs.Table.{is_table}
 use Rattle.sheet_lines.specs.Grammar.{WellFormed}
 use Rattle.sheet_lines.specs.declared.Line.{Line}

@@ -9,7 +9,6 @@ use Rattle.sheet_lines.specs.Grammar.{AllWhole, join_all}
 use Rattle.sheet_lines.specs.declared.Head.{Head}
 use Rattle.sheet_lines.specs.declared.Line.{Line}
 use Rattle.sheet_lines.specs.declared.Line.TheVariants.{Header}
-use Rattle.sheet_lines_two.specs.declared.TwoLine.{TwoLine}
 use Rattle.sheet_lines_two.specs.Twos.{twos_of, rule_of, ruled_head}
 use Rattle.sheet.specs.Meaning.{Meaning, and_then, acted, act_of}
 use Rattle.sheet.specs.ReadTwo.{SoundTwo, ran_two, sheet_two}

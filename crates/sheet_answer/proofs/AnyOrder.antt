@@ -7,7 +7,6 @@ use native.Mathlib.Nat.{ℕ_set}
 use native.Mathlib.Omega.{arith}
 use lib.ListN.{length}
 use borrow.Author.Tests.{le-ltb}
-use Rattle.answer.specs.Seen.{refused}
 use Rattle.sheet_lines.specs.Reading.{lines_of}
 use Rattle.sheet_lines.specs.Grammar.{AllWhole, join_all}
 use Rattle.sheet_lines.proofs.AnyForm.{one_way}

@@ -1,5 +1,5 @@
 -- Laws of `is_two`, and `read_either` by its cases. Assumes nothing.
-use Prim.Native.Nat.{ℕ, zero, suc, ◌+◌, ◌-◌, ◌*◌, ◌/◌, ◌%◌, ◌≤◌, ◌<◌}
+use Prim.Native.Nat.{ℕ, zero, suc, ◌+◌, ◌-◌, ◌/◌, ◌%◌, ◌≤◌, ◌<◌}
 use mathlib.Core.Path.{◌≡◌, refl, sym, ap, ◌∙◌}
 use mathlib.Core.Bool.{Bool, true, false, cond}
 use mathlib.Core.List.{List, [], ◌∷◌, ◌++◌}
@@ -11,12 +11,10 @@ use lib.Seq.{sets}
 use lib.Dec.{ltb}
 use borrow.Author.Tests.{lt-ltb, le-ltb}
 use Rattle.answer.specs.Seen.{Seen, answered, refused, refused_by}
-use Rattle.answer.specs.declared.Refusal.{Refusal}
 use Rattle.answer.specs.declared.Refusal.TheVariants.{Lengths}
 use Rattle.lists.proofs.Cases.{by_test, impossible}
 use Rattle.hexadecimal.proofs.Writing.{put_put}
 use Rattle.sheet_lines.specs.declared.Line.{Line}
-use Rattle.sheet_lines.specs.declared.Line.TheVariants.{Header, Atom, Exclusion, Malformed, End}
 use Rattle.sheet_lines_two.specs.declared.TwoLine.{TwoLine}
 use Rattle.sheet_lines_two.specs.Twos.{two_at, wide_two, width_two, twos_from, twos_of}
 use Rattle.sheet.specs.Reading.{Sound, sheet_of}
@@ -24,7 +22,7 @@ use Rattle.sheet.specs.Read as one
 use Rattle.sheet.specs.ReadTwo.{OutcomeTwo, read_two_of}
 use Rattle.sheet.specs.declared.Job.{Job}
 use Rattle.sheet.proofs.Sizes.{full}
-use Rattle.sheet_either.specs.Either.{says_two, is_two, Outcome, as_two, as_one, either_of}
+use Rattle.sheet_either.specs.Either.{says_two, is_two, as_two, as_one, either_of}
 
 -- ---- which form: each exclusion takes 11 bytes
 abbrev pub left_two : List ℕ → ℕ → Bool

@@ -1,22 +1,21 @@
 -- THEOREMS. A sheet that one form's reader accepts is of that form, and its whole lines in another order are read alike. Assumes nothing.
 use Prim.Native.Nat.{ℕ, zero, suc, ◌+◌, ◌^◌, ◌≤◌, ◌<◌}
-use mathlib.Core.Path.{◌≡◌, refl, sym, ap, ◌∙◌, subst}
+use mathlib.Core.Path.{◌≡◌, refl, sym, ap, ◌∙◌}
 use mathlib.Core.Bool.{Bool, true, false, cond}
 use mathlib.Core.Option.{Option, none, some}
 use mathlib.Core.List.{List, [], ◌∷◌, map, Perm}
 use native.Mathlib.Omega.{arith}
-use lib.ListN.{length, replicate}
-use lib.Seq.{sets}
+use lib.ListN.{length}
 use lib.Dec.{ltb, leb, eqb}
-use borrow.Author.Tests.{lt-ltb, le-ltb, ne_eqb, eqb-true, ltb-true, ltb-false}
+use borrow.Author.Tests.{lt-ltb, ne_eqb, eqb-true, ltb-true, ltb-false}
 use Rattle.lists.proofs.Cases.{by_test, impossible}
 use Rattle.answer.specs.Seen.{Seen, answered, refused, refused_by}
 use Rattle.answer.specs.declared.Refusal.TheVariants.{Lengths}
 use Rattle.exclusions.specs.Table.{added}
-use Rattle.hexadecimal.specs.Digits.{byte_at, hex2, hex4, hex8}
+use Rattle.hexadecimal.specs.Digits.{byte_at, hex2, hex4}
 use Rattle.hexadecimal.proofs.Choice.{cases}
 use Rattle.sheet_lines.specs.Grammar.{WellFormed, AllWellFormed, AllWhole, join_all}
-use Rattle.sheet_lines.specs.Reading.{three_at, header_of, atom_of, exclusion_of, line_at, line_width, lines_from, lines_of}
+use Rattle.sheet_lines.specs.Reading.{exclusion_of, line_at, line_width, lines_from, lines_of}
 use Rattle.sheet_lines.specs.declared.Head.{Head}
 use Rattle.sheet_lines.specs.declared.Line.{Line}
 use Rattle.sheet_lines.specs.declared.Line.TheVariants.{Header, Atom, Exclusion, Malformed, End}
@@ -24,16 +23,16 @@ use Rattle.sheet_lines_two.specs.declared.TwoLine.{TwoLine}
 use Rattle.sheet_lines_two.specs.Twos.{plain_two, ruled_two, end_two, header_two, two_at, wide_two, width_two, twos_from, twos_of, told_of}
 use Rattle.sheet.specs.declared.Job.{Job}
 use Rattle.sheet.specs.declared.two.RuledJob.{RuledJob}
-use Rattle.sheet.specs.Meaning.{Meaning, and_then, acted, act_of, excluding}
-use Rattle.sheet.specs.Reading.{Sound, refusal_for, onward, run, blank, tested, sound_with, then_tested, sheet_of}
+use Rattle.sheet.specs.Meaning.{Meaning, and_then, excluding}
+use Rattle.sheet.specs.Reading.{Sound, refusal_for, onward, run, blank, tested, sound_with, sheet_of}
 use Rattle.sheet.specs.Read as one
-use Rattle.sheet.specs.ReadTwo.{SoundTwo, rule_in, with_species, paired, ran_two, sheet_two, OutcomeTwo, handed_two, read_two_of}
+use Rattle.sheet.specs.ReadTwo.{SoundTwo, rule_in, with_species, ran_two, sheet_two, OutcomeTwo, handed_two, read_two_of}
 use Rattle.sheet.proofs.Order.{read_well}
 use Rattle.sheet.proofs.AnyOrder.{one_kept, one_order}
-use Rattle.sheet.proofs.OrderTwo.{TwosKept, twos_kept, kept_is, header_says_rule, two_order}
+use Rattle.sheet.proofs.OrderTwo.{twos_kept, kept_is, header_says_rule, two_order}
 use Rattle.sheet_either.specs.declared.Formed.{Formed}
 use Rattle.sheet_either.specs.Either.{says_two, is_two, formed_one, formed_two, Outcome, as_two, zeroed, as_one, either_of}
-use Rattle.sheet_either.specs.Theorems.{FirstForm, SecondForm, OtherForm, OtherMalformed, RuleAnswered, EitherInAnyOrder}
+use Rattle.sheet_either.specs.Theorems.{FirstForm, SecondForm, OtherMalformed, RuleAnswered, EitherInAnyOrder}
 use Rattle.sheet_either.proofs.Either.{by_two, by_one}
 
 -- ---- a line of the other form

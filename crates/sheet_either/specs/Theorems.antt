@@ -13,7 +13,7 @@ use Rattle.sheet.specs.declared.two.RuledJob.{RuledJob}
 use Rattle.sheet.specs.Read as one
 use Rattle.sheet.specs.ReadTwo.{read_two_of}
 use Rattle.sheet_either.specs.declared.Formed.{Formed}
-use Rattle.sheet_either.specs.Either.{Outcome, as_two, either_of}
+use Rattle.sheet_either.specs.Either.{as_two, either_of}
 
 -- A sheet that `read` accepts is of the first form, and the new reader has the old reading, with species 0 for each atom and rule 1.
 abbrev pub FirstForm : (s co sp ex : List ℕ) → Type 0

@@ -9,7 +9,7 @@ use lib.Dec.{ltb}
 use Rattle.hexadecimal.specs.Glyphs.{glyph_of, text2, text4, text8, Stands}
 use Rattle.hexadecimal.proofs.Choice.{cases}
 use Rattle.sheet_lines.specs.Reading.{line_at, line_width, lines_from, lines_of}
-use Rattle.sheet_lines.specs.Grammar.{text888, line_text, Valid, sheet_text, AllValid, WellFormed, AllWellFormed, Unbroken, WholeLine, AllWhole, join_all}
+use Rattle.sheet_lines.specs.Grammar.{text888, line_text, Valid, sheet_text, AllValid, WellFormed, AllWellFormed, Unbroken, WholeLine, join_all}
 use Rattle.sheet_lines.specs.declared.Line.{Line}
 use Rattle.sheet_lines.specs.declared.Line.TheVariants.{Header, Atom, Exclusion, Malformed, End}
 use Rattle.sheet_lines.proofs.GrammarLaws.{line_text_lem, text_line, length_text, Sound}

@@ -1,6 +1,6 @@
 -- The first form: another order of a sheet's whole lines is another order of its lines. Assumes nothing.
 use Prim.Native.Nat.{ℕ}
-use mathlib.Core.Path.{◌≡◌, sym, ap, ap₂, subst, ◌∙◌}
+use mathlib.Core.Path.{◌≡◌, subst}
 use mathlib.Core.List.{List, Permᴰ}
 use lib.ListN.{length}
 use Rattle.sheet_lines.specs.Reading.{line_at, line_width, lines_of}

@@ -12,15 +12,14 @@ use Rattle.hexadecimal.specs.Glyphs.{text2, text4, text8, Stands}
 use Rattle.hexadecimal.proofs.Writing.{length2, length4, length8}
 use Rattle.hexadecimal.proofs.Reading.{stands_split, stands_join, hex2_text, text_hex2, hex4_text, text_hex4, hex8_text, text_hex8, in_range}
 use Rattle.sheet_lines.specs.Reading.{three_at, header_of, atom_of, exclusion_of}
-use Rattle.sheet_lines.specs.Grammar.{text888, line_text, Valid}
-use Rattle.sheet_lines.specs.declared.Head.{Head}
+use Rattle.sheet_lines.specs.Grammar.{text888, line_text}
 use Rattle.sheet_lines.specs.declared.Three.{Three}
 use Rattle.sheet_lines.specs.declared.Three.TheVariants.{Of, Nothing}
 use Rattle.sheet_lines.specs.declared.Line.{Line}
 use Rattle.sheet_lines.specs.declared.Line.TheVariants.{Header, Atom, Exclusion, Malformed, End}
 use Rattle.sheet_lines.proofs.GrammarLaws.{length888, three_text, ThreeStands, text_three}
 use Rattle.sheet_lines_two.specs.declared.TwoLine.{TwoLine}
-use Rattle.sheet_lines_two.specs.Twos.{plain_two, typed_two, ruled_two, end_two, header_two, two_at, head_wide, wide_two}
+use Rattle.sheet_lines_two.specs.Twos.{typed_two, ruled_two, end_two, header_two, two_at, head_wide, wide_two}
 use Rattle.sheet_lines_two.specs.Grammar.{head_text, rule_text, text_with, two_text, ValidWith, ValidTwo}
 
 -- ---- a header's end

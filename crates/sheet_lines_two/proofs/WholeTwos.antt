@@ -8,7 +8,7 @@ use native.Mathlib.Omega.{arith}
 use lib.ListN.{length}
 use lib.Dec.{ltb}
 use Rattle.hexadecimal.specs.Glyphs.{text2, text4, text8, Stands}
-use Rattle.sheet_lines.specs.Grammar.{text888, Valid, WellFormed, Unbroken, WholeLine, AllWhole, join_all}
+use Rattle.sheet_lines.specs.Grammar.{text888, WellFormed, Unbroken, WholeLine, AllWhole, join_all}
 use Rattle.sheet_lines.specs.declared.Head.{Head}
 use Rattle.sheet_lines.specs.declared.Line.{Line}
 use Rattle.sheet_lines.specs.declared.Line.TheVariants.{Header, Atom, Exclusion, Malformed, End}

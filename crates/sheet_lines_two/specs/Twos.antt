@@ -1,7 +1,7 @@
 -- The line that stands at a place of a sheet of the second form (02, No. 9: "header 11 and atom 12, the atom line having species (8 digits) at the end. Exclusions keep 03";
 -- No. 10: "a digit pair, 01 or 02, at the end of its header; a header without it still reads as rule 1").
 -- A line is what it says in the first form, and one number more: an atom's species, or a header's digit pair, 0 where none is written. Definitions only.
-use Rattle.std.specs.Prelude.{ℕ, zero, suc, ◌+◌, ◌^◌, Bool, true, false, cond, List, [], ◌∷◌, length, ltb, eqb}
+use Rattle.std.specs.Prelude.{ℕ, zero, suc, ◌+◌, ◌^◌, Bool, cond, List, [], ◌∷◌, length, ltb, eqb}
 use Rattle.hexadecimal.specs.Digits.{byte_at, hex2, hex4, hex8}
 use Rattle.sheet_lines.specs.Reading.{three_at, header_of, atom_of, exclusion_of}
 use Rattle.sheet_lines.specs.declared.Head.{Head}

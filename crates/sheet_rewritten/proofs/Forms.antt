@@ -2,28 +2,26 @@
 use Prim.Native.Nat.{ℕ, ◌+◌, ◌*◌, ◌/◌, ◌%◌, ◌≤◌, ◌<◌}
 use mathlib.Core.Path.{◌≡◌, refl, sym, ap, ap₂, ◌∙◌}
 use mathlib.Core.Bool.{Bool, true, false, cond}
-use mathlib.Core.List.{List, ◌++◌}
-use native.Mathlib.Nat.{zero-add}
+use mathlib.Core.List.{List}
 use native.Mathlib.Omega.{arith}
 use lib.ListN.{length, take, drop}
 use lib.Seq.{sets, sets-eq, take_at}
-use lib.Dec.{ltb, eqb}
+use lib.Dec.{ltb}
 use borrow.Author.Tests.{le-ltb, lt-ltb, ltb-false, eq-eqb}
-use Rattle.answer.specs.Seen.{Seen, answered, refused, refused_by, seen_whole, number_of, place_of}
+use Rattle.answer.specs.Seen.{Seen, answered, refused, refused_by, number_of, place_of}
 use Rattle.answer.specs.declared.Done.{Done}
 use Rattle.answer.specs.declared.Done.TheVariants as dones
 use Rattle.answer.specs.declared.Whole.{Whole}
 use Rattle.answer.specs.declared.Whole.TheVariants as wholes
 use Rattle.answer.specs.declared.Refusal.{Refusal}
 use Rattle.answer.specs.declared.Refusal.TheVariants.{Lengths, Range}
-use Rattle.lists.specs.Lists.{rows, flat}
+use Rattle.lists.specs.Lists.{flat}
 use Rattle.lists.proofs.Cases.{by_test, impossible}
 use Rattle.lists.proofs.Rows.{length_flat, rows_flat}
 use Rattle.frame.specs.declared.Frame.{Frame}
 use Rattle.frame.specs.Build.{ranges_ok}
 use Rattle.sheet_lines.specs.declared.Head.{Head}
 use Rattle.sheet_printed.specs.Printed.{refusal_line}
-use Rattle.sheet_printed.proofs.Parts.{length_refusal}
 use Rattle.sheet.specs.declared.Job.{Job}
 use Rattle.sheet.specs.Reading.{Sound, sheet_of}
 use Rattle.sheet.specs.Read as reading
@@ -31,9 +29,8 @@ use Rattle.sheet.specs.declared.Sheet as sheet
 use Rattle.sheet.specs.declared.Sheet.TheVariants as sheets
 use Rattle.sheet.proofs.Sizes.{Full, full}
 use Rattle.sheet_answer.specs.Solve.{frame_for}
-use Rattle.sheet_written.specs.Written.{mask_of, head_of, written_text}
+use Rattle.sheet_written.specs.Written.{head_of, written_text}
 use Rattle.sheet_written.specs.Write as writing
-use Rattle.sheet_written.specs.Theorems.{on_x, on_y, on_z}
 use Rattle.sheet_written.proofs.Flags.{mask_back}
 use Rattle.sheet_written.proofs.Cases.{Fitting, fits_by, ask_range, ask_fine, Fine, fine}
 use Rattle.sheet_written.proofs.Back.{reads_written, bytes_few}

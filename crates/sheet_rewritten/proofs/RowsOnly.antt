@@ -1,14 +1,14 @@
 -- Two exclusion tables that exclude the same pairs are the same rows. Assumes nothing.
 use Prim.Native.Nat.{ℕ}
 use mathlib.Core.Path.{◌≡◌, refl, sym, ap, ◌∙◌}
-use mathlib.Core.Bool.{Bool, true, false, ◌&&◌, ◌||◌, false≢true}
+use mathlib.Core.Bool.{true, false, false≢true}
 use mathlib.Core.List.{List, [], ◌∷◌}
 use mathlib.Core.Logic.{◌⊎◌, inl, inr}
 use lib.Dec.{ltb}
 use Rattle.lists.specs.Lists.{some}
 use Rattle.lists.proofs.Cases.{and_both, or_cases, true_or_false}
 use Rattle.exclusions.specs.Table.{before, same_pair, leads, is_table, is_row}
-use Rattle.exclusions.proofs.RowOrder.{pair_same, same_pair_lem, before_trans, before_other, after_other}
+use Rattle.exclusions.proofs.RowOrder.{pair_same, same_pair_lem, before_trans, before_other}
 use Rattle.exclusions.proofs.Search.{tail_table}
 
 by_cases : {A B C : Type 0} → A ⊎ B → (A → C) → (B → C) → C

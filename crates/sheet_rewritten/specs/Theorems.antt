@@ -12,7 +12,7 @@ use Rattle.sheet.specs.Reading.{Sound, sheet_of}
 use Rattle.sheet.specs.Read as reading
 use Rattle.sheet_answer.specs.Solve.{frame_for, printed, solve_of}
 use Rattle.sheet_written.specs.Write as writing
-use Rattle.sheet_rewritten.specs.Rewrite.{box_of, form_of, rewritten, rewrite_of}
+use Rattle.sheet_rewritten.specs.Rewrite.{box_of, rewritten, rewrite_of}
 
 -- a sheet that has a written form: short enough, sound, and in range
 pub record Written (s : List ℕ) : Type 0 where

@@ -1,15 +1,15 @@
 -- The written lines of a header, atoms and exclusions come to just these. Assumes nothing.
-use Prim.Native.Nat.{ℕ, zero, suc, ◌+◌, ◌*◌, ◌-◌, ◌/◌, ◌%◌, ◌≤◌, ◌<◌, ◌^◌}
+use Prim.Native.Nat.{ℕ, zero, suc, ◌+◌, ◌*◌, ◌-◌, ◌/◌, ◌≤◌, ◌<◌}
 use mathlib.Core.Path.{◌≡◌, refl, sym, ap, ap₂, ◌∙◌}
 use mathlib.Core.Bool.{Bool, true, false, cond, ◌&&◌}
-use mathlib.Core.Option.{Option, none, some}
+use mathlib.Core.Option.{Option, some}
 use mathlib.Core.List.{List, [], ◌∷◌, ◌++◌, map, append_assoc, append-nil}
 use native.Mathlib.Nat.{add-zero, zero-add, suc-add}
 use native.Mathlib.Numerals.{add-one}
 use native.Mathlib.Omega.{arith}
 use lib.ListN.{length, get_or, set, take, drop, replicate, length-append, length-replicate, get_or-replicate, replicate-append-replicate}
-use lib.Seq.{sets, sets-eq, length-sets, take_at, drop_at, take_all, take-add, take-suc, get_or_at, length-take-le, drop-cons}
-use lib.Dec.{ltb, leb, eqb}
+use lib.Seq.{sets, sets-eq, take_at, drop_at, take_all, take-suc, get_or_at, length-take-le, drop-cons}
+use lib.Dec.{ltb, leb}
 use borrow.Author.Tests.{le-ltb, le-leb, leb-true, ltb-true, ltb-false, ne_eqb}
 use Rattle.answer.specs.Seen.{Seen, answered, refused}
 use Rattle.answer.specs.declared.Done.{Done}
@@ -35,10 +35,10 @@ use Rattle.sheet_lines_two.specs.declared.TwoLine.{TwoLine}
 use Rattle.sheet_lines_two.specs.Twos.{plain_two, ruled_head, told_of, twos_of}
 use Rattle.sheet_lines_two.specs.Grammar.{ValidWith, ValidTwo, text_two}
 use Rattle.sheet_lines_two.proofs.WholeTwos.{twos_of_text}
-use Rattle.sheet.specs.Meaning.{Meaning, Atoms, and_then, acted, act_of, headed, seated, excluding, placed, fresh}
-use Rattle.sheet.specs.Reading.{refusal_for, onward, run, blank, lead_of, stray_of, unmarked_of, counted, tested, Sound, sound_with, then_tested, sheet_of}
+use Rattle.sheet.specs.Meaning.{Meaning, Atoms, acted, act_of, headed, seated, excluding, placed}
+use Rattle.sheet.specs.Reading.{refusal_for, onward, run, blank, lead_of, stray_of, unmarked_of, counted, Sound, sound_with, then_tested, sheet_of}
 use Rattle.sheet.specs.Read.{job_for, read_of}
-use Rattle.sheet.specs.ReadTwo.{SoundTwo, species_in, with_species, paired, ran_two, sheet_two}
+use Rattle.sheet.specs.ReadTwo.{species_in, with_species, paired, ran_two, sheet_two}
 use Rattle.sheet_written.specs.Written.{head_of, atom_line, atom_lines, row_line, written_lines, written_text}
 use Rattle.sheet_written.specs.Write.{write_asked, Outcome, laid_in, write_after, write_of}
 use Rattle.sheet_written.specs.WrittenTwo.{two_lines, written_two}

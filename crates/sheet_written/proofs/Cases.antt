@@ -1,18 +1,17 @@
 -- `write` by its cases: each test, and what an answered call has passed. Assumes nothing.
 use Prim.Native.Nat.{ℕ, ◌+◌, ◌*◌, ◌/◌, ◌%◌, ◌≤◌, ◌<◌}
 use mathlib.Core.Path.{◌≡◌, refl, sym, ap, ◌∙◌}
-use mathlib.Core.Bool.{Bool, true, false, cond, not, ◌&&◌, ◌||◌}
+use mathlib.Core.Bool.{Bool, true, false, cond, not, ◌&&◌}
 use mathlib.Core.List.{List, map}
-use native.Mathlib.Omega.{arith}
 use lib.ListN.{length}
 use lib.Seq.{sets}
 use lib.Dec.{eqb, leb, ltb}
 use borrow.Author.Tests.{lt-ltb, le-ltb, ltb-false, not-true, not-false, eqb-true}
-use Rattle.answer.specs.Seen.{Seen, answered, refused, refused_by}
+use Rattle.answer.specs.Seen.{answered, refused, refused_by}
 use Rattle.answer.specs.declared.Done.{Done}
 use Rattle.answer.specs.declared.Done.TheVariants.{Answered, Refused}
 use Rattle.answer.specs.declared.Refusal.{Refusal}
-use Rattle.answer.specs.declared.Refusal.TheVariants.{Lengths, TooMany, Range, Order, Room}
+use Rattle.answer.specs.declared.Refusal.TheVariants.{Lengths, TooMany, Range, Order}
 use Rattle.lists.specs.Lists.{every, rows}
 use Rattle.lists.proofs.Cases.{impossible, and_both, or_neither}
 use Rattle.lists.proofs.Rows.{length_rows}
@@ -23,7 +22,7 @@ use Rattle.sheet_lines.specs.declared.Head.{Head}
 use Rattle.sheet_lines.specs.declared.Line.TheVariants.{Header}
 use Rattle.sheet_lines.specs.Grammar.{line_text, sheet_text}
 use Rattle.sheet_written.specs.Written.{head_of, atom_lines, row_line, written_lines, written_text}
-use Rattle.sheet_written.specs.Write.{uneven_rows, table_fits, write_asked, Outcome, laid_in, write_after, write_of}
+use Rattle.sheet_written.specs.Write.{uneven_rows, table_fits, write_asked, laid_in, write_of}
 use Rattle.sheet_written.proofs.OneAfterAnother.{long_written, written_put}
 
 -- ---- the exclusion table

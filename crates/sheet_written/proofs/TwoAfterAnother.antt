@@ -1,5 +1,5 @@
 -- Laws of lines of the second form written one after the other; `write_two` by its cases. Assumes nothing.
-use Prim.Native.Nat.{ℕ, suc, ◌+◌, ◌*◌, ◌-◌, ◌/◌, ◌<◌, ◌≤◌}
+use Prim.Native.Nat.{ℕ, ◌+◌, ◌*◌, ◌-◌, ◌/◌, ◌<◌, ◌≤◌}
 use mathlib.Core.Path.{◌≡◌, refl, sym, ap, ◌∙◌}
 use mathlib.Core.List.{List, [], ◌∷◌, ◌++◌, map, append_assoc}
 use native.Mathlib.Nat.{sub-zero, zero-add}
@@ -11,7 +11,6 @@ use Rattle.answer.specs.Seen.{answered, refused, refused_by}
 use Rattle.answer.specs.declared.Done.{Done}
 use Rattle.answer.specs.declared.Done.TheVariants.{Answered, Refused}
 use Rattle.answer.specs.declared.Refusal.{Refusal}
-use Rattle.answer.specs.declared.Refusal.TheVariants.{Room}
 use Rattle.lists.specs.Lists.{numbers, up_to, rows}
 use Rattle.lists.proofs.Exactness.{length_up_to}
 use Rattle.lists.proofs.Walks.{numbers_next, numbers_end}
@@ -22,11 +21,11 @@ use Rattle.hexadecimal.proofs.Writing.{length2, length4, length8, put_put}
 use Rattle.sheet_lines.specs.Grammar.{text888, line_text, sheet_text}
 use Rattle.sheet_lines.specs.declared.Head.{Head}
 use Rattle.sheet_lines.specs.declared.Line.{Line}
-use Rattle.sheet_lines.specs.declared.Line.TheVariants.{Header, Atom, Exclusion}
+use Rattle.sheet_lines.specs.declared.Line.TheVariants.{Header, Atom}
 use Rattle.sheet_lines_two.specs.Grammar.{head_text, rule_text, text_with, text_two}
 use Rattle.sheet_lines_two.proofs.GrammarTwo.{length_two}
 use Rattle.sheet_written.specs.Written.{head_of, atom_line, atom_lines, row_line}
-use Rattle.sheet_written.specs.Write.{write_asked, laid_in, write_after}
+use Rattle.sheet_written.specs.Write.{write_asked, laid_in}
 use Rattle.sheet_written.specs.WrittenTwo.{plain_text, two_lines, written_two, write_two_of}
 use Rattle.sheet_written.proofs.OneAfterAnother.{long888, head_digits, head_long, head_put, turn_of, append_of, long_of, long_rows}
 

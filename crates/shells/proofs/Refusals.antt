@@ -5,14 +5,14 @@ use mathlib.Core.Bool.{Bool, true, false, cond, not, ◌||◌}
 use mathlib.Core.Logic.{⊎_elim}
 use mathlib.Core.List.{List}
 use native.Mathlib.Omega.{arith}
-use lib.ListN.{length, get_or, take, length-take}
+use lib.ListN.{length, get_or, take}
 use lib.Dec.{eqb, ltb, leb}
 use borrow.Author.Tests.{eqb-false, leb-true, not-true, not-false}
 use Rattle.answer.specs.declared.Done.{Done}
 use Rattle.answer.specs.declared.Done.TheVariants.{Answered, Refused}
 use Rattle.answer.specs.declared.Refusal.{Refusal}
-use Rattle.answer.specs.declared.Refusal.TheVariants.{Lengths, TooMany, Range, Order, Room, Cells}
-use Rattle.answer.specs.Seen.{Seen, answered, refused, refused_by}
+use Rattle.answer.specs.declared.Refusal.TheVariants.{Lengths, TooMany, Range, Order, Room}
+use Rattle.answer.specs.Seen.{answered, refused, refused_by}
 use Rattle.answer.proofs.Passed.{pass}
 use Rattle.exclusions.specs.Table.{is_table}
 use Rattle.lists.specs.Lists.{rows}
@@ -22,10 +22,10 @@ use Rattle.lists.proofs.Rows.{rows_at, length_rows}
 use Rattle.frame.specs.declared.Built.{Built}
 use Rattle.frame.specs.declared.Built.TheVariants as BuiltCases
 use Rattle.frame.specs.Laying.{plain_of, crowded}
-use Rattle.frame.specs.Build.{Given, Counts, Outcome, stays, seen_built, lengths_bad, ranges_ok, frame_asked, near_pairs, checks_of, shown_of, run_of, starts_laid, items_laid, after_of, build_of, BuildSays}
+use Rattle.frame.specs.Build.{Given, Counts, Outcome, seen_built, lengths_bad, ranges_ok, frame_asked, near_pairs, checks_of, shown_of, run_of, after_of, build_of, BuildSays}
 use Rattle.frame.specs.Listed.{BuildLists}
 use Rattle.frame.proofs.Outcomes.{pairs_kept}
-use Rattle.shells.specs.Shells.{Adding, Tallied, seen_counted, shell_at, is_past, totals_with, totals_after, shells_asked, built_with, after_build, after_tests, add_shells_of}
+use Rattle.shells.specs.Shells.{Adding, is_past, totals_after, shells_asked, built_with, after_build, after_tests, add_shells_of}
 use Rattle.shells.specs.Steps.{before_order, refusal_of, Countable}
 
 -- ---- the refusal where the width or the totals are out of range

@@ -1,23 +1,21 @@
 -- What an outcome of `add_shells` counts, and what a run of calls counts. Assumes nothing.
-use Prim.Native.Nat.{ℕ, ◌+◌, ◌-◌, ◌/◌, ◌<◌, min}
+use Prim.Native.Nat.{ℕ, ◌+◌, ◌/◌, ◌<◌}
 use mathlib.Core.Path.{◌≡◌, refl, sym, ap, ◌∙◌}
-use mathlib.Core.Bool.{Bool, true, false, cond, not, ◌||◌}
+use mathlib.Core.Bool.{cond, not, ◌||◌}
 use mathlib.Core.List.{List, [], ◌∷◌}
 use native.Mathlib.Omega.{arith}
 use lib.ListN.{length, get_or, replicate, length-replicate}
 use lib.Dec.{eqb, ltb}
-use borrow.Author.Tests.{eqb-false, ltb-true}
+use borrow.Author.Tests.{eqb-false}
 use Rattle.answer.specs.declared.Done.{Done}
 use Rattle.answer.specs.declared.Done.TheVariants.{Answered, Refused}
-use Rattle.answer.specs.declared.Refusal.TheVariants.{Lengths, TooMany, Range, Order}
+use Rattle.answer.specs.declared.Refusal.TheVariants.{Lengths, TooMany, Range}
 use Rattle.answer.specs.Seen.{Seen, answered, refused}
 use Rattle.answer.proofs.Passed.{pass}
-use Rattle.exclusions.specs.Table.{is_table}
 use Rattle.lists.specs.Exact.{Exactly}
-use Rattle.lists.specs.Lists.{rows, some}
-use Rattle.lists.proofs.Cases.{by_test, or_neither, or_cases, impossible}
+use Rattle.lists.proofs.Cases.{by_test, or_neither, impossible}
 use Rattle.frame.specs.declared.Built.TheVariants as BuiltCases
-use Rattle.frame.specs.Build.{Given, Counts, Outcome, lengths_bad, ranges_ok, build_of}
+use Rattle.frame.specs.Build.{Given, Counts, lengths_bad, ranges_ok, build_of}
 use Rattle.frame.specs.Listed.{Close}
 use Rattle.frame.proofs.Outcomes.{build_lists}
 use Rattle.shells.specs.declared.Counted.{Counted}

@@ -2,15 +2,15 @@
 use Prim.Native.Nat.{ℕ, zero, suc, ◌+◌, ◌*◌, ◌-◌, ◌/◌, ◌≤◌, ◌<◌}
 use mathlib.Core.Path.{◌≡◌, refl, sym, ap, ◌∙◌}
 use mathlib.Core.Logic.{⊎_elim}
-use mathlib.Core.Bool.{Bool, true, false, cond}
-use mathlib.Core.List.{List, [], ◌∷◌, ◌++◌, map, append_assoc}
-use native.Mathlib.Nat.{zero-add, add-zero, mul-suc}
+use mathlib.Core.Bool.{Bool, true, false}
+use mathlib.Core.List.{List, [], ◌∷◌, ◌++◌, map}
+use native.Mathlib.Nat.{zero-add}
 use native.Mathlib.Omega.{arith}
-use lib.Ieee.{Float, nan}
-use lib.ListN.{length, get_or, length-append, length-map, get_or-append}
+use lib.Ieee.{nan}
+use lib.ListN.{length, get_or, length-append, get_or-append}
 use lib.Seq.{sets, length-sets, get_or-append-add}
 use Rattle.lists.specs.Lists.{numbers, up_to, each, keep, how_many}
-use Rattle.lists.proofs.Cases.{true_or_false, below_or_is, below_or}
+use Rattle.lists.proofs.Cases.{true_or_false, below_or}
 use Rattle.lists.proofs.Exactness.{length_up_to, many_keep, each_append, numbers_at, mem_up_to}
 use Rattle.lists.proofs.Nested.{numbers_append, keep_agree}
 use Rattle.lists.proofs.Walks.{numbers_next}

@@ -1,25 +1,25 @@
 -- The exclusions that are left are again an exclusion table; without a mark every atom keeps its number. Assumes nothing.
-use Prim.Native.Nat.{ℕ, zero, suc, ◌+◌, ◌*◌, ◌-◌, ◌/◌, ◌≤◌, ◌<◌}
+use Prim.Native.Nat.{ℕ, zero, suc, ◌+◌, ◌*◌, ◌/◌, ◌≤◌, ◌<◌}
 use mathlib.Core.Path.{◌≡◌, refl, sym, ap, ◌∙◌}
-use mathlib.Core.Logic.{◌⊎◌, inl, inr, ⊎_elim}
-use mathlib.Core.Bool.{Bool, true, false, ◌&&◌}
+use mathlib.Core.Logic.{inl, inr, ⊎_elim}
+use mathlib.Core.Bool.{Bool, true, ◌&&◌}
 use mathlib.Core.List.{List, [], ◌∷◌}
 use native.Mathlib.Omega.{arith}
 use lib.Dec.{eqb, ltb}
 use lib.ListN.{length, get_or, take}
 use borrow.Author.Tests.{lt-ltb, ltb-true, eq-eqb, eqb-true}
-use Rattle.lists.specs.Lists.{up_to, how_many, every, rows}
-use Rattle.lists.proofs.Cases.{both_and, and_both, below_or, below_or_is, same_or}
+use Rattle.lists.specs.Lists.{up_to, how_many, rows}
+use Rattle.lists.proofs.Cases.{both_and, and_both, below_or, same_or}
 use Rattle.lists.proofs.Rows.{length_rows, rows_at}
 use Rattle.lists.proofs.Walks.{every_at}
-use Rattle.exclusions.specs.Table.{before, leads, is_table, row_at}
+use Rattle.exclusions.specs.Table.{before, leads, is_table}
 use Rattle.exclusions.proofs.RowOrder.{Before, before_is, is_before}
 use Rattle.exclusions.proofs.Search.{ascending, row_taken, rows_taken}
-use Rattle.strike.specs.Closed.{survives, new_number, row_survives, closed_up}
+use Rattle.strike.specs.Closed.{survives, new_number, row_survives}
 use Rattle.strike.specs.Calls.{names_left, names_many}
-use Rattle.strike.specs.Theorems.{Keeps, NamesKept, StillATable, NoneStruck}
+use Rattle.strike.specs.Theorems.{NamesKept, StillATable, NoneStruck}
 use Rattle.strike.proofs.Rows.{many_more, many_few}
-use Rattle.strike.proofs.Turns.{row_there_at, survivor_below}
+use Rattle.strike.proofs.Turns.{row_there_at}
 use Rattle.strike.proofs.Kept.{from, order, kept}
 
 -- a table by its rows and its steps

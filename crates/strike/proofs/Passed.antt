@@ -1,6 +1,6 @@
 -- What an answer shows of the tests before it, and what the two calls leave then. Assumes nothing.
 use Prim.Native.Nat.{ℕ, suc, ◌+◌, ◌*◌, ◌/◌, ◌%◌, ◌≤◌, ◌<◌}
-use mathlib.Core.Path.{◌≡◌, refl, sym, ap, ◌∙◌}
+use mathlib.Core.Path.{◌≡◌, refl, sym, ◌∙◌}
 use mathlib.Core.Bool.{Bool, true, false, cond, not, ◌&&◌}
 use mathlib.Core.List.{List, [], ◌∷◌}
 use native.Mathlib.Omega.{arith}
@@ -11,7 +11,7 @@ use lib.Seq.{sets}
 use Rattle.float.specs.Arith.{at}
 use borrow.Author.Tests.{eqb-true, ltb-false, leb-false, lt-ltb, le-ltb, not-true, not-false}
 use Rattle.lists.specs.Atoms.{atoms_of, most_atoms}
-use Rattle.lists.specs.Lists.{every, how_many, up_to}
+use Rattle.lists.specs.Lists.{every}
 use Rattle.lists.proofs.Cases.{and_both, impossible}
 use Rattle.answer.proofs.Passed.{pass}
 use Rattle.answer.specs.Seen.{seen_done}
@@ -22,7 +22,7 @@ use Rattle.answer.specs.declared.Refusal.TheVariants.{Lengths, TooMany, Range}
 use Rattle.neighbor.specs.declared.State.{State}
 use Rattle.strike.specs.declared.Left.{Left}
 use Rattle.strike.specs.declared.NewAtom.{NewAtom}
-use Rattle.strike.specs.Closed.{survives, new_number, row_survives, link_survives, closed_up}
+use Rattle.strike.specs.Closed.{survives, new_number, row_survives, link_survives}
 use Rattle.strike.specs.Calls.{LentAtoms, Links, atoms, links, unlisted_of, atoms_fit, links_fit, strike_fits, is_mark, links_asked, strike_asked, atoms_left, names_left, beside_left, links_left, names_many, beside_many, left_of, none_left, strike_of, strike_after, atom_in_range, put_asked, atoms_with, put_of, put_after}
 use Rattle.strike.specs.declared.ThreeLeft.{ThreeLeft}
 use Rattle.strike.specs.Steps.{Fitting, Closed, Roomy}

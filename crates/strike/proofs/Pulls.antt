@@ -1,6 +1,6 @@
 -- Between survivors every pull is the same, float for float; and an atom that is put stands after the last one. Assumes nothing.
-use Prim.Native.Nat.{ℕ, zero, suc, ◌+◌, ◌*◌, ◌/◌, ◌≤◌, ◌<◌}
-use mathlib.Core.Path.{◌≡◌, refl, sym, ap, ◌∙◌}
+use Prim.Native.Nat.{ℕ, ◌+◌, ◌*◌, ◌/◌, ◌≤◌, ◌<◌}
+use mathlib.Core.Path.{◌≡◌, sym, ap, ◌∙◌}
 use mathlib.Core.Logic.{◌⊎◌, inl, inr, ⊎_elim}
 use mathlib.Core.Bool.{Bool, true, false, cond}
 use lib.Dec.{ltb}
@@ -18,15 +18,11 @@ use Rattle.float.specs.Literals.{f0}
 use Rattle.cell.specs.declared.Vec3.{Vec3}
 use Rattle.cell.specs.declared.Image.{Image}
 use Rattle.cell.specs.Vec.{position_at, sub_of}
-use Rattle.potentials_pair.specs.declared.Lj.{Lj}
-use Rattle.potentials_pair.specs.declared.Mixed.{Mixed}
 use Rattle.potentials_pair.specs.declared.Pull.TheVariants.{Skip}
 use Rattle.potentials_pair.specs.Lj.{mix_of, lj_pull}
 use Rattle.potentials_pair.specs.Coulomb.{neutral, coulomb_pull}
 use Rattle.potentials_pair.specs.Bond.{bond_pull}
-use Rattle.potentials.specs.declared.Bond.{Bond}
 use Rattle.potentials_angle.specs.declared.Angle.{Angle}
-use Rattle.potentials_angle.specs.declared.Corner.{Corner}
 use Rattle.potentials_angle.specs.Bend.{bend_of}
 use Rattle.potentials_angle.specs.Ranged.{angle_row}
 use Rattle.potentials_angle.specs.Terms.{angle_at, angle_bend}
@@ -35,8 +31,8 @@ use Rattle.potentials.specs.Terms.{displaced, lj_pair, coulomb_pair, bond_pair}
 use Rattle.answer.specs.declared.Done.TheVariants.{Answered}
 use Rattle.strike.specs.Closed.{survives, new_number, row_survives, link_survives}
 use Rattle.strike.specs.Calls.{LentAtoms, Links, strike_asked, atoms_left, links_left, beside_many, put_asked, atoms_with}
-use Rattle.strike.specs.Steps.{Fitting, Roomy}
-use Rattle.strike.specs.Theorems.{Keeps, AtomsKept, LinksKept, PullsStay, StrikePulls, PutKeeps, PutPuts}
+use Rattle.strike.specs.Steps.{Roomy}
+use Rattle.strike.specs.Theorems.{Keeps, AtomsKept, PullsStay, StrikePulls, PutKeeps, PutPuts}
 use Rattle.strike.proofs.Passed.{fit_of, roomy_of}
 use Rattle.strike.proofs.Turns.{survivor_below, link_there}
 use Rattle.strike.proofs.Rows.{many_few, sets_at, sets_before, sets_past}

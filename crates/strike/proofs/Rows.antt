@@ -1,20 +1,19 @@
 -- Runs of stores in any list, rows of a width, and the rows that stay. Assumes nothing.
-use Prim.Native.Nat.{ℕ, zero, suc, ◌+◌, ◌*◌, ◌-◌, ◌≤◌, ◌<◌}
+use Prim.Native.Nat.{ℕ, zero, suc, ◌+◌, ◌*◌, ◌≤◌, ◌<◌}
 use mathlib.Core.Path.{◌≡◌, refl, sym, ap, ◌∙◌}
 use mathlib.Core.Bool.{Bool, true, false, cond}
 use mathlib.Core.List.Memᴰ
 use mathlib.Core.List.{List, [], ◌∷◌, ◌++◌, map, append-nil}
-use native.Mathlib.Nat.{add-zero, zero-add, add-suc, suc-add, mul-zero, mul-suc, mul-one, one-mul, mul-le-mul_left, mul-add}
-use native.Mathlib.Numerals.{add-one}
+use native.Mathlib.Nat.{add-zero, zero-add, mul-zero, mul-suc, mul-le-mul_left}
 use native.Mathlib.Omega.{arith}
 use lib.ListN.{length, get_or, set, length-append, length-map, length-set}
 use lib.Seq.{sets, get_or-set_same, get_or-set_other}
 use Rattle.lists.specs.Exact.{◌∈◌}
 use Rattle.lists.specs.Lists.{numbers, up_to, each, keep, how_many}
 use Rattle.lists.proofs.Cases.{by_test}
-use Rattle.lists.proofs.Exactness.{length_up_to, length_keep, many_keep, each_append, mem_up_to}
+use Rattle.lists.proofs.Exactness.{length_up_to, length_keep, many_keep, mem_up_to}
 use Rattle.lists.proofs.Nested.{numbers_append}
-use Rattle.strike.specs.Closed.{row_from, closed_up}
+use Rattle.strike.specs.Closed.{row_from}
 
 -- ---- stores in a run
 module _ {A : Type 0} where

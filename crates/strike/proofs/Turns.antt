@@ -1,19 +1,18 @@
 -- The loops of closing.rt: where each starts, one turn, and what it leaves. Assumes nothing.
-use Prim.Native.Nat.{ℕ, zero, suc, ◌+◌, ◌*◌, ◌-◌, ◌≤◌, ◌<◌}
+use Prim.Native.Nat.{ℕ, suc, ◌+◌, ◌*◌, ◌-◌, ◌≤◌, ◌<◌}
 use mathlib.Core.Path.{◌≡◌, refl, sym, ap, ◌∙◌}
 use mathlib.Core.Logic.{⊎_elim}
-use mathlib.Core.Bool.{Bool, true, false, cond, not, ◌&&◌, false≢true}
+use mathlib.Core.Bool.{Bool, true, false, cond, not, false≢true}
 use mathlib.Core.List.{List, [], ◌∷◌, ◌++◌, map, append-nil}
 use native.Mathlib.Nat.{add-zero, zero-add}
-use native.Mathlib.Numerals.{add-one}
 use native.Mathlib.Omega.{arith}
 use lib.Dec.{eqb, ltb}
-use lib.ListN.{length, get_or, set, length-append, length-set}
+use lib.ListN.{length, get_or, set, length-set}
 use lib.Seq.{sets, get_or-set_same, get_or-set_other, length-sets}
 use borrow.Author.Tests.{ltb-true, lt-ltb, le-ltb, not-false}
 use Rattle.lists.specs.Lists.{numbers, up_to, each, keep, how_many, every}
-use Rattle.lists.proofs.Cases.{impossible, by_test, true_or_false, below_or_is, and_both}
-use Rattle.lists.proofs.Exactness.{length_up_to, many_keep, each_append, up_to_mem, numbers_at}
+use Rattle.lists.proofs.Cases.{impossible, below_or_is, and_both}
+use Rattle.lists.proofs.Exactness.{length_up_to, many_keep, each_append, numbers_at}
 use Rattle.lists.proofs.Walks.{numbers_next, numbers_end, every_at}
 use Rattle.strike.specs.Closed.{survives, new_number, row_from, row_survives, link_survives, closed_up}
 use Rattle.strike.specs.Steps.{Numbered, Carried, Carrying, Closed, CountedTo}

@@ -12,7 +12,7 @@ use Rattle.answer.specs.Seen.{Seen, answered, refused, seen_done}
 use Rattle.lists.proofs.Cases.{by_test}
 use Rattle.verlet.specs.declared.Thermostat.{Thermostat}
 use Rattle.neighbor.specs.Update as Update
-use Rattle.neighbor.specs.Box.{SameBits, KeptInBox}
+use Rattle.neighbor.specs.Box.{KeptInBox}
 use Rattle.neighbor.proofs.Box.{update_keeps}
 use Rattle.evaluate.specs.Calls.{settled_of}
 use Rattle.verlet_step.proofs.Stopping.{updated, landed_list, drifting}

@@ -1,5 +1,5 @@
 -- What the kernel and the private functions say of themselves: nobody has to believe it. Definitions only.
-use Rattle.std.specs.Prelude.{ℕ, ◌≡◌, Bool, true, false, List, Float}
+use Rattle.std.specs.Prelude.{ℕ, ◌≡◌, Bool, false, List, Float}
 use Rattle.answer.specs.declared.Done.{Done}
 use Rattle.answer.specs.declared.Done.TheVariants.{Refused}
 use Rattle.answer.specs.declared.Refusal.{Refusal}

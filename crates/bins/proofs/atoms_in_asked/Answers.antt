@@ -1,5 +1,4 @@
 use Rattle.bins.proofs.Parts.{asked_yes, asked_no}
-use borrow.Author.Rules.{rules}
 use mathlib.Core.Path.{◌∙◌, sym}
 use Rattle.bins.proofs.atoms_in_asked.Goals as goal
 

@@ -1,4 +1,3 @@
-use borrow.Author.Rules.{rules}
 use Rattle.cell.proofs.inverse.Goals as goal
 
 pub returns-then-singular : goal.returns-then-singular

@@ -1,4 +1,3 @@
-use borrow.Author.Rules.{rules}
 use Rattle.cell.proofs.min_image.Goals as goal
 
 pub returns-then-vec_within-cell_in_range : goal.returns-then-vec_within-cell_in_range

@@ -1,4 +1,3 @@
-use borrow.Author.Rules.{rules}
 use Rattle.cell.proofs.orthorhombic.Goals as goal
 
 pub returns-then-is_within : goal.returns-then-is_within

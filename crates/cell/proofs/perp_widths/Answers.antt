@@ -1,4 +1,3 @@
-use borrow.Author.Rules.{rules}
 use Rattle.cell.proofs.perp_widths.Goals as goal
 
 pub returns-then-lattice_in_range : goal.returns-then-lattice_in_range

@@ -1,4 +1,3 @@
-use borrow.Author.Rules.{rules}
 use Rattle.cell.proofs.wrap.Goals as goal
 
 pub returns-then-lattice_in_range-vec_within : goal.returns-then-lattice_in_range-vec_within

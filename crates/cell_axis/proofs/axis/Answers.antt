@@ -1,5 +1,4 @@
 -- `cell_axis::axis` meets its contract. Assumes nothing.
-use borrow.Author.Rules.{rules}
 use Rattle.cell_axis.specs.Image.{axis_of}
 use Rattle.cell_axis.proofs.axis.Goals as goal
 

@@ -1,5 +1,4 @@
 -- `cell_axis::fraction` meets its contract: it is the definition. Assumes nothing.
-use borrow.Author.Rules.{rules}
 use Rattle.cell_axis.specs.Image.{fraction_of}
 use Rattle.cell_axis.proofs.fraction.Goals as goal
 

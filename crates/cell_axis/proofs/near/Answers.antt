@@ -1,6 +1,5 @@
 use lib.Ieee.{inf}
 use mathlib.Core.Bool.{false}
-use borrow.Author.Rules.{rules}
 use Rattle.cell_axis.specs.Image.{near_axis_of}
 use Rattle.float.proofs.Branches.{yes}
 use Rattle.cell_axis.proofs.Law.{near_apart}

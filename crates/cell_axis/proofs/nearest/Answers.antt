@@ -1,5 +1,4 @@
 -- `cell_axis::nearest` meets its contract: it is the definition. Assumes nothing.
-use borrow.Author.Rules.{rules}
 use Rattle.cell_axis.specs.Image.{nearest_of}
 use Rattle.cell_axis.proofs.nearest.Goals as goal
 

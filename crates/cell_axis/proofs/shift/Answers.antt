@@ -1,5 +1,4 @@
 use mathlib.Core.Path.{sym, ◌∙◌}
-use borrow.Author.Rules.{rules}
 use Rattle.cell_axis.specs.Image.{shift_of}
 use Rattle.cell_axis.proofs.Twice.{twice}
 use Rattle.cell_axis.proofs.shift.Goals as goal

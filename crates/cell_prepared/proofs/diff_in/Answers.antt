@@ -1,5 +1,4 @@
 use Rattle.cell_prepared.specs.Facts.{diff_in}
-use borrow.Author.Rules.{rules}
 use mathlib.Core.Path.{sym, ◌∙◌}
 use Rattle.cell_prepared.proofs.diff_in.Goals as goal
 

@@ -1,5 +1,4 @@
 use Rattle.cell_prepared.specs.Facts.{image_in}
-use borrow.Author.Rules.{rules}
 use Rattle.cell_prepared.proofs.image_in.Goals as goal
 
 pub returns : goal.returns

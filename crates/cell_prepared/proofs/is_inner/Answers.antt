@@ -1,6 +1,5 @@
 use Rattle.cell_prepared.proofs.Inner.{inner_short, inner_image}
 use Rattle.float.proofs.Branches.{yes}
-use borrow.Author.Rules.{rules}
 use lib.Ieee.{Float, lt}
 use mathlib.Core.Path.{sym, ap, ◌∙◌}
 use Rattle.cell_prepared.proofs.is_inner.Goals as goal

@@ -1,4 +1,3 @@
-use borrow.Author.Rules.{rules}
 use Rattle.cell_prepared.proofs.is_short.Goals as goal
 
 pub returns : goal.returns

@@ -1,5 +1,4 @@
 use Rattle.cell_prepared.specs.Facts.{prepare_of}
-use borrow.Author.Rules.{rules}
 use Rattle.cell_prepared.proofs.prepare.Goals as goal
 
 pub returns-in-Absent : goal.returns-in-Absent

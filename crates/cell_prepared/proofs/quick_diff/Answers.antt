@@ -1,6 +1,5 @@
 use Rattle.cell_prepared.proofs.Law.{free_way}
 use Rattle.cell_prepared.specs.Facts.{diff_in, image_in}
-use borrow.Author.Rules.{rules}
 use mathlib.Core.Path.{sym, ◌∙◌}
 use Rattle.cell_prepared.proofs.quick_diff.Goals as goal
 

@@ -1,6 +1,5 @@
 use mathlib.Core.Path.{refl}
 use Rattle.cell_prepared.proofs.Law.{short_way}
-use borrow.Author.Rules.{rules}
 use Rattle.cell_prepared.proofs.short_image.Goals as goal
 
 pub returns : goal.returns

@@ -1,5 +1,4 @@
 use Rattle.cell_prepared.specs.Facts.{short_of}
-use borrow.Author.Rules.{rules}
 use Rattle.cell_prepared.proofs.short_of.Goals as goal
 
 pub returns-then-skewed-l : goal.returns-then-skewed-l

@@ -1,6 +1,5 @@
 use Rattle.cell_square.proofs.Between.{calm_says}
 use Rattle.float.proofs.Branches.{yes}
-use borrow.Author.Rules.{rules}
 use Rattle.cell_square.proofs.calm.Goals as goal
 
 pub returns : goal.returns

@@ -1,5 +1,4 @@
 use Rattle.cell_square.specs.Square.{gap_of}
-use borrow.Author.Rules.{rules}
 use Rattle.cell_square.proofs.gap.Goals as goal
 
 pub returns : goal.returns

@@ -1,4 +1,3 @@
-use borrow.Author.Rules.{rules}
 use Rattle.cell_square.proofs.in_half.Goals as goal
 
 pub returns : goal.returns

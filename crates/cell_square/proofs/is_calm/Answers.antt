@@ -1,4 +1,3 @@
-use borrow.Author.Rules.{rules}
 use Rattle.cell_square.proofs.is_calm.Goals as goal
 
 pub returns : goal.returns

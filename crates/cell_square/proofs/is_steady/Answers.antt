@@ -1,5 +1,4 @@
 use Rattle.cell_square.specs.Square.{steady_of}
-use borrow.Author.Rules.{rules}
 use Rattle.cell_square.proofs.is_steady.Goals as goal
 
 pub returns : goal.returns

@@ -1,5 +1,4 @@
 use Rattle.cell_square.specs.Square.{low_sum}
-use borrow.Author.Rules.{rules}
 use Rattle.cell_square.proofs.low_sum.Goals as goal
 
 pub returns : goal.returns

@@ -1,6 +1,5 @@
 use Rattle.cell_square.proofs.Between.{shared_says}
 use Rattle.float.proofs.Branches.{yes}
-use borrow.Author.Rules.{rules}
 use Rattle.cell_square.proofs.shared_steady.Goals as goal
 
 pub returns : goal.returns

@@ -1,4 +1,3 @@
-use borrow.Author.Rules.{rules}
 use mathlib.Core.Bool.{true, false}
 use Rattle.float.proofs.Branches.{yes}
 use Rattle.cell_square.proofs.Law.{picked_is, side_says}

@@ -1,5 +1,4 @@
 use Rattle.cell_square.specs.Square.{step_of}
-use borrow.Author.Rules.{rules}
 use Rattle.cell_square.proofs.step_by.Goals as goal
 
 pub returns : goal.returns

@@ -1,13 +1,9 @@
-use Prim.Native.Nat.{◌+◌, ◌-◌, ◌≤◌}
 use Rattle.clumps_answer.proofs.Lines.{member_turn, one_at_most}
 use Rattle.clumps_answer.specs.Clumps.{members_of}
 use Rattle.lists.proofs.Walks.{many_past}
-use Rattle.lists.specs.Lists.{how_many}
-use borrow.Author.Rules.{rules}
 use lib.Dec.{eqb}
-use lib.ListN.{length, drop}
 use mathlib.Core.Bool.{cond}
-use mathlib.Core.Path.{◌≡◌, ap, ◌∙◌}
+use mathlib.Core.Path.{ap, ◌∙◌}
 use native.Mathlib.Omega.{arith}
 use Rattle.clumps_answer.proofs.members.Goals as goal
 

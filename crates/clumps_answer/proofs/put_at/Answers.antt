@@ -1,6 +1,5 @@
 use Rattle.clumps_answer.proofs.Lines.{own_line, no_line, length_clump}
 use Rattle.clumps_answer.specs.Clumps.{clump_line, members_of}
-use borrow.Author.Rules.{rules}
 use lib.ListN.{length}
 use lib.Seq.{sets}
 use mathlib.Core.Path.{sym, ap, ◌∙◌}

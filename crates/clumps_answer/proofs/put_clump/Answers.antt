@@ -2,7 +2,6 @@ use Rattle.clumps_answer.specs.Clumps.{clump_line}
 use Rattle.hexadecimal.proofs.Writing.{length2, length4}
 use Rattle.hexadecimal.specs.Glyphs.{text2, text4}
 use Rattle.sheet_printed.proofs.Parts.{three_parts}
-use borrow.Author.Rules.{rules}
 use Rattle.clumps_answer.proofs.put_clump.Goals as goal
 
 pub returns : goal.returns

@@ -1,8 +1,6 @@
-use Prim.Native.Nat.{◌*◌, ◌-◌, ◌≤◌}
 use Rattle.clumps_answer.proofs.Lines.{lines_to, line_turn, length_line, lines_are}
 use Rattle.clumps_answer.specs.Clumps.{clump_rows, clump_lines}
 use Rattle.lists.specs.Lists.{each, numbers}
-use borrow.Author.Rules.{rules}
 use lib.ListN.{length}
 use lib.Seq.{sets, length-sets}
 use mathlib.Core.Path.{◌≡◌, refl, ap, ◌∙◌}

@@ -1,12 +1,8 @@
 use Prim.Native.Nat.{◌*◌, ◌-◌, ◌≤◌}
-use Rattle.clumps_answer.proofs.Lines.{lines_to, line_turn, length_line, lines_are}
-use Rattle.clumps_answer.specs.Clumps.{clump_rows, clump_lines}
-use Rattle.lists.specs.Lists.{each, numbers}
-use borrow.Author.Rules.{rules}
+use Rattle.clumps_answer.proofs.Lines.{lines_to}
 use lib.ListN.{length}
-use lib.Seq.{sets, length-sets}
-use mathlib.Core.Path.{◌≡◌, refl, ap, ◌∙◌}
-use native.Mathlib.Omega.{arith}
+use lib.Seq.{sets}
+use mathlib.Core.Path.{◌≡◌}
 use Rattle.clumps_answer.proofs.put_clumps.Given as goal
 
 abbrev pub invariant-loop-i : goal.invariant-loop-i

@@ -1,5 +1,4 @@
 use Rattle.clumps_answer.specs.Clumps.{clump_rows, clump_lines}
-use borrow.Author.Rules.{rules}
 use lib.ListN.{length, drop}
 use lib.Seq.{sets, length-take-le, take_at}
 use mathlib.Core.Path.{◌≡◌, sym, ap, ◌∙◌}

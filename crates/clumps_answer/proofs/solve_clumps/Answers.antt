@@ -1,7 +1,6 @@
 use Rattle.clumps_answer.proofs.Solved.{too_small, within, solved}
 use Rattle.clumps_answer.specs.Clumps.{clumps_text}
 use Rattle.lists.proofs.Cases.{impossible}
-use borrow.Author.Rules.{rules}
 use Rattle.clumps_answer.proofs.solve_clumps.Goals as goal
 
 pub returns-then-out-lt11264 : goal.returns-then-out-lt11264

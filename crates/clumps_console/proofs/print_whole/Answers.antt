@@ -1,5 +1,4 @@
 use Rattle.clumps_answer.specs.Clumps.{solve_clumps_of}
-use borrow.Author.Rules.{rules}
 use borrow.Author.Tests.{le-ltb}
 use lib.ListN.{length}
 use Rattle.clumps_console.proofs.print_whole.Goals as goal

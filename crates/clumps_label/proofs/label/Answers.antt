@@ -3,7 +3,6 @@ use Rattle.clumps_label.proofs.Trees.{planted}
 use Rattle.lists.proofs.Exactness.{length_up_to}
 use Rattle.lists.proofs.Rows.{length_rows}
 use Rattle.lists.specs.Lists.{rows, up_to}
-use borrow.Author.Rules.{rules}
 use lib.ListN.{length}
 use mathlib.Core.Path.{◌≡◌, sym, ap, ◌∙◌}
 use native.Mathlib.Omega.{arith}

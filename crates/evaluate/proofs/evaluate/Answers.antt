@@ -2,7 +2,6 @@ use Rattle.evaluate.proofs.Lists.{evaluated_lists}
 use Rattle.evaluate.proofs.Settling.{evaluated_refused, evaluated_on}
 use Rattle.evaluate.specs.Calls.{Job, job_of}
 use Rattle.potentials_pair.specs.Species.{tables}
-use borrow.Author.Rules.{rules}
 use Rattle.evaluate.proofs.evaluate.Goals as goal
 
 pub returns-in-Refused : goal.returns-in-Refused

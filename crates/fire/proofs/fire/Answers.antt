@@ -3,7 +3,6 @@ use Rattle.fire.proofs.Turns.{begun_counts, fired_refused_lem, fired_on}
 use Rattle.fire.specs.Calls.{Relaxing, settling_of}
 use Rattle.potentials_pair.specs.Species.{tables}
 use Rattle.verlet_step.specs.Calls.{Motion}
-use borrow.Author.Rules.{rules}
 use mathlib.Core.Path.{refl, ap, ◌∙◌}
 use Rattle.fire.proofs.fire.Goals as goal
 

@@ -1,6 +1,6 @@
 -- `float::digit` meets its contract by `digit-step` of `proofs/WholeRoots.antt`. Assumes nothing.
 use Rattle.float.proofs.WholeRoots.{twice_lt, digit_step}
-use Rattle.std.proofs.Common.{arith, rules}
+use Rattle.std.proofs.Common.{arith}
 use Rattle.float.proofs.digit.Goals as goal
 
 pub overflow_mul-left : goal.overflow_mul-left

@@ -1,7 +1,7 @@
 use Rattle.float.proofs.Branches.{yes}
 use Rattle.float.proofs.Finite.{positive_no_nan, lead_of, lead_le, lead_in, lead_root, bits, field_of}
 use Rattle.float.specs.Def.{root_scaled}
-use Rattle.std.proofs.Common.{ap, ◌∙◌, arith, rules}
+use Rattle.std.proofs.Common.{ap, ◌∙◌, arith}
 use Rattle.float.proofs.even_of.Goals as goal
 
 pub float_to_bits-bits : goal.float_to_bits-bits

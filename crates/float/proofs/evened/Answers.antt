@@ -1,5 +1,5 @@
-use Rattle.std.proofs.Common.{ℕ, ◌+◌, ◌-◌, ◌*◌, ◌/◌, ◌^◌, ◌≤◌, ap, ◌∙◌, mod-lt, zero-lt-suc, arith, rules}
-use Rattle.float.proofs.Normal.{Norm, normal, all_sum, half_le, shift_is, shift_within, rescaled}
+use Rattle.std.proofs.Common.{ℕ, ◌+◌, ◌-◌, ◌*◌, ◌/◌, ◌^◌, ap, ◌∙◌, mod-lt, zero-lt-suc, arith}
+use Rattle.float.proofs.Normal.{normal, all_sum, half_le, shift_is, shift_within, rescaled}
 use lib.Count.{count_leading_zeros}
 use Rattle.float.proofs.evened.Goals as goal
 

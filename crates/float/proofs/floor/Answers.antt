@@ -3,7 +3,7 @@ use Rattle.float.proofs.Branches.{yes}
 use Rattle.float.proofs.Whole.{big+, one+, with_parts, requires_of, floor_up, floor_whole, floor_else, floor_large}
 use Rattle.float.specs.Def.{floor_of}
 use Rattle.float.specs.Steps.{sign_of}
-use Rattle.std.proofs.Common.{◌≡◌, true, false, ◌∙◌, subst, rules}
+use Rattle.std.proofs.Common.{◌≡◌, true, false, ◌∙◌, subst}
 use lib.Ieee.{Float, of_bits, binary64, neg, add, lt}
 use Rattle.float.proofs.floor.Goals as goal
 

@@ -1,5 +1,4 @@
 use Rattle.float.proofs.Branches.{yes, min_picked}
-use Rattle.std.proofs.Common.{rules}
 use lib.Ieee.{of_bits}
 use Rattle.float.proofs.min.Goals as goal
 

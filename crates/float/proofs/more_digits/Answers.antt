@@ -1,4 +1,4 @@
-use Rattle.float.proofs.WholeRoots.{Turn, first_turn, in_turn, half_turn, next_turn, end_turn}
+use Rattle.float.proofs.WholeRoots.{first_turn, in_turn, half_turn, next_turn, end_turn}
 use Rattle.std.proofs.Common.{arith}
 use Rattle.float.proofs.more_digits.Goals as goal
 

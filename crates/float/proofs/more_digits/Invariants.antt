@@ -1,6 +1,5 @@
 -- `float::more_digits` meets its contract. The loop's invariant is `Turn` of `proofs/WholeRoots.antt`: what is found, down to a place that is a power of 4. Assumes nothing.
-use Rattle.float.proofs.WholeRoots.{Turn, first_turn, in_turn, half_turn, next_turn, end_turn}
-use Rattle.std.proofs.Common.{arith}
+use Rattle.float.proofs.WholeRoots.{Turn}
 use Rattle.float.proofs.more_digits.Given as goal
 
 abbrev pub invariant-loop-b : goal.invariant-loop-b

@@ -1,5 +1,5 @@
 use Rattle.float.specs.Steps.{RootBits}
-use Rattle.std.proofs.Common.{subst, rules}
+use Rattle.std.proofs.Common.{subst}
 use lib.Ieee.{Float}
 use Rattle.float.proofs.normal_bits.Goals as goal
 

@@ -1,6 +1,6 @@
 use Rattle.float.proofs.Branches.{yes}
 use Rattle.float.proofs.Finite.{positive_no_nan, normal_even}
-use Rattle.std.proofs.Common.{refl, rules}
+use Rattle.std.proofs.Common.{refl}
 use Rattle.float.proofs.normal_of.Goals as goal
 
 pub float_to_bits-bits : goal.float_to_bits-bits

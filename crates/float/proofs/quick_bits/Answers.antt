@@ -1,6 +1,5 @@
 use Rattle.float.proofs.Branches.{yes}
 use Rattle.float.proofs.Finite.{normal_told, no_bits}
-use Rattle.std.proofs.Common.{rules}
 use lib.Ieee.{of_bits, div}
 use Rattle.float.proofs.quick_bits.Goals as goal
 

@@ -1,4 +1,4 @@
-use Rattle.std.proofs.Common.{ℕ, ◌+◌, ◌*◌, ◌^◌, sym, refl, ap, ◌∙◌, arith, rules}
+use Rattle.std.proofs.Common.{ℕ, ◌+◌, ◌*◌, ◌^◌, sym, refl, ap, ◌∙◌, arith}
 use Rattle.float.proofs.Finite.{no_bits}
 use Rattle.float.proofs.Patterns.{rounded_hi, digits_lt, even_root}
 use lib.Ieee.{of_bits, binary64}

@@ -1,5 +1,5 @@
 -- `float::raised` meets its contract by `raise` of `proofs/WholeRoots.antt`. Assumes nothing.
-use Rattle.std.proofs.Common.{ℕ, sym, subst, arith, rules}
+use Rattle.std.proofs.Common.{ℕ, sym, subst, arith}
 use Rattle.float.proofs.WholeRoots.{raise, raise_small, raise_fits}
 use Rattle.float.specs.Steps.{Within}
 use Rattle.float.proofs.raised.Goals as goal

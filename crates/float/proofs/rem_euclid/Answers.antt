@@ -1,6 +1,6 @@
 -- `float::rem_euclid` meets its contract: each branch returns what the definition's `cond` picks. Assumes nothing.
 use Rattle.float.proofs.Branches.{rem_neg, rem_else}
-use Rattle.std.proofs.Common.{ap, ◌∙◌, rules}
+use Rattle.std.proofs.Common.{ap, ◌∙◌}
 use lib.Ieee.{of_bits, binary64, add}
 use Rattle.float.proofs.rem_euclid.Goals as goal
 

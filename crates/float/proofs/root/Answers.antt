@@ -1,7 +1,6 @@
 -- `float::root` meets its contract: the cases but a finite number above zero are in `proofs/Finite.antt`. Assumes nothing.
 use Rattle.float.proofs.Branches.{yes}
 use Rattle.float.proofs.Finite.{positive_of, root_inf, root_zero, root_else}
-use Rattle.std.proofs.Common.{rules}
 use lib.Ieee.{of_bits, div}
 use Rattle.float.proofs.root.Goals as goal
 

@@ -1,6 +1,6 @@
 -- `float::root_digits` meets its contract: the loop starts after 13 digits. Assumes nothing.
 use Rattle.float.proofs.WholeRoots.{table_start, twice_lt}
-use Rattle.std.proofs.Common.{arith, rules}
+use Rattle.std.proofs.Common.{arith}
 use Rattle.float.proofs.root_digits.Goals as goal
 
 pub overflow_mul-r : goal.overflow_mul-r

@@ -1,6 +1,6 @@
 use Rattle.float.proofs.Branches.{numbered}
 use Rattle.float.specs.Estimate.{estimate_of, newton_of}
-use Rattle.std.proofs.Common.{ap, ◌∙◌, rules}
+use Rattle.std.proofs.Common.{ap, ◌∙◌}
 use Rattle.float.proofs.root_estimate.Goals as goal
 
 pub estimate-requires : goal.estimate-requires

@@ -1,5 +1,5 @@
 -- `float::root_even` meets its contract by `even-root` of `proofs/Patterns.antt`. Assumes nothing.
-use Rattle.std.proofs.Common.{ℕ, ◌+◌, ◌*◌, ◌/◌, ◌^◌, ap, ◌∙◌, arith, rules}
+use Rattle.std.proofs.Common.{ℕ, ◌+◌, ◌*◌, ◌/◌, ◌^◌, ap, ◌∙◌, arith}
 use Rattle.float.proofs.Patterns.{digits_lt, even_root, not_nan}
 use lib.Ieee.{of_bits, binary64}
 use Rattle.float.proofs.root_even.Goals as goal

@@ -1,4 +1,4 @@
-use Rattle.std.proofs.Common.{◌∙◌, rules}
+use Rattle.std.proofs.Common.{◌∙◌}
 use Rattle.float.proofs.root_finite.Goals as goal
 
 pub root_even-requires : goal.root_even-requires

@@ -1,5 +1,4 @@
 use Rattle.float.proofs.Patterns.{not_nan}
-use Rattle.std.proofs.Common.{rules}
 use Rattle.float.proofs.root_from.Goals as goal
 
 pub float_from_bits-result : goal.float_from_bits-result

@@ -3,7 +3,7 @@ use Rattle.float.proofs.Branches.{yes}
 use Rattle.float.proofs.Whole.{big+, with_parts, requires_of, round_small, round_large}
 use Rattle.float.specs.Def.{round_of}
 use Rattle.float.specs.Steps.{sign_of, half_up}
-use Rattle.std.proofs.Common.{◌≡◌, true, false, ap, ◌∙◌, subst, rules}
+use Rattle.std.proofs.Common.{◌≡◌, true, false, ap, ◌∙◌, subst}
 use lib.Ieee.{Float, of_bits, binary64, sub, lt}
 use Rattle.float.proofs.round.Goals as goal
 

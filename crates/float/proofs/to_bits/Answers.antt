@@ -1,5 +1,5 @@
 -- `float::to_bits` meets its contract. Assumes nothing.
-use Rattle.std.proofs.Common.{ap, rules}
+use Rattle.std.proofs.Common.{ap}
 use lib.Ieee.{to_bits, binary64}
 use Rattle.float.proofs.Branches.{nan_told, number_told}
 use Rattle.float.proofs.to_bits.Goals as goal

@@ -1,7 +1,6 @@
 -- `float::to_i64` meets its contract: `proofs/Casts.antt` has the branches that end at an end of the range. Assumes nothing.
 use Rattle.float.proofs.Branches.{yes}
 use Rattle.float.proofs.Casts.{signed_high, signed_low, signed_nan}
-use Rattle.std.proofs.Common.{rules}
 use lib.Ieee.Compare.{differs_from_itself}
 use lib.Ieee.{of_bits, neg}
 use Rattle.float.proofs.to_i64.Goals as goal

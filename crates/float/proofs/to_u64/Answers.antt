@@ -1,7 +1,6 @@
 -- `float::to_u64` meets its contract: `proofs/Casts.antt` has the branches that end at an end of the range. Assumes nothing.
 use Rattle.float.proofs.Branches.{yes}
 use Rattle.float.proofs.Casts.{unsigned_low, unsigned_high}
-use Rattle.std.proofs.Common.{rules}
 use lib.Ieee.{of_bits, neg}
 use Rattle.float.proofs.to_u64.Goals as goal
 

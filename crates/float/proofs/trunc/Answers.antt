@@ -3,7 +3,7 @@ use Rattle.float.proofs.Branches.{yes}
 use Rattle.float.proofs.Whole.{big+, with_parts, requires_of, trunc_small, trunc_large}
 use Rattle.float.specs.Def.{trunc_of}
 use Rattle.float.specs.Steps.{sign_of}
-use Rattle.std.proofs.Common.{◌≡◌, true, false, ◌∙◌, subst, rules}
+use Rattle.std.proofs.Common.{◌≡◌, true, false, ◌∙◌, subst}
 use lib.Ieee.{Float, of_bits, lt}
 use Rattle.float.proofs.trunc.Goals as goal
 

@@ -1,5 +1,4 @@
 use Rattle.float.specs.Steps.{sign_of}
-use Rattle.std.proofs.Common.{rules}
 use lib.Ieee.{of_bits}
 use Rattle.float.proofs.with_sign.Goals as goal
 

@@ -1,7 +1,6 @@
 use Rattle.frame.proofs.Outcomes.{build_refused, build_fine, build_few, build_run, build_lists}
 use Rattle.frame.specs.Build.{Given, given}
 use Rattle.frame.specs.declared.Built.TheVariants.{Answered, Refused}
-use borrow.Author.Rules.{rules}
 use mathlib.Core.Bool.{false}
 use Rattle.frame.proofs.build.Goals as goal
 

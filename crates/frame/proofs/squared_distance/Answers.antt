@@ -1,5 +1,4 @@
 use Rattle.frame.proofs.Ranges.{frame_sized, spot_inside, failed, passed, squared_frame, squared_first, squared_second, squared_fine}
-use borrow.Author.Rules.{rules}
 use Rattle.std.proofs.Common.{ap, not}
 use Rattle.frame.proofs.squared_distance.Goals as goal
 

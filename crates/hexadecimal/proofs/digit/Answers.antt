@@ -1,5 +1,4 @@
 use Rattle.hexadecimal.specs.Digits.{digit_of}
-use borrow.Author.Rules.{rules}
 use borrow.Author.Tests.{lt-ltb, le-ltb}
 use Rattle.hexadecimal.proofs.digit.Goals as goal
 

@@ -1,6 +1,5 @@
 use Rattle.hexadecimal.proofs.Reading.{past2}
 use Rattle.hexadecimal.specs.Digits.{hex2}
-use borrow.Author.Rules.{rules}
 use Rattle.hexadecimal.proofs.hex2.Goals as goal
 
 pub returns-then-s-at : goal.returns-then-s-at

@@ -1,6 +1,5 @@
 use Rattle.hexadecimal.proofs.Reading.{past4}
 use Rattle.hexadecimal.specs.Digits.{hex4}
-use borrow.Author.Rules.{rules}
 use Rattle.hexadecimal.proofs.hex4.Goals as goal
 
 pub returns-then-s-at : goal.returns-then-s-at

@@ -1,6 +1,5 @@
 use Rattle.hexadecimal.proofs.Reading.{past8}
 use Rattle.hexadecimal.specs.Digits.{hex8}
-use borrow.Author.Rules.{rules}
 use Rattle.hexadecimal.proofs.hex8.Goals as goal
 
 pub returns-then-s-at : goal.returns-then-s-at

@@ -1,6 +1,5 @@
 use Rattle.hexadecimal.proofs.Writing.{sets_past}
 use Rattle.hexadecimal.specs.Glyphs.{text2}
-use borrow.Author.Rules.{rules}
 use native.Mathlib.Numerals.{add-one}
 use Rattle.hexadecimal.proofs.put2.Goals as goal
 

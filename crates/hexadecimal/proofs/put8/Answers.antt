@@ -1,7 +1,6 @@
 use Prim.Native.Nat.{◌/◌, ◌%◌}
 use Rattle.hexadecimal.proofs.Writing.{sets_past, put_put, length4}
 use Rattle.hexadecimal.specs.Glyphs.{text8, text4}
-use borrow.Author.Rules.{rules}
 use Rattle.hexadecimal.proofs.put8.Goals as goal
 
 pub returns-then-out-at : goal.returns-then-out-at

@@ -1,5 +1,4 @@
 use Rattle.hexadecimal.proofs.Writing.{set_past}
-use borrow.Author.Rules.{rules}
 use Rattle.hexadecimal.proofs.put_byte.Goals as goal
 
 pub returns-else-at-out : goal.returns-else-at-out

@@ -1,7 +1,6 @@
 use Rattle.neighbor.proofs.Demands.{says_lists}
 use Rattle.neighbor.proofs.Updates.{updated_refused, updated_on}
 use Rattle.neighbor.specs.Update.{Given, given}
-use Rattle.std.proofs.Common.{rules}
 use Rattle.neighbor.specs.declared.Question.TheVariants.{Unasked}
 use Rattle.neighbor.proofs.build.Goals as goal
 

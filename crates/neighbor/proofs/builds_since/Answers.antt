@@ -1,5 +1,5 @@
 use Rattle.neighbor.specs.State.{since_of}
-use Rattle.std.proofs.Common.{arith, rules}
+use Rattle.std.proofs.Common.{arith}
 use Rattle.neighbor.proofs.builds_since.Goals as goal
 
 pub returns : goal.returns

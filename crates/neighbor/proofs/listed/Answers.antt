@@ -1,5 +1,5 @@
 use Rattle.neighbor.proofs.Asking.{listed_none, listed_part, listed_room, part_long}
-use Rattle.std.proofs.Common.{arith, rules}
+use Rattle.std.proofs.Common.{arith}
 use Rattle.neighbor.proofs.listed.Goals as goal
 
 pub returns-then-claims_more : goal.returns-then-claims_more

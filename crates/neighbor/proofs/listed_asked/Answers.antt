@@ -1,5 +1,4 @@
 use Rattle.neighbor.specs.Update.{listed_seen}
-use Rattle.std.proofs.Common.{rules}
 use Rattle.neighbor.proofs.listed_asked.Goals as goal
 
 pub returns-then-claims_more : goal.returns-then-claims_more

@@ -1,5 +1,5 @@
 use Rattle.neighbor.proofs.Asking.{needs_refused, needs_answered, question_room}
-use Rattle.std.proofs.Common.{sym, refl, ◌∙◌, rules}
+use Rattle.std.proofs.Common.{sym, refl, ◌∙◌}
 use Rattle.neighbor.proofs.needs_rebuild.Goals as goal
 
 pub returns-then-is_at_rest : goal.returns-then-is_at_rest

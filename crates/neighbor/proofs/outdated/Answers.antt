@@ -1,6 +1,6 @@
 use Rattle.neighbor.proofs.Asking.{outdated_refused, outdated_answered, question_room}
 use Rattle.neighbor.proofs.Unmoved.{outdated_at_rest}
-use Rattle.std.proofs.Common.{sym, refl, ◌∙◌, rules}
+use Rattle.std.proofs.Common.{sym, refl, ◌∙◌}
 use Rattle.neighbor.proofs.outdated.Goals as goal
 
 pub returns-then-is_at_rest : goal.returns-then-is_at_rest

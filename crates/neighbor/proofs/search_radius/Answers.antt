@@ -1,5 +1,4 @@
 use Rattle.neighbor.specs.State.{radius_seen}
-use Rattle.std.proofs.Common.{rules}
 use borrow.Author.Tests.{not-true, not-false}
 use Rattle.std.proofs.Common.{ap, not}
 use Rattle.neighbor.proofs.search_radius.Goals as goal

@@ -1,5 +1,4 @@
 use Rattle.neighbor_grid.proofs.Layouts.{lay_unfit, lay_plain, lay_crowded, lay_laid, laid_small, laid_room, Planned, atoms_few, atoms_room}
-use borrow.Author.Rules.{rules}
 use Rattle.neighbor_grid.proofs.lay.Goals as goal
 
 pub returns-then-n-items : goal.returns-then-n-items

@@ -1,5 +1,4 @@
 use Rattle.neighbor_listing.proofs.Outcomes.{list_table, table_is, plain_few, plain_flat, list_unfit, list_plain, list_crowded, laid_few, laid_gridded, list_grid}
-use borrow.Author.Rules.{rules}
 use Rattle.std.proofs.Common.{ap, not}
 use Rattle.neighbor_listing.proofs.list.Goals as goal
 

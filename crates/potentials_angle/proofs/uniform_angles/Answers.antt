@@ -1,4 +1,3 @@
-use borrow.Author.Rules.{rules}
 use Rattle.potentials_angle.proofs.uniform_angles.Goals as goal
 
 pub returns-then-angle_in_range : goal.returns-then-angle_in_range

@@ -1,5 +1,4 @@
 use Rattle.potentials.specs.Calls.{argon_of}
-use borrow.Author.Rules.{rules}
 use Rattle.potentials_calls.proofs.argon.Goals as goal
 
 pub returns : goal.returns

@@ -1,5 +1,4 @@
 use Rattle.potentials.proofs.Outcomes.{call_refused, call_answered}
-use borrow.Author.Rules.{rules}
 use Rattle.potentials_calls.proofs.bonds_all.Goals as goal
 
 pub returns-in-Refused : goal.returns-in-Refused

@@ -1,6 +1,5 @@
 use Rattle.potentials.proofs.Outcomes.{call_refused, call_answered}
 use Rattle.potentials_calls.proofs.AllPairs.{coulomb_few}
-use borrow.Author.Rules.{rules}
 use Rattle.potentials_calls.proofs.coulomb_all.Goals as goal
 
 pub returns-in-Refused : goal.returns-in-Refused

@@ -2,7 +2,6 @@ use Prim.Native.Nat.{◌/◌}
 use Rattle.lists.specs.Lists.{all_pairs}
 use Rattle.potentials.proofs.Outcomes.{call_refused, call_answered, lj_looked}
 use Rattle.potentials_calls.proofs.AllPairs.{lj_few}
-use borrow.Author.Rules.{rules}
 use lib.ListN.{length}
 use Rattle.potentials_calls.proofs.lj_all.Goals as goal
 

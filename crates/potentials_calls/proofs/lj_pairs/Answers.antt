@@ -1,6 +1,5 @@
 use Rattle.lists.specs.Lists.{rows}
 use Rattle.potentials.proofs.Outcomes.{call_refused, call_answered, lj_looked}
-use borrow.Author.Rules.{rules}
 use lib.ListN.{length}
 use Rattle.potentials_calls.proofs.lj_pairs.Goals as goal
 

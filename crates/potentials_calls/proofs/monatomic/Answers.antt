@@ -1,4 +1,3 @@
-use borrow.Author.Rules.{rules}
 use Rattle.potentials_calls.proofs.monatomic.Goals as goal
 
 pub returns-then-lj_in_range : goal.returns-then-lj_in_range

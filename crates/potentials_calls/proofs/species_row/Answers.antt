@@ -1,5 +1,4 @@
 use Rattle.potentials.proofs.Outcomes.{row_refused, row_answered}
-use borrow.Author.Rules.{rules}
 use Rattle.potentials_calls.proofs.species_row.Goals as goal
 
 pub returns-in-Refused : goal.returns-in-Refused

@@ -1,4 +1,3 @@
-use borrow.Author.Rules.{rules}
 use Rattle.potentials_calls.proofs.uniform.Goals as goal
 
 pub returns-then-bond_in_range : goal.returns-then-bond_in_range

@@ -1,12 +1,8 @@
-use Prim.Native.Nat.{◌≤◌, ◌-◌}
-use Rattle.lists.specs.Lists.{every}
 use Rattle.ranges.proofs.Looked.{all_next, all_past}
 use Rattle.ranges.specs.Ranged.{within}
 use borrow.Author.Rules.{rules}
 use lib.Ieee.{nan}
-use lib.ListN.{length, drop}
-use mathlib.Core.Bool.{◌&&◌}
-use mathlib.Core.Path.{◌≡◌, refl, sym, ◌∙◌}
+use mathlib.Core.Path.{refl, sym, ◌∙◌}
 use Rattle.ranges.proofs.all_within.Goals as goal
 
 pub loop-i-init : goal.loop-i-init

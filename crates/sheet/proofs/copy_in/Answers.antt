@@ -1,6 +1,4 @@
-use Prim.Native.Nat.{◌≤◌, ◌-◌}
 use Rattle.sheet.proofs.Copying.{one_more}
-use borrow.Author.Rules.{rules}
 use lib.ListN.{length, take}
 use lib.Seq.{sets, length-sets}
 use mathlib.Core.Path.{◌≡◌, refl, ap, ◌∙◌}

@@ -1,10 +1,7 @@
 use Prim.Native.Nat.{◌≤◌, ◌-◌}
-use Rattle.sheet.proofs.Copying.{one_more}
-use borrow.Author.Rules.{rules}
-use lib.ListN.{length, take}
-use lib.Seq.{sets, length-sets}
-use mathlib.Core.Path.{◌≡◌, refl, ap, ◌∙◌}
-use native.Mathlib.Omega.{arith}
+use lib.ListN.{take}
+use lib.Seq.{sets}
+use mathlib.Core.Path.{◌≡◌}
 use Rattle.sheet.proofs.copy_in.Given as goal
 
 abbrev pub invariant-loop-i : goal.invariant-loop-i

@@ -1,5 +1,4 @@
 use Rattle.sheet.proofs.Settling.{too_long, no_room, no_rows, read_whole, read_refused}
-use borrow.Author.Rules.{rules}
 use Rattle.sheet.proofs.read.Goals as goal
 
 pub returns-then-input-gt65536 : goal.returns-then-input-gt65536

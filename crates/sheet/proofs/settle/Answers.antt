@@ -1,6 +1,5 @@
 use Rattle.sheet.proofs.Settling.{sound_few, settled, unsettled}
 use Rattle.sheet.specs.Desk.{header_for}
-use borrow.Author.Rules.{rules}
 use native.Mathlib.Omega.{arith}
 use Rattle.sheet.proofs.settle.Goals as goal
 

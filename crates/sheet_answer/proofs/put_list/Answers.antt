@@ -1,4 +1,3 @@
-use borrow.Author.Rules.{rules}
 use Rattle.sheet_answer.proofs.put_list.Goals as goal
 
 pub returns-in-Answered : goal.returns-in-Answered

@@ -2,7 +2,6 @@ use Rattle.answer.specs.declared.Refusal.TheVariants.{Lengths}
 use Rattle.answer.specs.declared.Whole.TheVariants.{Answered, Refused}
 use Rattle.sheet_answer.proofs.Fitting.{solve_fits}
 use Rattle.sheet_answer.proofs.Telling.{listed_text, too_small, solved}
-use borrow.Author.Rules.{rules}
 use Rattle.sheet_answer.proofs.solve.Goals as goal
 
 pub returns-then-out-lt90133 : goal.returns-then-out-lt90133

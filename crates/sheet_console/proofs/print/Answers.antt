@@ -1,6 +1,5 @@
 use Rattle.answer.specs.Seen.{seen_whole}
 use Rattle.sheet_answer.specs.Solve.{Outcome}
-use borrow.Author.Rules.{rules}
 use lib.Seq.{length-take-le}
 use mathlib.Core.Path.{ap, sym}
 use Rattle.sheet_console.proofs.print.Goals as goal

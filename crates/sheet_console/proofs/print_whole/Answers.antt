@@ -1,6 +1,5 @@
 use Rattle.sheet_answer.proofs.Telling.{solved}
 use Rattle.sheet_answer.specs.Solve.{Outcome, printed}
-use borrow.Author.Rules.{rules}
 use lib.ListN.{length}
 use lib.Seq.{sets}
 use mathlib.Core.Path.{ap, refl, sym, ◌∙◌}

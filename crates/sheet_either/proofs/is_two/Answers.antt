@@ -1,10 +1,7 @@
-use Prim.Native.Nat.{◌-◌, ◌/◌, ◌%◌}
-use Rattle.sheet_either.proofs.Either.{left_two, two_start, two_is, two_end}
-use Rattle.sheet_either.specs.Either.{is_two}
-use Rattle.sheet_lines_two.specs.Twos.{twos_of}
-use borrow.Author.Rules.{rules}
+use Prim.Native.Nat.{◌-◌, ◌/◌}
+use Rattle.sheet_either.proofs.Either.{two_start, two_is, two_end}
 use lib.ListN.{length}
-use mathlib.Core.Path.{◌≡◌, refl, sym, ◌∙◌}
+use mathlib.Core.Path.{sym, ◌∙◌}
 use native.Mathlib.Omega.{arith}
 use Rattle.sheet_either.proofs.is_two.Goals as goal
 

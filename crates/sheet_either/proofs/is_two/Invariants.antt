@@ -1,11 +1,9 @@
-use Prim.Native.Nat.{◌-◌, ◌/◌, ◌%◌}
-use Rattle.sheet_either.proofs.Either.{left_two, two_start, two_is, two_end}
+use Prim.Native.Nat.{◌-◌, ◌%◌}
+use Rattle.sheet_either.proofs.Either.{left_two}
 use Rattle.sheet_either.specs.Either.{is_two}
 use Rattle.sheet_lines_two.specs.Twos.{twos_of}
-use borrow.Author.Rules.{rules}
 use lib.ListN.{length}
-use mathlib.Core.Path.{◌≡◌, refl, sym, ◌∙◌}
-use native.Mathlib.Omega.{arith}
+use mathlib.Core.Path.{◌≡◌}
 use Rattle.sheet_either.proofs.is_two.Given as goal
 
 abbrev pub invariant-loop-at : goal.invariant-loop-at

@@ -1,6 +1,5 @@
 use Rattle.answer.specs.Seen.{answered, refused_by}
 use Rattle.sheet_either.proofs.Either.{no_species, by_two, by_one, told_few}
-use borrow.Author.Rules.{rules}
 use mathlib.Core.Path.{sym, ◌∙◌}
 use native.Mathlib.Omega.{arith}
 use Rattle.sheet_either.proofs.read_either.Goals as goal

@@ -1,4 +1,3 @@
-use Prim.Native.Nat.{ℕ, ◌≤◌, ◌-◌}
 use Rattle.sheet_either.proofs.Either.{one_zero}
 use lib.ListN.{length, replicate}
 use lib.Seq.{sets, length-sets}

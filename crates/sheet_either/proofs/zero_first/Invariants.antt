@@ -1,9 +1,7 @@
-use Prim.Native.Nat.{ℕ, ◌≤◌, ◌-◌}
-use Rattle.sheet_either.proofs.Either.{one_zero}
-use lib.ListN.{length, replicate}
-use lib.Seq.{sets, length-sets}
-use mathlib.Core.Path.{◌≡◌, refl, ap, ◌∙◌}
-use native.Mathlib.Omega.{arith}
+use Prim.Native.Nat.{◌≤◌, ◌-◌}
+use lib.ListN.{replicate}
+use lib.Seq.{sets}
+use mathlib.Core.Path.{◌≡◌}
 use Rattle.sheet_either.proofs.zero_first.Given as goal
 
 abbrev pub invariant-loop-i : goal.invariant-loop-i

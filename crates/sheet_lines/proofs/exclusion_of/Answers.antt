@@ -1,5 +1,4 @@
 use Rattle.sheet_lines.specs.Reading.{exclusion_of}
-use borrow.Author.Rules.{rules}
 use borrow.Author.Tests.{lt-ltb, le-ltb, eq-eqb, ne_eqb}
 use Rattle.sheet_lines.proofs.exclusion_of.Goals as goal
 

@@ -1,5 +1,4 @@
 use Rattle.sheet_lines.specs.Reading.{line_at}
-use borrow.Author.Rules.{rules}
 use borrow.Author.Tests.{lt-ltb, le-ltb, eq-eqb, ne_eqb}
 use mathlib.Core.Path.{sym}
 use Rattle.sheet_lines.proofs.line_at.Goals as goal

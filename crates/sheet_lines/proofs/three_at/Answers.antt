@@ -1,5 +1,4 @@
 use Rattle.sheet_lines.specs.Reading.{three_at}
-use borrow.Author.Rules.{rules}
 use Rattle.sheet_lines.proofs.three_at.Goals as goal
 
 pub returns : goal.returns

@@ -1,5 +1,4 @@
 use Rattle.sheet_lines.specs.Reading.{three_of}
-use borrow.Author.Rules.{rules}
 use borrow.Author.Tests.{lt-ltb, le-ltb}
 use Rattle.sheet_lines.proofs.three_of.Goals as goal
 

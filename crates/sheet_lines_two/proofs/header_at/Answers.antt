@@ -1,6 +1,5 @@
 use Rattle.sheet_lines.specs.Reading.{three_at}
 use Rattle.sheet_lines_two.specs.Twos.{end_two, header_two}
-use borrow.Author.Rules.{rules}
 use borrow.Author.Tests.{eq-eqb, ne_eqb}
 use mathlib.Core.Path.{sym}
 use Rattle.sheet_lines_two.proofs.header_at.Goals as goal

@@ -1,5 +1,3 @@
-use borrow.Author.Rules.{rules}
-use mathlib.Core.Path.{◌∙◌, ap}
 use Rattle.sheet_lines_two.proofs.kind.Goals as goal
 
 pub returns-in-Header : goal.returns-in-Header

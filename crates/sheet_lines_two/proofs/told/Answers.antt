@@ -1,4 +1,3 @@
-use borrow.Author.Rules.{rules}
 use Rattle.sheet_lines_two.proofs.told.Goals as goal
 
 pub returns-then-kinds : goal.returns-then-kinds

@@ -1,6 +1,5 @@
 use Rattle.sheet_lines.specs.Reading.{three_at}
 use Rattle.sheet_lines_two.specs.Twos.{two_at}
-use borrow.Author.Rules.{rules}
 use borrow.Author.Tests.{lt-ltb, le-ltb, eq-eqb, ne_eqb}
 use mathlib.Core.Path.{sym}
 use Rattle.sheet_lines_two.proofs.two_at.Goals as goal

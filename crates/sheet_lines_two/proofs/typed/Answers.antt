@@ -1,5 +1,4 @@
 use Rattle.sheet_lines_two.specs.Twos.{typed_two}
-use borrow.Author.Rules.{rules}
 use borrow.Author.Tests.{lt-ltb, le-ltb}
 use Rattle.sheet_lines_two.proofs.typed.Goals as goal
 

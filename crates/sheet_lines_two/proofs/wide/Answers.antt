@@ -1,4 +1,3 @@
-use borrow.Author.Rules.{rules}
 use Rattle.sheet_lines_two.proofs.wide.Goals as goal
 
 pub returns-in-Header : goal.returns-in-Header

@@ -1,8 +1,6 @@
-use Prim.Native.Nat.{◌≤◌, ◌+◌, ◌-◌}
 use Rattle.sheet.proofs.Leads.{lead_more, lead_stop, lead_end}
 use Rattle.sheet.specs.Reading.{lead_of}
-use lib.ListN.{length, drop}
-use mathlib.Core.Path.{◌≡◌, sym}
+use mathlib.Core.Path.{sym}
 use native.Mathlib.Nat.{zero-add}
 use native.Mathlib.Omega.{arith}
 use Rattle.sheet_moved.proofs.first_typed.Goals as goal

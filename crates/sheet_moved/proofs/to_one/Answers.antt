@@ -1,6 +1,5 @@
 use Prim.Native.Nat.{ℕ, ◌*◌}
 use Rattle.sheet_moved.proofs.Moves.{two_told, typed_back, wrote_back, back_refused, seen_moved_lem, ruled_back}
-use borrow.Author.Rules.{rules}
 use lib.ListN.{replicate, length-replicate}
 use lib.Seq.{length-take-le}
 use mathlib.Core.Path.{sym, refl}

@@ -1,7 +1,6 @@
 use Prim.Native.Nat.{ℕ, ◌*◌}
 use Rattle.sheet_moved.proofs.Moves.{wrote_forth, forth_refused}
 use Rattle.sheet_rewritten.proofs.Forms.{read_answered}
-use borrow.Author.Rules.{rules}
 use lib.ListN.{replicate, length-replicate}
 use lib.Seq.{length-take-le}
 use mathlib.Core.Path.{sym, refl}

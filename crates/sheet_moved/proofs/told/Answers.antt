@@ -1,4 +1,3 @@
-use borrow.Author.Rules.{rules}
 use Rattle.sheet_moved.proofs.told.Goals as goal
 
 pub returns-in-Answered : goal.returns-in-Answered

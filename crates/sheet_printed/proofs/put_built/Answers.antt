@@ -1,6 +1,5 @@
 use Prim.Native.Nat.{◌/◌}
 use Rattle.sheet_printed.proofs.Parts.{built, all_rows}
-use borrow.Author.Rules.{rules}
 use lib.ListN.{length}
 use mathlib.Core.Path.{refl}
 use native.Mathlib.Omega.{arith}

@@ -2,7 +2,6 @@ use Rattle.hexadecimal.proofs.Writing.{length2, length8}
 use Rattle.hexadecimal.specs.Glyphs.{text2, text8}
 use Rattle.sheet_printed.proofs.Parts.{four_parts}
 use Rattle.sheet_printed.specs.Printed.{count_line, flag_of}
-use borrow.Author.Rules.{rules}
 use Rattle.sheet_printed.proofs.put_count.Goals as goal
 
 pub returns : goal.returns

@@ -2,7 +2,6 @@ use Rattle.hexadecimal.proofs.Writing.{length2, length4}
 use Rattle.hexadecimal.specs.Glyphs.{text2, text4}
 use Rattle.sheet_printed.proofs.Parts.{three_parts}
 use Rattle.sheet_printed.specs.Printed.{pair_line}
-use borrow.Author.Rules.{rules}
 use Rattle.sheet_printed.proofs.put_pair.Goals as goal
 
 pub returns : goal.returns

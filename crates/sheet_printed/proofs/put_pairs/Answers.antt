@@ -1,8 +1,7 @@
-use Prim.Native.Nat.{◌+◌, ◌*◌, ◌-◌, ◌≤◌}
+use Prim.Native.Nat.{◌+◌, ◌*◌}
 use Rattle.lists.specs.Lists.{rows, each}
 use Rattle.sheet_printed.proofs.Parts.{one_pair}
 use Rattle.sheet_printed.specs.Printed.{pair_lines}
-use borrow.Author.Rules.{rules}
 use lib.ListN.{length, take, get_or}
 use lib.Seq.{sets, length-sets}
 use mathlib.Core.Path.{◌≡◌, refl, ap, ◌∙◌}

@@ -2,7 +2,6 @@ use Rattle.hexadecimal.proofs.Writing.{length2, length8}
 use Rattle.hexadecimal.specs.Glyphs.{text2, text8}
 use Rattle.sheet_printed.proofs.Parts.{three_parts, length_refusal}
 use Rattle.sheet_printed.specs.Printed.{refusal_line}
-use borrow.Author.Rules.{rules}
 use mathlib.Core.Path.{sym}
 use Rattle.sheet_printed.proofs.put_refusal.Goals as goal
 

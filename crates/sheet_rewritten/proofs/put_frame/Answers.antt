@@ -1,5 +1,4 @@
 use Rattle.sheet_rewritten.proofs.Forms.{write_answered, write_refused, line_put}
-use borrow.Author.Rules.{rules}
 use Rattle.sheet_rewritten.proofs.put_frame.Goals as goal
 
 pub returns-in-Answered : goal.returns-in-Answered

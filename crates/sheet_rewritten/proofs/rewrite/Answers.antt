@@ -1,7 +1,6 @@
-use Prim.Native.Nat.{ℕ, ◌*◌}
+use Prim.Native.Nat.{ℕ}
 use Rattle.sheet_rewritten.proofs.Forms.{too_small, rewrote, read_answered, read_refused, handed_form}
-use borrow.Author.Rules.{rules}
-use lib.ListN.{replicate, length-replicate, take}
+use lib.ListN.{replicate, length-replicate}
 use lib.Seq.{length-take-le}
 use mathlib.Core.Path.{sym, refl}
 use native.Mathlib.Omega.{arith}

@@ -1,5 +1,4 @@
 use Rattle.sheet_written.specs.Written.{head_of, mask_of}
-use borrow.Author.Rules.{rules}
 use native.Mathlib.Omega.{arith}
 use Rattle.sheet_written.proofs.head_of.Goals as goal
 

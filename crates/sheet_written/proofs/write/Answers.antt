@@ -1,5 +1,4 @@
 use Rattle.sheet_written.proofs.Cases.{write_refused, write_fine, write_full, write_done}
-use borrow.Author.Rules.{rules}
 use native.Mathlib.Omega.{arith}
 use Rattle.sheet_written.proofs.write.Goals as goal
 

@@ -1,7 +1,6 @@
 use Rattle.frame.specs.Build.{Given, given}
 use Rattle.shells.proofs.Refusals.{asked_bad, built_refused, built_added, built_full, listed_fit, listed_countable}
 use Rattle.shells.specs.Shells.{Adding, adding}
-use borrow.Author.Rules.{rules}
 use lib.Seq.{length-take-le}
 use mathlib.Core.Path.{sym}
 use Rattle.shells.proofs.add_shells.Goals as goal

@@ -1,10 +1,5 @@
-use Prim.Native.Nat.{◌-◌, ◌/◌}
-use Rattle.frame.proofs.Ranges.{Passing, passing_begin, passing_turn, passing_fails, passing_end}
-use Rattle.frame.specs.Distance.{spot_of}
+use Rattle.frame.proofs.Ranges.{passing_begin, passing_turn, passing_fails, passing_end}
 use Rattle.skin.proofs.Skin.{little_fails, little_passes, ranged_frame, ranged_spot, all_three}
-use Rattle.skin.specs.Skin.{moved_little}
-use borrow.Author.Rules.{rules}
-use lib.ListN.{length}
 use native.Mathlib.Omega.{arith}
 use Rattle.skin.proofs.all_moved_little.Goals as goal
 

@@ -1,5 +1,4 @@
 use Rattle.skin.proofs.Skin.{squared_value, squared_not_refused}
-use borrow.Author.Rules.{rules}
 use Rattle.skin.proofs.squared_move.Goals as goal
 
 pub returns-in-Answered : goal.returns-in-Answered

@@ -1,6 +1,5 @@
 use Rattle.frame.proofs.Ranges.{failed, passed}
 use Rattle.skin.proofs.Skin.{counts_same, skin_lengths, skin_many, skin_wide, skin_old, skin_new, skin_fine}
-use borrow.Author.Rules.{rules}
 use mathlib.Core.Path.{sym, ◌∙◌}
 use Rattle.std.proofs.Common.{ap, not}
 use Rattle.skin.proofs.within_skin.Goals as goal

@@ -1,5 +1,4 @@
 use Rattle.strike.proofs.Passed.{angles_closed}
-use borrow.Author.Rules.{rules}
 use Rattle.strike.proofs.close_angles.Goals as goal
 
 pub returns : goal.returns

@@ -1,6 +1,5 @@
 use Rattle.strike.proofs.Passed.{atoms_closed}
 use Rattle.strike.specs.Calls.{atoms}
-use borrow.Author.Rules.{rules}
 use Rattle.strike.proofs.close_atoms.Goals as goal
 
 pub returns : goal.returns

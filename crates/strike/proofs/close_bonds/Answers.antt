@@ -1,5 +1,4 @@
 use Rattle.strike.proofs.Passed.{bonds_closed}
-use borrow.Author.Rules.{rules}
 use Rattle.strike.proofs.close_bonds.Goals as goal
 
 pub returns : goal.returns

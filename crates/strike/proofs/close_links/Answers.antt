@@ -1,6 +1,5 @@
 use Rattle.strike.proofs.Passed.{links_closed}
 use Rattle.strike.specs.Calls.{links}
-use borrow.Author.Rules.{rules}
 use Rattle.strike.proofs.close_links.Goals as goal
 
 pub returns : goal.returns

@@ -1,8 +1,6 @@
 use Prim.Native.Nat.{◌*◌}
 use Rattle.strike.proofs.Passed.{three_laid}
-use borrow.Author.Rules.{rules}
 use lib.Seq.{lt-length-set}
-use mathlib.Core.Path.{refl}
 use native.Mathlib.Omega.{arith}
 use Rattle.strike.proofs.lay.Goals as goal
 

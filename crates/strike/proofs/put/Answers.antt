@@ -1,6 +1,5 @@
 use Rattle.strike.proofs.Passed.{roomy_of, put_refused, put_done}
 use Rattle.strike.specs.Calls.{atoms}
-use borrow.Author.Rules.{rules}
 use mathlib.Core.Path.{sym, ◌∙◌}
 use native.Mathlib.Omega.{arith}
 use Rattle.strike.proofs.put.Goals as goal

@@ -1,7 +1,5 @@
 use Rattle.strike.proofs.Passed.{fit_of, strike_refused, strike_done}
 use Rattle.strike.specs.Calls.{atoms, links}
-use borrow.Author.Rules.{rules}
-use lib.ListN.{length}
 use mathlib.Core.Path.{sym, ◌∙◌}
 use native.Mathlib.Omega.{arith}
 use Rattle.strike.proofs.strike.Goals as goal

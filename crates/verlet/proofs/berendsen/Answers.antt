@@ -1,7 +1,6 @@
 use Prim.Native.Nat.{◌≤◌, ◌/◌}
 use Rattle.verlet.specs.Calls.{berendsen_outcome}
 use Rattle.verlet.specs.Parts.{rescaled_by}
-use borrow.Author.Rules.{rules}
 use borrow.Author.Tests.{le-leb, lt-leb, eq-eqb, ne_eqb, not-true, not-false}
 use lib.ListN.{length}
 use native.Mathlib.Omega.{arith}

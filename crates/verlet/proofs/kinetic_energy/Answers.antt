@@ -1,5 +1,4 @@
 use Rattle.verlet.specs.Calls.{seen_of}
-use borrow.Author.Rules.{rules}
 use borrow.Author.Tests.{le-leb, lt-leb, eq-eqb, ne_eqb, not-true, not-false}
 use Rattle.std.proofs.Common.{ap, not}
 use Rattle.verlet.proofs.kinetic_energy.Goals as goal

@@ -1,5 +1,4 @@
 use Rattle.verlet_kick.specs.Kick.{second_kick_after}
-use borrow.Author.Rules.{rules}
 use Rattle.verlet_kick.proofs.second.Goals as goal
 
 pub returns-in-Refused : goal.returns-in-Refused

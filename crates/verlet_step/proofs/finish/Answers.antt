@@ -2,7 +2,6 @@ use Rattle.potentials_pair.specs.Species.{tables}
 use Rattle.verlet_step.proofs.Landing.{finished_on, finished_refused}
 use Rattle.verlet_step.proofs.Lists.{finished_lists}
 use Rattle.verlet_step.specs.Calls.{Motion, motion_of}
-use borrow.Author.Rules.{rules}
 use Rattle.verlet_step.proofs.finish.Goals as goal
 
 pub returns-in-Refused : goal.returns-in-Refused

@@ -2,7 +2,6 @@ use Rattle.potentials_pair.specs.Species.{tables}
 use Rattle.verlet_step.proofs.Landing.{stepped_on, stepped_refused}
 use Rattle.verlet_step.proofs.Lists.{stepped_lists}
 use Rattle.verlet_step.specs.Calls.{Motion, motion_of}
-use borrow.Author.Rules.{rules}
 use Rattle.verlet_step.proofs.step.Goals as goal
 
 pub returns-in-Refused : goal.returns-in-Refused

@@ -1,5 +1,4 @@
 use Rattle.virial.specs.Calls.{pair_outcome}
-use borrow.Author.Rules.{rules}
 use borrow.Author.Tests.{le-leb, lt-leb, not-true, not-false, eq-eqb, ne_eqb}
 use Rattle.std.proofs.Common.{ap, not}
 use Rattle.virial.proofs.add_pair_force.Goals as goal

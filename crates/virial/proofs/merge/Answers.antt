@@ -1,5 +1,4 @@
 use Rattle.virial.specs.Calls.{merge_outcome}
-use borrow.Author.Rules.{rules}
 use borrow.Author.Tests.{le-leb, lt-leb, not-true, not-false}
 use Rattle.std.proofs.Common.{ap, not}
 use Rattle.virial.proofs.merge.Goals as goal

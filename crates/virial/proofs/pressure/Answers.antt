@@ -1,4 +1,3 @@
-use borrow.Author.Rules.{rules}
 use Rattle.virial.proofs.pressure.Goals as goal
 
 pub returns-then-plain : goal.returns-then-plain

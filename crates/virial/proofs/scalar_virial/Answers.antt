@@ -1,5 +1,4 @@
 use Rattle.virial.specs.Virial.{scalar_virial_of}
-use borrow.Author.Rules.{rules}
 use Rattle.virial.proofs.scalar_virial.Goals as goal
 
 pub returns-then-rows_plain : goal.returns-then-rows_plain

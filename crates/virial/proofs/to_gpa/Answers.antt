@@ -1,5 +1,4 @@
 use Rattle.virial.specs.Virial.{to_gpa_of}
-use borrow.Author.Rules.{rules}
 use Rattle.virial.proofs.to_gpa.Goals as goal
 
 pub returns-then-units_in_range-plain : goal.returns-then-units_in_range-plain

@@ -1,5 +1,4 @@
 use Rattle.virial.specs.Calls.{virial_outcome}
-use borrow.Author.Rules.{rules}
 use Rattle.virial.proofs.virial_from_pair.Goals as goal
 
 pub returns-then-virial_in_range : goal.returns-then-virial_in_range

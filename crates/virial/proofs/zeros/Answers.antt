@@ -1,5 +1,4 @@
 use Rattle.virial.specs.Calls.{zeros_outcome}
-use borrow.Author.Rules.{rules}
 use borrow.Author.Tests.{eq-eqb, ne_eqb, le-leb, lt-leb}
 use Rattle.virial.proofs.zeros.Goals as goal
 

@@ -1,7 +1,6 @@
 use Prim.Native.Nat.{◌*◌}
 use Rattle.bins.proofs.Wide.{two_wide, more_wide}
 use Rattle.bins.specs.Stencil.{cells}
-use borrow.Author.Rules.{rules}
 use native.Mathlib.Omega.{arith}
 use Rattle.bins.proofs.kernel.cell_count.Goals as goal
 

@@ -1,7 +1,6 @@
 use Prim.Native.Nat.{◌*◌}
 use Rattle.bins.proofs.FlatLaws.{place_parts, place_in, home_is, home_past}
 use Rattle.bins.proofs.Wide.{two_wide, more_wide}
-use borrow.Author.Rules.{rules}
 use mathlib.Core.Path.{sym}
 use native.Mathlib.Omega.{arith}
 use Rattle.bins.proofs.kernel.home_of.Goals as goal

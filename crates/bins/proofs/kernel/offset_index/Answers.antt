@@ -1,6 +1,5 @@
 use Rattle.bins.proofs.Signs.{passed_small, step_is}
 use Rattle.bins.proofs.StencilLaws.{off_x, off_y, off_z, to_cell}
-use borrow.Author.Rules.{rules}
 use Rattle.bins.proofs.kernel.offset_index.Goals as goal
 
 pub step_on-requires : goal.step_on-requires

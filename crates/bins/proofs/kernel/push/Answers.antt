@@ -1,5 +1,4 @@
 use Rattle.bins.specs.Listing.{pushed}
-use borrow.Author.Rules.{rules}
 use borrow.Author.Tests.{lt-ltb, le-ltb}
 use lib.ListN.{length-set}
 use native.Mathlib.Omega.{arith}

@@ -1,6 +1,5 @@
 use Rattle.bins.proofs.Signs.{same_i32, offset_small, offset_past}
 use Rattle.bins.specs.Stencil.{offset, half_stencil}
-use borrow.Author.Rules.{rules}
 use mathlib.Core.Logic.{inl, inr}
 use mathlib.Core.Path.{sym}
 use Rattle.bins.proofs.kernel.step_of.Goals as goal

@@ -1,6 +1,5 @@
 use Rattle.bins.proofs.AxisLaws.{step_none, step_stay, step_on, step_on_last, step_on_off, step_back, step_back_first, step_back_off}
 use Rattle.bins.proofs.Signs.{is_stay, is_back, is_on}
-use borrow.Author.Rules.{rules}
 use mathlib.Core.Path.{sym}
 use Rattle.bins.proofs.kernel.step_on.Goals as goal
 

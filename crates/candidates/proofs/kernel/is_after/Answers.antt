@@ -1,4 +1,3 @@
-use borrow.Author.Rules.{rules}
 use Rattle.bins.specs.Axis.{follows}
 use Rattle.candidates.proofs.kernel.is_after.Goals as goal
 

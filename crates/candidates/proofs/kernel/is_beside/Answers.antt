@@ -1,6 +1,5 @@
 use Rattle.candidates.proofs.Turns.{both_there, beside_not, beside_is}
 use Rattle.candidates.specs.Checks.{cell_from}
-use borrow.Author.Rules.{rules}
 use borrow.Author.Tests.{not-true, not-false}
 use lib.ListN.{length}
 use mathlib.Core.Path.{◌∙◌}

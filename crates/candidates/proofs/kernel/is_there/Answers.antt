@@ -1,4 +1,3 @@
-use borrow.Author.Rules.{rules}
 use Rattle.candidates.proofs.kernel.is_there.Goals as goal
 
 pub returns : goal.returns

@@ -1,5 +1,4 @@
 use Rattle.bins.specs.Axis.{touch}
-use borrow.Author.Rules.{rules}
 use Rattle.candidates.proofs.kernel.is_touching.Goals as goal
 
 pub returns : goal.returns

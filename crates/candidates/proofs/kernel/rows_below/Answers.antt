@@ -1,8 +1,5 @@
-use Prim.Native.Nat.{◌-◌, ◌/◌}
-use Rattle.candidates.proofs.Turns.{Counting, count_begin, count_step, count_end}
-use Rattle.candidates.specs.Checks.{there, rows_below}
-use borrow.Author.Rules.{rules}
-use lib.ListN.{length}
+use Rattle.candidates.proofs.Turns.{count_begin, count_step, count_end}
+use Rattle.candidates.specs.Checks.{rows_below}
 use native.Mathlib.Omega.{arith}
 use Rattle.candidates.proofs.kernel.rows_below.Goals as goal
 

@@ -1,9 +1,7 @@
 use Prim.Native.Nat.{◌-◌, ◌/◌}
-use Rattle.candidates.proofs.Turns.{Counting, count_begin, count_step, count_end}
-use Rattle.candidates.specs.Checks.{there, rows_below}
-use borrow.Author.Rules.{rules}
+use Rattle.candidates.proofs.Turns.{Counting}
+use Rattle.candidates.specs.Checks.{there}
 use lib.ListN.{length}
-use native.Mathlib.Omega.{arith}
 use Rattle.candidates.proofs.kernel.rows_below.Given as goal
 
 abbrev pub invariant-loop-k : goal.invariant-loop-k

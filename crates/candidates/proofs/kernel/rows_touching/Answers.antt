@@ -1,8 +1,5 @@
-use Prim.Native.Nat.{◌-◌, ◌/◌}
-use Rattle.candidates.proofs.Turns.{Counting, count_begin, count_step, count_end}
-use Rattle.candidates.specs.Checks.{beside_in, cell_from, rows_touching}
-use borrow.Author.Rules.{rules}
-use lib.ListN.{length}
+use Rattle.candidates.proofs.Turns.{count_begin, count_step, count_end}
+use Rattle.candidates.specs.Checks.{rows_touching}
 use native.Mathlib.Omega.{arith}
 use Rattle.candidates.proofs.kernel.rows_touching.Goals as goal
 

@@ -1,9 +1,7 @@
 use Prim.Native.Nat.{◌-◌, ◌/◌}
-use Rattle.candidates.proofs.Turns.{Counting, count_begin, count_step, count_end}
-use Rattle.candidates.specs.Checks.{beside_in, cell_from, rows_touching}
-use borrow.Author.Rules.{rules}
+use Rattle.candidates.proofs.Turns.{Counting}
+use Rattle.candidates.specs.Checks.{beside_in, cell_from}
 use lib.ListN.{length}
-use native.Mathlib.Omega.{arith}
 use Rattle.candidates.proofs.kernel.rows_touching.Given as goal
 
 abbrev pub invariant-loop-k : goal.invariant-loop-k

@@ -1,5 +1,4 @@
 use Rattle.bins.specs.Stencil.{touching}
-use borrow.Author.Rules.{rules}
 use Rattle.candidates.proofs.kernel.touching.Goals as goal
 
 pub returns : goal.returns

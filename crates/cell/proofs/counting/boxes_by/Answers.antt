@@ -1,5 +1,4 @@
 use Rattle.cell.specs.General.{boxes_by}
-use borrow.Author.Rules.{rules}
 use Rattle.cell.proofs.counting.boxes_by.Goals as goal
 
 pub returns-then-g-2 : goal.returns-then-g-2

@@ -1,7 +1,6 @@
 use Rattle.cell.proofs.Whole.{counted_is}
 use Rattle.cell.specs.Boxes.{counted_of}
 use Rattle.float.proofs.Branches.{both_true}
-use borrow.Author.Rules.{rules}
 use mathlib.Core.Bool.{◌&&◌}
 use mathlib.Core.Path.{sym, ◌∙◌}
 use Rattle.cell.proofs.counting.counted.Goals as goal

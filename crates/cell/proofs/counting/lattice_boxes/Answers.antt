@@ -1,7 +1,6 @@
 use Rattle.cell.proofs.Way.{boxes_by_lem}
 use Rattle.cell.specs.General.{boxes_by}
 use Rattle.cell.specs.declared.General.{General}
-use borrow.Author.Rules.{rules}
 use mathlib.Core.Path.{ap, ◌∙◌}
 use Rattle.cell.proofs.counting.lattice_boxes.Goals as goal
 

@@ -1,5 +1,4 @@
 use Rattle.cell.specs.Boxes.{rounded_of}
-use borrow.Author.Rules.{rules}
 use Rattle.cell.proofs.counting.rounded.Goals as goal
 
 pub returns-then-periodic : goal.returns-then-periodic

@@ -1,6 +1,4 @@
-use Rattle.cell.proofs.Whole.{same_cast, narrow_fits, narrow_is}
-use borrow.Author.Rules.{rules}
-use mathlib.Core.Path.{◌≡◌, sym, subst, ◌∙◌}
+use Rattle.cell.proofs.Whole.{narrow_fits, narrow_is}
 use Rattle.cell.proofs.counting.whole.Goals as goal
 
 pub overflow_cast-result : goal.overflow_cast-result

@@ -1,5 +1,4 @@
 use Rattle.cell.proofs.Axes.{box_far}
-use borrow.Author.Rules.{rules}
 use Rattle.cell.proofs.kernel.box_image.Goals as goal
 
 pub returns-then-px-py : goal.returns-then-px-py

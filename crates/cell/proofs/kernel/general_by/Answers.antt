@@ -1,5 +1,4 @@
 use Rattle.cell.specs.General.{general_by}
-use borrow.Author.Rules.{rules}
 use Rattle.cell.proofs.kernel.general_by.Goals as goal
 
 pub returns-then-g : goal.returns-then-g

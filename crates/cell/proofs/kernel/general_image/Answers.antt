@@ -1,5 +1,4 @@
 use Rattle.cell.specs.Cell.{general_image_of, round_fraction_of}
-use borrow.Author.Rules.{rules}
 use Rattle.cell.proofs.kernel.general_image.Goals as goal
 
 pub returns-then-singular : goal.returns-then-singular

@@ -1,5 +1,4 @@
 use Rattle.cell.specs.General.{general_of}
-use borrow.Author.Rules.{rules}
 use Rattle.cell.proofs.kernel.general_of.Goals as goal
 
 pub returns-then-skewed : goal.returns-then-skewed

@@ -1,6 +1,5 @@
 use Rattle.cell.specs.Cell.{box_image_of}
 use Rattle.cell.specs.General.{image_by}
-use borrow.Author.Rules.{rules}
 use Rattle.cell.proofs.kernel.image_by.Goals as goal
 
 pub returns-then-g : goal.returns-then-g

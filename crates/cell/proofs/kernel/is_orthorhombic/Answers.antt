@@ -1,5 +1,4 @@
 use Rattle.cell.specs.Cell.{is_orthorhombic_of}
-use borrow.Author.Rules.{rules}
 use Rattle.cell.proofs.kernel.is_orthorhombic.Goals as goal
 
 pub returns : goal.returns

@@ -1,5 +1,4 @@
 use Rattle.cell.specs.Cell.{lattice_image_of, box_image_of}
-use borrow.Author.Rules.{rules}
 use Rattle.cell.proofs.kernel.lattice_image.Goals as goal
 
 pub returns-then-skewed : goal.returns-then-skewed

@@ -1,5 +1,4 @@
 use Rattle.cell.specs.Cell.{image_of}
-use borrow.Author.Rules.{rules}
 use Rattle.cell.proofs.kernel.min_image.Goals as goal
 
 pub returns-in-Absent : goal.returns-in-Absent

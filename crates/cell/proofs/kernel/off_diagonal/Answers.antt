@@ -1,5 +1,4 @@
 use Rattle.cell.specs.Cell.{off_diagonal_of}
-use borrow.Author.Rules.{rules}
 use Rattle.cell.proofs.kernel.off_diagonal.Goals as goal
 
 pub returns : goal.returns

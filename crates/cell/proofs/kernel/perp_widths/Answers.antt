@@ -1,5 +1,4 @@
 use Rattle.cell.specs.Cell.{perp_widths_of}
-use borrow.Author.Rules.{rules}
 use Rattle.cell.proofs.kernel.perp_widths.Goals as goal
 
 pub returns : goal.returns

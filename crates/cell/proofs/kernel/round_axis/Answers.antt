@@ -1,5 +1,4 @@
 use Rattle.cell.specs.Cell.{round_axis_of}
-use borrow.Author.Rules.{rules}
 use Rattle.cell.proofs.kernel.round_axis.Goals as goal
 
 pub returns-then-periodic : goal.returns-then-periodic

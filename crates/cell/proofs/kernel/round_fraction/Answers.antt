@@ -1,6 +1,5 @@
 use Rattle.cell.proofs.Axes.{fraction_far}
 use Rattle.float.proofs.Branches.{yes}
-use borrow.Author.Rules.{rules}
 use Rattle.cell.proofs.kernel.round_fraction.Goals as goal
 
 pub returns-then-px-py : goal.returns-then-px-py

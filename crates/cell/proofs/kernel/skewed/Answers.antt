@@ -1,5 +1,4 @@
 use Rattle.cell.specs.Cell.{skewed_of}
-use borrow.Author.Rules.{rules}
 use Rattle.cell.proofs.kernel.skewed.Goals as goal
 
 pub returns : goal.returns

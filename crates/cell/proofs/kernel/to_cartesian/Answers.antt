@@ -1,5 +1,4 @@
 use Rattle.cell.specs.Cell.{to_cartesian_of}
-use borrow.Author.Rules.{rules}
 use Rattle.cell.proofs.kernel.to_cartesian.Goals as goal
 
 pub returns : goal.returns

@@ -1,5 +1,4 @@
 use Rattle.cell.specs.Cell.{to_fractional_of}
-use borrow.Author.Rules.{rules}
 use Rattle.cell.proofs.kernel.to_fractional.Goals as goal
 
 pub returns-then-singular : goal.returns-then-singular

@@ -1,5 +1,4 @@
 use Rattle.cell.specs.Cell.{width_of}
-use borrow.Author.Rules.{rules}
 use Rattle.cell.proofs.kernel.width.Goals as goal
 
 pub returns-then-area : goal.returns-then-area

@@ -1,5 +1,4 @@
 use Rattle.cell.specs.Cell.{wrap_of}
-use borrow.Author.Rules.{rules}
 use Rattle.cell.proofs.kernel.wrap.Goals as goal
 
 pub returns-then-singular : goal.returns-then-singular

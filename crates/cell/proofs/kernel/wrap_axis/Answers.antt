@@ -1,5 +1,4 @@
 use Rattle.cell.specs.Cell.{wrap_axis_of}
-use borrow.Author.Rules.{rules}
 use Rattle.cell.proofs.kernel.wrap_axis.Goals as goal
 
 pub returns-then-t : goal.returns-then-t

@@ -1,5 +1,4 @@
 use Rattle.cell.specs.Cell.{wrap_fraction_of}
-use borrow.Author.Rules.{rules}
 use Rattle.cell.proofs.kernel.wrap_fraction.Goals as goal
 
 pub returns : goal.returns

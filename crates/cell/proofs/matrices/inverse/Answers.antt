@@ -1,5 +1,4 @@
 use Rattle.cell.specs.Matrix.{inverse_of}
-use borrow.Author.Rules.{rules}
 use Rattle.cell.proofs.matrices.inverse.Goals as goal
 
 pub returns : goal.returns

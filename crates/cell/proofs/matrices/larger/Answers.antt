@@ -1,5 +1,4 @@
 use Rattle.cell.specs.General.{running_of}
-use borrow.Author.Rules.{rules}
 use Rattle.cell.proofs.matrices.larger.Goals as goal
 
 pub returns : goal.returns

@@ -1,5 +1,4 @@
 use Rattle.cell.proofs.Running.{running_largest}
-use borrow.Author.Rules.{rules}
 use Rattle.cell.proofs.matrices.largest.Goals as goal
 
 pub returns : goal.returns

@@ -1,5 +1,4 @@
 use Rattle.cell.specs.General.{running_in_row}
-use borrow.Author.Rules.{rules}
 use Rattle.cell.proofs.matrices.largest_in_row.Goals as goal
 
 pub returns : goal.returns

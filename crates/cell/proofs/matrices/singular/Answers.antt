@@ -1,5 +1,4 @@
 use Rattle.cell.specs.Matrix.{singular_of}
-use borrow.Author.Rules.{rules}
 use Rattle.cell.proofs.matrices.singular.Goals as goal
 
 pub returns : goal.returns

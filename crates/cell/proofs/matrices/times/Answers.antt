@@ -1,5 +1,4 @@
 use Rattle.cell.specs.Matrix.{times_of}
-use borrow.Author.Rules.{rules}
 use Rattle.cell.proofs.matrices.times.Goals as goal
 
 pub returns : goal.returns

@@ -1,5 +1,4 @@
 use Rattle.cell.specs.Ranged.{cell_in_range}
-use borrow.Author.Rules.{rules}
 use Rattle.cell.proofs.ranged.cell_in_range.Goals as goal
 
 pub returns-in-Absent : goal.returns-in-Absent

@@ -1,5 +1,4 @@
 use Rattle.cell.specs.Ranged.{lattice_in_range}
-use borrow.Author.Rules.{rules}
 use Rattle.cell.proofs.ranged.lattice_in_range.Goals as goal
 
 pub returns : goal.returns

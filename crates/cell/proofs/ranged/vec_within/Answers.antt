@@ -1,5 +1,4 @@
 use Rattle.cell.specs.Ranged.{vec_within}
-use borrow.Author.Rules.{rules}
 use Rattle.cell.proofs.ranged.vec_within.Goals as goal
 
 pub returns : goal.returns

@@ -1,5 +1,4 @@
 use Rattle.cell.specs.Vec.{norm_of}
-use borrow.Author.Rules.{rules}
 use Rattle.cell.proofs.vectors.norm.Goals as goal
 
 pub returns : goal.returns

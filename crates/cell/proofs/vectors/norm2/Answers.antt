@@ -1,5 +1,4 @@
 use Rattle.cell.specs.Vec.{norm2_of}
-use borrow.Author.Rules.{rules}
 use Rattle.cell.proofs.vectors.norm2.Goals as goal
 
 pub returns : goal.returns

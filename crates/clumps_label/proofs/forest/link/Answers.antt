@@ -1,5 +1,4 @@
 use Rattle.clumps_label.proofs.Trees.{moved_same}
-use borrow.Author.Rules.{rules}
 use lib.ListN.{get_or}
 use mathlib.Core.Path.{sym, ap, ◌∙◌}
 use Rattle.clumps_label.proofs.forest.link.Goals as goal

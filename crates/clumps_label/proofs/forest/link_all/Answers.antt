@@ -1,10 +1,9 @@
-use Prim.Native.Nat.{◌≤◌, ◌-◌, ◌/◌, ℕ}
+use Prim.Native.Nat.{ℕ}
 use Rattle.clumps_label.proofs.Trees.{moved_none, moved_row, row_there}
 use Rattle.clumps_label.specs.Label.{linked}
 use Rattle.clumps_label.specs.Steps.{Moved}
 use Rattle.lists.proofs.Rows.{length_rows, rows_at}
 use Rattle.lists.specs.Lists.{rows}
-use borrow.Author.Rules.{rules}
 use lib.ListN.{length, take}
 use lib.Seq.{take_all}
 use mathlib.Core.List.{List, foldl}

@@ -1,15 +1,9 @@
-use Prim.Native.Nat.{◌≤◌, ◌-◌, ◌/◌, ℕ}
-use Rattle.clumps_label.proofs.Trees.{moved_none, moved_row, row_there}
+use Prim.Native.Nat.{◌≤◌, ◌-◌, ◌/◌}
 use Rattle.clumps_label.specs.Label.{linked}
 use Rattle.clumps_label.specs.Steps.{Moved}
-use Rattle.lists.proofs.Rows.{length_rows, rows_at}
 use Rattle.lists.specs.Lists.{rows}
-use borrow.Author.Rules.{rules}
 use lib.ListN.{length, take}
-use lib.Seq.{take_all}
-use mathlib.Core.List.{List, foldl}
-use mathlib.Core.Path.{◌≡◌, subst}
-use native.Mathlib.Omega.{arith}
+use mathlib.Core.List.{foldl}
 use Rattle.clumps_label.proofs.forest.link_all.Given as goal
 
 abbrev pub invariant-loop-k : goal.invariant-loop-k

@@ -1,8 +1,6 @@
-use Prim.Native.Nat.{ℕ, ◌≤◌, ◌<◌, ◌-◌}
 use Rattle.clumps_label.proofs.Trees.{planting, all_planted}
-use borrow.Author.Rules.{rules}
-use lib.ListN.{length, get_or, length-set}
-use mathlib.Core.Path.{◌≡◌, refl}
+use lib.ListN.{length, length-set}
+use mathlib.Core.Path.{refl}
 use native.Mathlib.Omega.{arith}
 use Rattle.clumps_label.proofs.forest.plant.Goals as goal
 

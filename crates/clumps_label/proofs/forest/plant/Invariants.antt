@@ -1,9 +1,6 @@
 use Prim.Native.Nat.{ℕ, ◌≤◌, ◌<◌, ◌-◌}
-use Rattle.clumps_label.proofs.Trees.{planting, all_planted}
-use borrow.Author.Rules.{rules}
-use lib.ListN.{length, get_or, length-set}
-use mathlib.Core.Path.{◌≡◌, refl}
-use native.Mathlib.Omega.{arith}
+use lib.ListN.{length, get_or}
+use mathlib.Core.Path.{◌≡◌}
 use Rattle.clumps_label.proofs.forest.plant.Given as goal
 
 abbrev pub invariant-loop-i : goal.invariant-loop-i

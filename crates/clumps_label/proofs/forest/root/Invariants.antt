@@ -1,9 +1,6 @@
-use Rattle.clumps_label.proofs.Trees.{climb_start, climb_less, climb_turn}
 use Rattle.clumps_label.specs.Steps.{Climbed}
-use borrow.Author.Rules.{rules}
-use lib.ListN.{get_or, set, length-set}
-use mathlib.Core.Path.{◌≡◌, ap}
-use native.Mathlib.Omega.{arith}
+use lib.ListN.{get_or}
+use mathlib.Core.Path.{◌≡◌}
 use Rattle.clumps_label.proofs.forest.root.Given as goal
 
 abbrev pub invariant-loop-up : goal.invariant-loop-up

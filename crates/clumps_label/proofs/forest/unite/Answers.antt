@@ -1,5 +1,4 @@
 use Rattle.clumps_label.proofs.Trees.{moved_united}
-use borrow.Author.Rules.{rules}
 use lib.ListN.{length-set}
 use mathlib.Core.Path.{◌∙◌}
 use native.Mathlib.Omega.{arith}

@@ -1,5 +1,4 @@
 use Rattle.evaluate.specs.Asked.{angle_ok}
-use borrow.Author.Rules.{rules}
 use Rattle.evaluate.proofs.asked.angle_ok.Goals as goal
 
 pub returns-in-Absent : goal.returns-in-Absent

@@ -1,5 +1,4 @@
 use Rattle.evaluate.specs.Asked.{job_asked}
-use borrow.Author.Rules.{rules}
 use Rattle.evaluate.proofs.asked.asked.Goals as goal
 
 pub returns : goal.returns

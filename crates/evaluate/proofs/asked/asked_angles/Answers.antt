@@ -1,5 +1,4 @@
 use Rattle.evaluate.specs.Asked.{angles_named}
-use borrow.Author.Rules.{rules}
 use borrow.Author.Tests.{lt-ltb, le-ltb}
 use Rattle.evaluate.proofs.asked.asked_angles.Goals as goal
 

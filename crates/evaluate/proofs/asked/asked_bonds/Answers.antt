@@ -1,5 +1,4 @@
 use Rattle.evaluate.specs.Asked.{bond_rows_asked}
-use borrow.Author.Rules.{rules}
 use borrow.Author.Tests.{lt-ltb, le-ltb}
 use Rattle.evaluate.proofs.asked.asked_bonds.Goals as goal
 

@@ -1,6 +1,5 @@
 use Rattle.evaluate.specs.Asked.{in_turn}
 use Rattle.neighbor_asked.specs.Asked.{first_refusal}
-use borrow.Author.Rules.{rules}
 use borrow.Author.Tests.{not-true, not-false}
 use Rattle.std.proofs.Common.{ap, not}
 use Rattle.evaluate.proofs.asked.in_turn.Goals as goal

@@ -1,5 +1,4 @@
 use Rattle.evaluate.specs.Asked.{numbers_ok}
-use borrow.Author.Rules.{rules}
 use Rattle.evaluate.proofs.asked.numbers_ok.Goals as goal
 
 pub returns : goal.returns

@@ -1,5 +1,4 @@
 use Rattle.evaluate.proofs.Settling.{total_refused, total_on, after_made}
-use borrow.Author.Rules.{rules}
 use Rattle.evaluate.proofs.kernel.after_list.Goals as goal
 
 pub returns-in-Refused : goal.returns-in-Refused

@@ -1,6 +1,5 @@
 use Rattle.evaluate.proofs.Settling.{part_of}
 use Rattle.neighbor.proofs.Asking.{part_long}
-use borrow.Author.Rules.{rules}
 use lib.ListN.{length}
 use native.Mathlib.Omega.{arith}
 use Rattle.evaluate.proofs.kernel.combine.Goals as goal

@@ -1,7 +1,6 @@
 use Rattle.evaluate.proofs.Settling.{settled_by_lem}
 use Rattle.evaluate.specs.Calls.{Job, job_of}
 use Rattle.potentials_pair.specs.Species.{tables}
-use borrow.Author.Rules.{rules}
 use Rattle.evaluate.proofs.kernel.settle.Goals as goal
 
 pub returns : goal.returns

@@ -1,6 +1,5 @@
 use Rattle.evaluate.proofs.Folding.{merged_four}
 use Rattle.evaluate.specs.Terms.{contributions}
-use borrow.Author.Rules.{rules}
 use lib.ListN.{length}
 use mathlib.Core.Path.{◌∙◌, refl}
 use Rattle.evaluate.proofs.merging.all.Goals as goal

@@ -1,5 +1,4 @@
 use Rattle.evaluate.proofs.Folding.{merged_at_once}
-use borrow.Author.Rules.{rules}
 use lib.ListN.{length}
 use Rattle.evaluate.proofs.merging.at_once.Goals as goal
 

@@ -1,5 +1,4 @@
 use Rattle.evaluate.proofs.Folding.{merged_by}
-use borrow.Author.Rules.{rules}
 use Rattle.evaluate.proofs.merging.merge.Goals as goal
 
 pub returns : goal.returns

@@ -1,5 +1,4 @@
 use Rattle.evaluate.proofs.Folding.{merged_two}
-use borrow.Author.Rules.{rules}
 use lib.ListN.{length}
 use Rattle.evaluate.proofs.merging.one_by_one.Goals as goal
 

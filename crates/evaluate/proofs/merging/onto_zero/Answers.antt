@@ -1,11 +1,9 @@
-use Prim.Native.Nat.{◌≤◌, ◌-◌}
 use Rattle.evaluate.proofs.Folding.{onto_zero, onto_zeros}
 use Rattle.lists.proofs.Loops.{part_none, part_turn, part_done}
-use Rattle.lists.specs.Loops.{part_at}
 use borrow.Author.Rules.{rules}
 use lib.Ieee.{nan}
-use lib.ListN.{length, length-set}
-use mathlib.Core.Path.{◌≡◌, refl, ◌∙◌}
+use lib.ListN.{length-set}
+use mathlib.Core.Path.{refl, ◌∙◌}
 use native.Mathlib.Omega.{arith}
 use Rattle.evaluate.proofs.merging.onto_zero.Goals as goal
 

@@ -1,12 +1,8 @@
 use Prim.Native.Nat.{◌≤◌, ◌-◌}
-use Rattle.evaluate.proofs.Folding.{onto_zero, onto_zeros}
-use Rattle.lists.proofs.Loops.{part_none, part_turn, part_done}
+use Rattle.evaluate.proofs.Folding.{onto_zero}
 use Rattle.lists.specs.Loops.{part_at}
-use borrow.Author.Rules.{rules}
-use lib.Ieee.{nan}
-use lib.ListN.{length, length-set}
-use mathlib.Core.Path.{◌≡◌, refl, ◌∙◌}
-use native.Mathlib.Omega.{arith}
+use lib.ListN.{length}
+use mathlib.Core.Path.{◌≡◌}
 use Rattle.evaluate.proofs.merging.onto_zero.Given as goal
 
 abbrev pub invariant-loop-k : goal.invariant-loop-k

@@ -1,6 +1,5 @@
 use Rattle.evaluate.proofs.Folding.{merged_one, merged_none}
 use Rattle.evaluate.specs.Terms.{bond_gives}
-use borrow.Author.Rules.{rules}
 use Rattle.evaluate.proofs.merging.with_bonds.Goals as goal
 
 pub returns-in_default : goal.returns-in_default

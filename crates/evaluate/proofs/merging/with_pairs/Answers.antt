@@ -1,6 +1,5 @@
 use Rattle.evaluate.proofs.Folding.{merged_both}
 use Rattle.evaluate.specs.Terms.{lj_gives, coulomb_gives}
-use borrow.Author.Rules.{rules}
 use Rattle.evaluate.proofs.merging.with_pairs.Goals as goal
 
 pub returns-in_default-coulomb : goal.returns-in_default-coulomb

@@ -1,6 +1,5 @@
 use Prim.Native.Nat.{ℕ, ◌/◌}
 use Rattle.exclusions.specs.Table.{looked_up, row_at, same_pair}
-use borrow.Author.Rules.{rules}
 use lib.Dec.{ltb}
 use lib.ListN.{length}
 use mathlib.Core.Bool.{◌&&◌}

@@ -1,6 +1,5 @@
 use Rattle.exclusions.proofs.Search.{all_taken}
 use Rattle.exclusions.specs.Table.{is_table}
-use borrow.Author.Rules.{rules}
 use mathlib.Core.Path.{◌∙◌, ap}
 use Rattle.exclusions.proofs.kernel.is_table.Goals as goal
 

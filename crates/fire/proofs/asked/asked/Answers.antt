@@ -1,5 +1,4 @@
 use Rattle.fire.specs.Calls.{settling_asked}
-use borrow.Author.Rules.{rules}
 use Rattle.fire.proofs.asked.asked.Goals as goal
 
 pub returns : goal.returns

@@ -1,5 +1,4 @@
 use Rattle.fire.specs.Asked.{options_ok}
-use borrow.Author.Rules.{rules}
 use Rattle.fire.proofs.asked.options_ok.Goals as goal
 
 pub returns : goal.returns

@@ -1,5 +1,4 @@
 use Rattle.fire.specs.Asked.{settling_ok}
-use borrow.Author.Rules.{rules}
 use Rattle.fire.proofs.asked.settling_ok.Goals as goal
 
 pub returns : goal.returns

@@ -1,7 +1,6 @@
 use Rattle.fire.proofs.Turns.{begun_by_lem}
 use Rattle.potentials_pair.specs.Species.{tables}
 use Rattle.verlet_step.specs.Calls.{Motion, motion_of}
-use borrow.Author.Rules.{rules}
 use Rattle.fire.proofs.kernel.begin.Goals as goal
 
 pub returns : goal.returns

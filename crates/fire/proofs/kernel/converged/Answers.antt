@@ -1,5 +1,4 @@
 use Rattle.fire.specs.Calls.{converged_of}
-use borrow.Author.Rules.{rules}
 use Rattle.fire.proofs.kernel.converged.Goals as goal
 
 pub returns-in-Refused : goal.returns-in-Refused

@@ -1,4 +1,3 @@
-use borrow.Author.Rules.{rules}
 use Rattle.fire.proofs.kernel.end.Goals as goal
 
 pub returns : goal.returns

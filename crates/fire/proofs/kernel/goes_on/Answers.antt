@@ -1,5 +1,4 @@
 use Rattle.fire.specs.Calls.{goes_on}
-use borrow.Author.Rules.{rules}
 use Rattle.fire.proofs.kernel.goes_on.Goals as goal
 
 pub returns-in-Refused : goal.returns-in-Refused

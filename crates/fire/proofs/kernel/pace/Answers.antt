@@ -1,5 +1,4 @@
 use Rattle.fire.specs.Steps.{paced_after}
-use borrow.Author.Rules.{rules}
 use Rattle.fire.proofs.kernel.pace.Goals as goal
 
 pub returns-in-Refused : goal.returns-in-Refused

@@ -1,15 +1,11 @@
 use Prim.Native.Nat.{◌-◌}
 use Rattle.evaluate.specs.Steps.{settled_in}
-use Rattle.fire.proofs.Turns.{Going, going_first, going_stop, going_out, going_turn, going_less}
+use Rattle.fire.proofs.Turns.{Going}
 use Rattle.fire.specs.Steps.{relaxing_of}
 use Rattle.potentials_pair.specs.Species.{tables}
 use Rattle.verlet_step.specs.Calls.{motion_of}
-use borrow.Author.Rules.{rules}
-use borrow.Author.Tests.{not-true, not-false}
 use lib.ListN.{length}
-use mathlib.Core.Path.{◌≡◌, refl, sym, ◌∙◌}
-use native.Mathlib.Omega.{arith}
-use Rattle.std.proofs.Common.{ap, not}
+use mathlib.Core.Path.{◌≡◌}
 use Rattle.fire.proofs.kernel.relax.Given as goal
 
 abbrev pub invariant-loop-t : goal.invariant-loop-t

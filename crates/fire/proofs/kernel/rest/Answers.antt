@@ -1,5 +1,4 @@
 use Rattle.fire.specs.Steps.{paced_first}
-use borrow.Author.Rules.{rules}
 use Rattle.fire.proofs.kernel.rest.Goals as goal
 
 pub returns-in-Refused : goal.returns-in-Refused

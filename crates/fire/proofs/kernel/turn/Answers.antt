@@ -1,5 +1,4 @@
 use Rattle.fire.proofs.Turns.{turned_by_lem}
-use borrow.Author.Rules.{rules}
 use Rattle.fire.proofs.kernel.turn.Goals as goal
 
 pub pace-requires : goal.pace-requires

@@ -1,5 +1,4 @@
 use Rattle.fire.specs.Steer.{powered_by}
-use borrow.Author.Rules.{rules}
 use Rattle.fire.proofs.steer.add_power.Goals as goal
 
 pub returns : goal.returns

@@ -1,8 +1,5 @@
-use Prim.Native.Nat.{◌≤◌, ◌-◌}
-use Rattle.fire.specs.Steer.{larger_at, largest_force}
-use Rattle.float.specs.Literals.{f0}
+use Rattle.fire.specs.Steer.{largest_force}
 use Rattle.lists.proofs.Loops.{fold_up_to_none, fold_up_to_turn}
-use Rattle.lists.specs.Loops.{fold_up_to}
 use borrow.Author.Rules.{rules}
 use lib.ListN.{length}
 use mathlib.Core.Path.{◌≡◌, sym}

@@ -1,12 +1,9 @@
 use Prim.Native.Nat.{◌≤◌, ◌-◌}
-use Rattle.fire.specs.Steer.{larger_at, largest_force}
+use Rattle.fire.specs.Steer.{larger_at}
 use Rattle.float.specs.Literals.{f0}
-use Rattle.lists.proofs.Loops.{fold_up_to_none, fold_up_to_turn}
 use Rattle.lists.specs.Loops.{fold_up_to}
-use borrow.Author.Rules.{rules}
 use lib.ListN.{length}
-use mathlib.Core.Path.{◌≡◌, sym}
-use native.Mathlib.Omega.{arith}
+use mathlib.Core.Path.{◌≡◌}
 use Rattle.fire.proofs.steer.largest.Given as goal
 
 abbrev pub invariant-loop-k : goal.invariant-loop-k

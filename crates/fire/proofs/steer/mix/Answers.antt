@@ -1,5 +1,4 @@
 use Rattle.fire.specs.Steer.{blended_by}
-use borrow.Author.Rules.{rules}
 use borrow.Author.Tests.{eq-eqb, ne_eqb}
 use Rattle.fire.proofs.steer.mix.Goals as goal
 

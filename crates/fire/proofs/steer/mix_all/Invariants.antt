@@ -1,12 +1,8 @@
 use Prim.Native.Nat.{◌≤◌, ◌-◌}
-use Rattle.fire.specs.Steer.{blend_at, blended_of}
-use Rattle.lists.proofs.Loops.{part_none, part_turn, part_done}
+use Rattle.fire.specs.Steer.{blend_at}
 use Rattle.lists.specs.Loops.{part_at}
-use borrow.Author.Rules.{rules}
-use lib.Ieee.{nan}
-use lib.ListN.{length, length-set}
-use mathlib.Core.Path.{◌≡◌, refl}
-use native.Mathlib.Omega.{arith}
+use lib.ListN.{length}
+use mathlib.Core.Path.{◌≡◌}
 use Rattle.fire.proofs.steer.mix_all.Given as goal
 
 abbrev pub invariant-loop-k : goal.invariant-loop-k

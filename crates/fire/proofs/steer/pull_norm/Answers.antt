@@ -1,5 +1,4 @@
 use Rattle.fire.specs.Steer.{pull_norm}
-use borrow.Author.Rules.{rules}
 use Rattle.fire.proofs.steer.pull_norm.Goals as goal
 
 pub returns : goal.returns

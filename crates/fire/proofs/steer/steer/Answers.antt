@@ -1,5 +1,4 @@
 use Rattle.fire.specs.Steer.{steered_of, steered_by}
-use borrow.Author.Rules.{rules}
 use Rattle.fire.proofs.steer.steer.Goals as goal
 
 pub returns-then-p : goal.returns-then-p

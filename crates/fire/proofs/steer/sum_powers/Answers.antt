@@ -1,7 +1,6 @@
-use Prim.Native.Nat.{◌≤◌, ◌-◌, ◌/◌, min}
-use Rattle.fire.specs.Steer.{powered_at, no_powers, powers_of}
+use Prim.Native.Nat.{◌/◌, min}
+use Rattle.fire.specs.Steer.{powers_of}
 use Rattle.lists.proofs.Loops.{fold_up_to_none, fold_up_to_turn}
-use Rattle.lists.specs.Loops.{fold_up_to}
 use borrow.Author.Rules.{rules}
 use lib.ListN.{length}
 use mathlib.Core.Path.{◌≡◌, sym, ◌∙◌}

@@ -1,11 +1,8 @@
 use Prim.Native.Nat.{◌≤◌, ◌-◌, ◌/◌, min}
-use Rattle.fire.specs.Steer.{powered_at, no_powers, powers_of}
-use Rattle.lists.proofs.Loops.{fold_up_to_none, fold_up_to_turn}
+use Rattle.fire.specs.Steer.{powered_at, no_powers}
 use Rattle.lists.specs.Loops.{fold_up_to}
-use borrow.Author.Rules.{rules}
 use lib.ListN.{length}
-use mathlib.Core.Path.{◌≡◌, sym, ◌∙◌}
-use native.Mathlib.Omega.{arith}
+use mathlib.Core.Path.{◌≡◌}
 use Rattle.fire.proofs.steer.sum_powers.Given as goal
 
 abbrev pub invariant-loop-i : goal.invariant-loop-i

@@ -1,5 +1,5 @@
-use Rattle.std.proofs.Common.{◌+◌, ◌^◌, ltb, leb, arith, rules}
-use Rattle.float.proofs.Certificate.{Parts, parts_small, certified, one_at_most, left_of}
+use Rattle.std.proofs.Common.{◌+◌, ◌^◌, ltb, leb, arith}
+use Rattle.float.proofs.Certificate.{parts_small, certified, one_at_most, left_of}
 use Rattle.float.proofs.quick.confirmed.Goals as goal
 
 pub overflow_mul-ab : goal.overflow_mul-ab

@@ -1,6 +1,6 @@
 use Rattle.float.proofs.Patterns.{not_nan}
 use Rattle.float.specs.Estimate.{newton_of}
-use Rattle.std.proofs.Common.{refl, arith, rules}
+use Rattle.std.proofs.Common.{refl, arith}
 use Rattle.float.proofs.quick.estimate.Goals as goal
 
 pub float_to_bits-a : goal.float_to_bits-a

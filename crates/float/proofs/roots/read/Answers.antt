@@ -1,5 +1,5 @@
 -- `float::roots::read` meets its contract: the table's rule, at m. Assumes nothing.
-use Rattle.std.proofs.Common.{ℕ, ◌*◌, sym, subst, rules}
+use Rattle.std.proofs.Common.{ℕ, ◌*◌, sym, subst}
 use Rattle.float.specs.Steps.{Within}
 use Rattle.float.proofs.roots.read.Goals as goal
 

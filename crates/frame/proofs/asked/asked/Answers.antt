@@ -1,5 +1,4 @@
 use Rattle.frame.proofs.Ranges.{asked_lengths, asked_many, asked_range, asked_order, asked_fine, failed, passed}
-use borrow.Author.Rules.{rules}
 use mathlib.Core.Path.{◌∙◌, sym}
 use Rattle.std.proofs.Common.{ap, not}
 use Rattle.frame.proofs.asked.asked.Goals as goal

@@ -1,5 +1,4 @@
 use Rattle.frame.specs.Distance.{edge_ok}
-use borrow.Author.Rules.{rules}
 use Rattle.frame.proofs.asked.edge_ok.Goals as goal
 
 pub returns : goal.returns

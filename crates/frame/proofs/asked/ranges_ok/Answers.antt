@@ -1,5 +1,4 @@
 use Rattle.frame.proofs.Ranges.{ranges_frame, ranges_rest, failed, passed}
-use borrow.Author.Rules.{rules}
 use Rattle.std.proofs.Common.{ap, not}
 use Rattle.frame.proofs.asked.ranges_ok.Goals as goal
 

@@ -1,5 +1,4 @@
 use Rattle.frame.specs.Distance.{side_ok}
-use borrow.Author.Rules.{rules}
 use Rattle.frame.proofs.asked.side_ok.Goals as goal
 
 pub returns : goal.returns

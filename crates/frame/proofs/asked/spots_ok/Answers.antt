@@ -1,8 +1,4 @@
-use Prim.Native.Nat.{◌-◌, ◌/◌}
-use Rattle.frame.proofs.Ranges.{Passing, passing_begin, passing_turn, passing_fails, passing_end, failed, passed}
-use Rattle.frame.specs.Distance.{spot_of, spot_ok}
-use borrow.Author.Rules.{rules}
-use lib.ListN.{length}
+use Rattle.frame.proofs.Ranges.{passing_begin, passing_turn, passing_fails, passing_end, failed, passed}
 use native.Mathlib.Omega.{arith}
 use Rattle.std.proofs.Common.{ap, not}
 use Rattle.frame.proofs.asked.spots_ok.Goals as goal

@@ -1,5 +1,4 @@
 use Rattle.frame.specs.Build.{shown_of}
-use borrow.Author.Rules.{rules}
 use borrow.Author.Tests.{le-leb, lt-leb}
 use Rattle.frame.proofs.building.finish.Goals as goal
 

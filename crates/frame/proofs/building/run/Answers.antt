@@ -1,5 +1,4 @@
 use Rattle.frame.proofs.Builds.{plan_plain, plan_crowd, plan_grid, plan_gridded, plan_room, after_plain, after_crowded, after_grid}
-use borrow.Author.Rules.{rules}
 use lib.ListN.{length}
 use Rattle.frame.proofs.building.run.Goals as goal
 

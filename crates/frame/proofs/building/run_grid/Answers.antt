@@ -2,7 +2,6 @@ use Prim.Native.Nat.{ℕ, ◌/◌}
 use Rattle.frame.proofs.Builds.{sweep_ready, sweep_ended, grid_count, grid_mem, grid_room, grid_left, shown_is}
 use Rattle.frame.proofs.Tables.{swept}
 use Rattle.frame.specs.Steps.{scene_by}
-use borrow.Author.Rules.{rules}
 use mathlib.Core.Bool.{false}
 use mathlib.Core.Path.{ap}
 use Rattle.frame.proofs.building.run_grid.Goals as goal

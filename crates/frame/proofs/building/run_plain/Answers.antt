@@ -4,7 +4,6 @@ use Rattle.frame.proofs.Builds.{plain_count, plain_mem, plain_room, plain_left, 
 use Rattle.candidates.proofs.Runs.{ended}
 use Rattle.frame.specs.Steps.{looked_by, scene_by}
 use Rattle.lists.specs.Lists.{all_pairs}
-use borrow.Author.Rules.{rules}
 use lib.ListN.{length}
 use mathlib.Core.Bool.{true}
 use mathlib.Core.Path.{ap}

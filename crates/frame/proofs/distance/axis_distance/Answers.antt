@@ -1,5 +1,4 @@
 use Rattle.bins.specs.Edge.{gap, distance}
-use borrow.Author.Rules.{rules}
 use native.Mathlib.Omega.{arith}
 use Rattle.frame.proofs.distance.axis_distance.Goals as goal
 

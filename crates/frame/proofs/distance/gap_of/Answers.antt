@@ -1,5 +1,4 @@
 use Rattle.bins.specs.Edge.{gap}
-use borrow.Author.Rules.{rules}
 use native.Mathlib.Omega.{arith}
 use Rattle.frame.proofs.distance.gap_of.Goals as goal
 

@@ -1,5 +1,4 @@
 use Rattle.frame.specs.Distance.{near_of}
-use borrow.Author.Rules.{rules}
 use Rattle.frame.proofs.distance.is_near.Goals as goal
 
 pub returns : goal.returns

@@ -1,5 +1,4 @@
 use Prim.Native.Nat.{ℕ, ◌*◌}
-use borrow.Author.Rules.{rules}
 use mathlib.Core.Path.{◌∙◌, ap}
 use Rattle.frame.proofs.distance.leg.Goals as goal
 

@@ -1,5 +1,4 @@
 use Rattle.frame.specs.Distance.{squared_of}
-use borrow.Author.Rules.{rules}
 use Rattle.frame.proofs.distance.squared.Goals as goal
 
 pub returns : goal.returns

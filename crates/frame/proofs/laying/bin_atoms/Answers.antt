@@ -1,7 +1,4 @@
-use Prim.Native.Nat.{◌-◌}
-use Rattle.frame.proofs.Plans.{Filling, filling_begin, filling_turn, filling_end}
-use borrow.Author.Rules.{rules}
-use lib.ListN.{length}
+use Rattle.frame.proofs.Plans.{filling_begin, filling_turn, filling_end}
 use native.Mathlib.Omega.{arith}
 use Rattle.frame.proofs.laying.bin_atoms.Goals as goal
 

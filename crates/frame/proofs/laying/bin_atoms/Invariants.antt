@@ -1,8 +1,6 @@
 use Prim.Native.Nat.{◌-◌}
-use Rattle.frame.proofs.Plans.{Filling, filling_begin, filling_turn, filling_end}
-use borrow.Author.Rules.{rules}
+use Rattle.frame.proofs.Plans.{Filling}
 use lib.ListN.{length}
-use native.Mathlib.Omega.{arith}
 use Rattle.frame.proofs.laying.bin_atoms.Given as goal
 
 abbrev pub invariant-loop-i : goal.invariant-loop-i

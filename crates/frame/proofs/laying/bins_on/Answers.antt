@@ -1,5 +1,4 @@
 use Rattle.bins.specs.Edge.{bins_on}
-use borrow.Author.Rules.{rules}
 use native.Mathlib.Nat.{div-le_self}
 use native.Mathlib.Omega.{arith}
 use Rattle.frame.proofs.laying.bins_on.Goals as goal

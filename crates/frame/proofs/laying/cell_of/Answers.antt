@@ -1,5 +1,4 @@
 use Rattle.frame.proofs.Plans.{cell_made}
-use borrow.Author.Rules.{rules}
 use Rattle.frame.proofs.laying.cell_of.Goals as goal
 
 pub returns : goal.returns

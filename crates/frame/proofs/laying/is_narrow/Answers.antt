@@ -1,5 +1,4 @@
 use Rattle.frame.specs.Laying.{narrow}
-use borrow.Author.Rules.{rules}
 use Rattle.frame.proofs.laying.is_narrow.Goals as goal
 
 pub returns : goal.returns

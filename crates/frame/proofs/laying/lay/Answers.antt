@@ -4,7 +4,6 @@ use Rattle.bins.proofs.Tables.{done_within, done_part, laid_starts, laid_items}
 use Rattle.candidates.proofs.Counted.{done_rows}
 use Rattle.frame.proofs.Tables.{filled}
 use Rattle.lists.proofs.Loops.{room_front}
-use borrow.Author.Rules.{rules}
 use lib.ListN.{length}
 use mathlib.Core.Path.{◌∙◌, sym, ap}
 use native.Mathlib.Omega.{arith}

@@ -1,5 +1,4 @@
 use Rattle.frame.proofs.Plans.{place_small, place_is}
-use borrow.Author.Rules.{rules}
 use native.Mathlib.Omega.{arith}
 use Rattle.frame.proofs.laying.place_of.Goals as goal
 

@@ -1,7 +1,6 @@
 use Prim.Native.Nat.{◌*◌}
 use Rattle.frame.proofs.Plans.{plan_zero, plan_narrow, plan_few, plan_crowded, plan_laid, cells_are, grid_is, factor_first, factor_second, factor_third, product_small}
 use Rattle.lists.proofs.Cases.{or_neither}
-use borrow.Author.Rules.{rules}
 use borrow.Author.Tests.{ltb-true, ltb-false}
 use native.Mathlib.Omega.{arith}
 use Rattle.frame.proofs.laying.plan_of.Goals as goal

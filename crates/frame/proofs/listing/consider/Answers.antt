@@ -1,5 +1,4 @@
 use Rattle.frame.proofs.Listings.{pair_rising, pair_falling}
-use borrow.Author.Rules.{rules}
 use Rattle.frame.proofs.listing.consider.Goals as goal
 
 pub is_near-near-requires : goal.is_near-near-requires

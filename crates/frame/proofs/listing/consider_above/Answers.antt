@@ -1,10 +1,5 @@
-use Prim.Native.Nat.{◌+◌, ◌-◌, ◌≤◌}
-use Rattle.bins.proofs.Runs.{Run, run_begin, run_above, run_above_end, ready_above}
-use Rattle.frame.specs.Steps.{scene_by}
-use Rattle.lists.specs.Lists.{with_each, numbers}
-use borrow.Author.Rules.{rules}
-use lib.ListN.{length}
-use mathlib.Core.Path.{◌≡◌, refl, ◌∙◌}
+use Rattle.bins.proofs.Runs.{run_begin, run_above, run_above_end, ready_above}
+use mathlib.Core.Path.{refl, ◌∙◌}
 use native.Mathlib.Omega.{arith}
 use Rattle.frame.proofs.listing.consider_above.Goals as goal
 

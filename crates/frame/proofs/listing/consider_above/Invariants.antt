@@ -1,11 +1,9 @@
 use Prim.Native.Nat.{◌+◌, ◌-◌, ◌≤◌}
-use Rattle.bins.proofs.Runs.{Run, run_begin, run_above, run_above_end, ready_above}
+use Rattle.bins.proofs.Runs.{Run}
 use Rattle.frame.specs.Steps.{scene_by}
 use Rattle.lists.specs.Lists.{with_each, numbers}
-use borrow.Author.Rules.{rules}
 use lib.ListN.{length}
-use mathlib.Core.Path.{◌≡◌, refl, ◌∙◌}
-use native.Mathlib.Omega.{arith}
+use mathlib.Core.Path.{◌≡◌}
 use Rattle.frame.proofs.listing.consider_above.Given as goal
 
 abbrev pub invariant-loop-j : goal.invariant-loop-j

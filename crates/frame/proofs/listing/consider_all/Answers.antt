@@ -1,9 +1,5 @@
-use Prim.Native.Nat.{◌-◌, ◌≤◌}
-use Rattle.bins.proofs.Runs.{Run, run_all_pairs, run_numbers, run_numbers_end, ready_numbers}
-use Rattle.frame.specs.Steps.{scene_by}
-use Rattle.lists.specs.Lists.{all_pairs, inside, numbers}
-use lib.ListN.{length}
-use mathlib.Core.Path.{◌≡◌, refl, ◌∙◌}
+use Rattle.bins.proofs.Runs.{run_all_pairs, run_numbers, run_numbers_end, ready_numbers}
+use mathlib.Core.Path.{refl, ◌∙◌}
 use native.Mathlib.Omega.{arith}
 use Rattle.frame.proofs.listing.consider_all.Goals as goal
 

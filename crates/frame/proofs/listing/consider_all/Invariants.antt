@@ -1,10 +1,9 @@
 use Prim.Native.Nat.{◌-◌, ◌≤◌}
-use Rattle.bins.proofs.Runs.{Run, run_all_pairs, run_numbers, run_numbers_end, ready_numbers}
+use Rattle.bins.proofs.Runs.{Run}
 use Rattle.frame.specs.Steps.{scene_by}
 use Rattle.lists.specs.Lists.{all_pairs, inside, numbers}
 use lib.ListN.{length}
-use mathlib.Core.Path.{◌≡◌, refl, ◌∙◌}
-use native.Mathlib.Omega.{arith}
+use mathlib.Core.Path.{◌≡◌}
 use Rattle.frame.proofs.listing.consider_all.Given as goal
 
 abbrev pub invariant-loop-i : goal.invariant-loop-i

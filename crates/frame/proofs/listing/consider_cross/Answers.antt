@@ -1,10 +1,5 @@
-use Prim.Native.Nat.{◌-◌, ◌≤◌}
-use Rattle.bins.proofs.Runs.{Run, run_begin, run_across, run_across_end, ready_across}
-use Rattle.frame.specs.Steps.{scene_by}
-use Rattle.lists.specs.Lists.{across}
-use borrow.Author.Rules.{rules}
-use lib.ListN.{length, drop}
-use mathlib.Core.Path.{◌≡◌, refl, ◌∙◌}
+use Rattle.bins.proofs.Runs.{run_begin, run_across, run_across_end, ready_across}
+use mathlib.Core.Path.{refl, ◌∙◌}
 use native.Mathlib.Omega.{arith}
 use Rattle.frame.proofs.listing.consider_cross.Goals as goal
 

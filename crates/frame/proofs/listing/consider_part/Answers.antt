@@ -1,11 +1,6 @@
-use Prim.Native.Nat.{◌-◌, ◌≤◌}
-use Rattle.bins.proofs.Runs.{Run, run_begin, run_with, run_with_end, ready_with}
-use Rattle.frame.specs.Steps.{scene_by}
+use Rattle.bins.proofs.Runs.{run_begin, run_with, run_with_end, ready_with}
 use Rattle.lists.proofs.Exactness.{length_with}
-use Rattle.lists.specs.Lists.{with_each}
-use borrow.Author.Rules.{rules}
-use lib.ListN.{length, drop}
-use mathlib.Core.Path.{◌≡◌, refl, ◌∙◌}
+use mathlib.Core.Path.{refl, ◌∙◌}
 use native.Mathlib.Omega.{arith}
 use Rattle.frame.proofs.listing.consider_part.Goals as goal
 

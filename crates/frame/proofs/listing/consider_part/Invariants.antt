@@ -1,12 +1,9 @@
 use Prim.Native.Nat.{◌-◌, ◌≤◌}
-use Rattle.bins.proofs.Runs.{Run, run_begin, run_with, run_with_end, ready_with}
+use Rattle.bins.proofs.Runs.{Run}
 use Rattle.frame.specs.Steps.{scene_by}
-use Rattle.lists.proofs.Exactness.{length_with}
 use Rattle.lists.specs.Lists.{with_each}
-use borrow.Author.Rules.{rules}
 use lib.ListN.{length, drop}
-use mathlib.Core.Path.{◌≡◌, refl, ◌∙◌}
-use native.Mathlib.Omega.{arith}
+use mathlib.Core.Path.{◌≡◌}
 use Rattle.frame.proofs.listing.consider_part.Given as goal
 
 abbrev pub invariant-loop-k : goal.invariant-loop-k

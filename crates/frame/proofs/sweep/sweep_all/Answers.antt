@@ -1,11 +1,6 @@
-use Prim.Native.Nat.{◌-◌, ◌≤◌}
-use Rattle.bins.proofs.Runs.{Run}
-use Rattle.bins.specs.Traversal.{pairs_of}
-use Rattle.bins.proofs.Sweeps.{cells_begin, cells_from, cell_turn, cell_ready, cells_end, cell_in}
-use Rattle.frame.specs.Steps.{atoms_by, scene_by}
-use borrow.Author.Rules.{rules}
-use lib.ListN.{length}
-use mathlib.Core.Path.{◌≡◌, refl, ◌∙◌}
+use Rattle.bins.proofs.Sweeps.{cells_begin, cell_turn, cell_ready, cells_end, cell_in}
+use Rattle.frame.specs.Steps.{atoms_by}
+use mathlib.Core.Path.{refl, ◌∙◌}
 use native.Mathlib.Omega.{arith}
 use Rattle.frame.proofs.sweep.sweep_all.Goals as goal
 

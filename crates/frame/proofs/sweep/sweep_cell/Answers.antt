@@ -1,10 +1,8 @@
-use Prim.Native.Nat.{◌-◌, ◌≤◌}
-use Rattle.bins.proofs.Runs.{Run, run_each, run_each_end, ready_each}
-use Rattle.bins.specs.Traversal.{visit, cell_pairs}
-use Rattle.bins.proofs.Sweeps.{rows_begin, rows_from}
-use Rattle.frame.specs.Steps.{atoms_by, scene_by}
-use lib.ListN.{length}
-use mathlib.Core.Path.{◌≡◌, refl, ◌∙◌}
+use Rattle.bins.proofs.Runs.{run_each, run_each_end, ready_each}
+use Rattle.bins.specs.Traversal.{visit}
+use Rattle.bins.proofs.Sweeps.{rows_begin}
+use Rattle.frame.specs.Steps.{atoms_by}
+use mathlib.Core.Path.{refl, ◌∙◌}
 use native.Mathlib.Omega.{arith}
 use Rattle.frame.proofs.sweep.sweep_cell.Goals as goal
 

@@ -1,5 +1,4 @@
 use Rattle.neighbor.proofs.Asking.{asked_refused, asked_on}
-use Rattle.std.proofs.Common.{rules}
 use Rattle.neighbor.proofs.asked.asked.Goals as goal
 
 pub returns-in-Refused : goal.returns-in-Refused

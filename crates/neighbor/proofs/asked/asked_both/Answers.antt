@@ -1,5 +1,5 @@
 use Rattle.neighbor_asked.proofs.Turns.{then_refused, then_on}
-use Rattle.std.proofs.Common.{sym, ◌∙◌, rules}
+use Rattle.std.proofs.Common.{sym, ◌∙◌}
 use Rattle.neighbor.proofs.asked.asked_both.Goals as goal
 
 pub returns-in-Refused : goal.returns-in-Refused

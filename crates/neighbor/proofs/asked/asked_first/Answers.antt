@@ -1,5 +1,4 @@
 use Rattle.neighbor.specs.Update.{first_of}
-use Rattle.std.proofs.Common.{rules}
 use Rattle.neighbor.proofs.asked.asked_first.Goals as goal
 
 pub returns : goal.returns

@@ -1,5 +1,4 @@
 use Rattle.neighbor.proofs.Asking.{kept_range, kept_bad, kept_fine}
-use Rattle.std.proofs.Common.{rules}
 use Rattle.std.proofs.Common.{ap, not}
 use Rattle.neighbor.proofs.asked.asked_kept.Goals as goal
 

@@ -1,5 +1,4 @@
 use Rattle.neighbor_asked.specs.Asked.{first_refusal}
-use Rattle.std.proofs.Common.{rules}
 use Rattle.neighbor.proofs.asked.asked_last.Goals as goal
 
 pub returns-then-may : goal.returns-then-may

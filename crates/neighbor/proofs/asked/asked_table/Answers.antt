@@ -1,5 +1,4 @@
 use Rattle.neighbor.proofs.Asking.{table_fine, table_bad}
-use Rattle.std.proofs.Common.{rules}
 use Rattle.neighbor.proofs.asked.asked_table.Goals as goal
 
 pub returns-then-is_table : goal.returns-then-is_table

@@ -1,5 +1,4 @@
 use Rattle.neighbor.specs.Rebuild.{claims_more}
-use Rattle.std.proofs.Common.{rules}
 use Rattle.neighbor.proofs.asked.claims_more.Goals as goal
 
 pub returns : goal.returns

@@ -1,5 +1,4 @@
 use Rattle.neighbor.proofs.Asking.{first_all, part_long}
-use Rattle.std.proofs.Common.{rules}
 use Rattle.neighbor.proofs.asked.first_within.Goals as goal
 
 pub returns-then-refs-m : goal.returns-then-refs-m

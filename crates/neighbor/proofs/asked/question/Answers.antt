@@ -1,5 +1,4 @@
 use Rattle.neighbor.specs.Rebuild.{question_of}
-use Rattle.std.proofs.Common.{rules}
 use Rattle.neighbor.proofs.asked.question.Goals as goal
 
 pub returns : goal.returns

@@ -1,5 +1,4 @@
 use Rattle.neighbor.proofs.Asking.{ranges_out, ranges_in}
-use Rattle.std.proofs.Common.{rules}
 use Rattle.std.proofs.Common.{ap, not}
 use Rattle.neighbor.proofs.asked.ranges_ok.Goals as goal
 

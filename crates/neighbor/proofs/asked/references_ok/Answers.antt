@@ -1,6 +1,5 @@
 use Rattle.neighbor.proofs.Asking.{references_same}
 use Rattle.neighbor.specs.Rebuild.{references_ok}
-use Rattle.std.proofs.Common.{rules}
 use borrow.Author.Tests.{not-true}
 use Rattle.std.proofs.Common.{ap, not}
 use Rattle.neighbor.proofs.asked.references_ok.Goals as goal

@@ -1,5 +1,4 @@
 use Rattle.neighbor.specs.Rebuild.{same_box}
-use Rattle.std.proofs.Common.{rules}
 use Rattle.neighbor.proofs.boxes.is_lattice.Goals as goal
 
 pub returns-in-Absent : goal.returns-in-Absent

@@ -1,4 +1,3 @@
-use Rattle.std.proofs.Common.{rules}
 use Rattle.neighbor.proofs.boxes.is_same.Goals as goal
 
 pub returns-in-Absent : goal.returns-in-Absent

@@ -1,5 +1,4 @@
 use Rattle.neighbor.specs.Rebuild.{same_lattice}
-use Rattle.std.proofs.Common.{rules}
 use Rattle.neighbor.proofs.boxes.same_lattice.Goals as goal
 
 pub returns : goal.returns

@@ -1,5 +1,4 @@
 use Rattle.neighbor.specs.Rebuild.{same_number}
-use Rattle.std.proofs.Common.{rules}
 use Rattle.neighbor.proofs.boxes.same_number.Goals as goal
 
 pub returns : goal.returns

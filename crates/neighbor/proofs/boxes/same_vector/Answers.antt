@@ -1,5 +1,4 @@
 use Rattle.neighbor.specs.Rebuild.{same_vector}
-use Rattle.std.proofs.Common.{rules}
 use Rattle.neighbor.proofs.boxes.same_vector.Goals as goal
 
 pub returns : goal.returns

@@ -1,6 +1,5 @@
 use Rattle.neighbor.proofs.Updates.{rebuilt_few, rebuilt_found, rebuilt_full, rebuilt_crowded, rebuilt_unfit}
 use Rattle.neighbor.specs.Update.{Given, given}
-use Rattle.std.proofs.Common.{rules}
 use Rattle.neighbor.proofs.kernel.build.Goals as goal
 
 pub returns-then-xs-lt2 : goal.returns-then-xs-lt2

@@ -1,5 +1,4 @@
 use Rattle.neighbor.specs.Update.{keeps_of}
-use Rattle.std.proofs.Common.{rules}
 use Rattle.neighbor.proofs.kernel.is_kept.Goals as goal
 
 pub returns-in-Unasked : goal.returns-in-Unasked

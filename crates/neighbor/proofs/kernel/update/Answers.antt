@@ -1,6 +1,5 @@
 use Rattle.neighbor.proofs.Updates.{update_unfit, update_room, update_few, update_kept, update_built}
 use Rattle.neighbor.specs.Update.{Given, given}
-use Rattle.std.proofs.Common.{rules}
 use Rattle.neighbor.proofs.kernel.update.Goals as goal
 
 pub returns-then-is_unfit : goal.returns-then-is_unfit

@@ -1,7 +1,4 @@
-use Rattle.std.proofs.Common.{◌-◌, ◌*◌, rules}
-use Rattle.float.specs.Arith.{at, ◌⊖◌}
-use Rattle.neighbor.proofs.Asking.{Looking, looking_begin, looking_turn, looking_end}
-use Rattle.ranges.specs.Ranged.{within}
+use Rattle.neighbor.proofs.Asking.{looking_begin, looking_turn, looking_end}
 use Rattle.neighbor.proofs.rebuild.all_near.Goals as goal
 
 pub loop-k-init : goal.loop-k-init

@@ -1,6 +1,6 @@
-use Rattle.std.proofs.Common.{◌-◌, ◌*◌, rules}
+use Rattle.std.proofs.Common.{◌-◌, ◌*◌}
 use Rattle.float.specs.Arith.{at, ◌⊖◌}
-use Rattle.neighbor.proofs.Asking.{Looking, looking_begin, looking_turn, looking_end}
+use Rattle.neighbor.proofs.Asking.{Looking}
 use Rattle.ranges.specs.Ranged.{within}
 use Rattle.neighbor.proofs.rebuild.all_near.Given as goal
 

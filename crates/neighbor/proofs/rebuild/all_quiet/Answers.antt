@@ -1,7 +1,4 @@
-use Rattle.std.proofs.Common.{◌-◌, length, rules}
-use Rattle.float.specs.Arith.{at}
-use Rattle.neighbor_asked.specs.Strays.{quiet_at}
-use Rattle.neighbor.proofs.Asking.{Looking, looking_begin, looking_turn, looking_end, all_from_first}
+use Rattle.neighbor.proofs.Asking.{looking_begin, looking_turn, looking_end, all_from_first}
 use Rattle.neighbor.proofs.rebuild.all_quiet.Goals as goal
 
 pub loop-k-init : goal.loop-k-init

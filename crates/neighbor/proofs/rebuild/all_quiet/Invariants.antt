@@ -1,7 +1,7 @@
-use Rattle.std.proofs.Common.{◌-◌, length, rules}
+use Rattle.std.proofs.Common.{◌-◌, length}
 use Rattle.float.specs.Arith.{at}
 use Rattle.neighbor_asked.specs.Strays.{quiet_at}
-use Rattle.neighbor.proofs.Asking.{Looking, looking_begin, looking_turn, looking_end, all_from_first}
+use Rattle.neighbor.proofs.Asking.{Looking}
 use Rattle.neighbor.proofs.rebuild.all_quiet.Given as goal
 
 abbrev pub invariant-loop-k : goal.invariant-loop-k

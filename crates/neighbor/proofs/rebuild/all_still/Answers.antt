@@ -1,7 +1,4 @@
-use Rattle.std.proofs.Common.{◌-◌, rules}
-use Rattle.cell.specs.Vec.{position_at}
-use Rattle.neighbor.proofs.Asking.{Looking, looking_begin, looking_turn, looking_end}
-use Rattle.neighbor_asked.specs.Strays.{still}
+use Rattle.neighbor.proofs.Asking.{looking_begin, looking_turn, looking_end}
 use Rattle.neighbor.proofs.rebuild.all_still.Goals as goal
 
 pub loop-i-init : goal.loop-i-init

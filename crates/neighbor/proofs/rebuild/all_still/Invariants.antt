@@ -1,6 +1,6 @@
-use Rattle.std.proofs.Common.{◌-◌, rules}
+use Rattle.std.proofs.Common.{◌-◌}
 use Rattle.cell.specs.Vec.{position_at}
-use Rattle.neighbor.proofs.Asking.{Looking, looking_begin, looking_turn, looking_end}
+use Rattle.neighbor.proofs.Asking.{Looking}
 use Rattle.neighbor_asked.specs.Strays.{still}
 use Rattle.neighbor.proofs.rebuild.all_still.Given as goal
 

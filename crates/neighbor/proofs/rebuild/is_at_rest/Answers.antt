@@ -1,4 +1,4 @@
-use Rattle.std.proofs.Common.{◌/◌, length, sym, ◌∙◌, arith, length-take, rules}
+use Rattle.std.proofs.Common.{◌/◌, length, sym, ◌∙◌, arith, length-take}
 use Rattle.neighbor.proofs.Asking.{part_long}
 use Rattle.neighbor.proofs.Unmoved.{not_at_rest, at_rest_says, plain_room}
 use borrow.Author.Tests.{not-false}

@@ -1,5 +1,4 @@
 use Rattle.neighbor.specs.Steps.{plain_of}
-use Rattle.std.proofs.Common.{rules}
 use Rattle.neighbor.proofs.rebuild.is_plain.Goals as goal
 
 pub returns : goal.returns

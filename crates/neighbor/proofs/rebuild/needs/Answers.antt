@@ -1,5 +1,4 @@
 use Rattle.neighbor.proofs.Asking.{needs_other, needs_none, needs_moved}
-use Rattle.std.proofs.Common.{rules}
 use Rattle.std.proofs.Common.{ap, not}
 use Rattle.neighbor.proofs.rebuild.needs.Goals as goal
 

@@ -1,5 +1,4 @@
 use Rattle.neighbor.proofs.Asking.{outdated_box, outdated_moved}
-use Rattle.std.proofs.Common.{rules}
 use Rattle.std.proofs.Common.{ap, not}
 use Rattle.neighbor.proofs.rebuild.outdated.Goals as goal
 

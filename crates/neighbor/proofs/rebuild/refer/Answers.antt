@@ -1,7 +1,6 @@
-use Rattle.std.proofs.Common.{◌≡◌, ◌-◌, ◌≤◌, length, refl, arith, length-set, rules}
+use Rattle.std.proofs.Common.{◌≡◌, length, refl, arith, length-set}
 use Rattle.float.specs.Arith.{at}
 use Rattle.lists.proofs.Loops.{part_turn, part_none}
-use Rattle.lists.specs.Loops.{part_at}
 use lib.Ieee.{nan}
 use Rattle.neighbor.proofs.rebuild.refer.Goals as goal
 

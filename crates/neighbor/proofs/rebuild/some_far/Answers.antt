@@ -1,5 +1,4 @@
 use Rattle.neighbor.proofs.Asking.{from_first}
-use Rattle.std.proofs.Common.{rules}
 use Rattle.neighbor.proofs.rebuild.some_far.Goals as goal
 
 pub returns-then-l : goal.returns-then-l

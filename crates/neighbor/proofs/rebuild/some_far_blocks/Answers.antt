@@ -1,7 +1,5 @@
-use Rattle.std.proofs.Common.{◌-◌, arith, rules}
-use Rattle.cell.specs.Vec.{position_at}
-use Rattle.neighbor_asked.specs.Strays.{strayed}
-use Rattle.neighbor.proofs.Asking.{Searching, searching_begin, searching_block, searching_block_finds, searching_end, from_first}
+use Rattle.std.proofs.Common.{arith}
+use Rattle.neighbor.proofs.Asking.{searching_begin, searching_block, searching_block_finds, searching_end, from_first}
 use Rattle.neighbor.proofs.rebuild.some_far_blocks.Goals as goal
 
 pub loop-i-init : goal.loop-i-init

@@ -1,7 +1,7 @@
-use Rattle.std.proofs.Common.{◌-◌, arith, rules}
+use Rattle.std.proofs.Common.{◌-◌}
 use Rattle.cell.specs.Vec.{position_at}
 use Rattle.neighbor_asked.specs.Strays.{strayed}
-use Rattle.neighbor.proofs.Asking.{Searching, searching_begin, searching_block, searching_block_finds, searching_end, from_first}
+use Rattle.neighbor.proofs.Asking.{Searching}
 use Rattle.neighbor.proofs.rebuild.some_far_blocks.Given as goal
 
 abbrev pub invariant-loop-i : goal.invariant-loop-i

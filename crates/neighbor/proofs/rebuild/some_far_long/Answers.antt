@@ -1,7 +1,5 @@
-use Rattle.std.proofs.Common.{◌-◌, sym, ◌∙◌, rules}
-use Rattle.cell.specs.Vec.{position_at}
-use Rattle.neighbor.proofs.Asking.{Searching, searching_begin, searching_turn, searching_finds, searching_end}
-use Rattle.neighbor_asked.specs.Strays.{strayed}
+use Rattle.std.proofs.Common.{sym, ◌∙◌}
+use Rattle.neighbor.proofs.Asking.{searching_begin, searching_turn, searching_finds, searching_end}
 use Rattle.neighbor.proofs.rebuild.some_far_long.Goals as goal
 
 pub loop-i-init : goal.loop-i-init

@@ -1,6 +1,6 @@
-use Rattle.std.proofs.Common.{◌-◌, sym, ◌∙◌, rules}
+use Rattle.std.proofs.Common.{◌-◌}
 use Rattle.cell.specs.Vec.{position_at}
-use Rattle.neighbor.proofs.Asking.{Searching, searching_begin, searching_turn, searching_finds, searching_end}
+use Rattle.neighbor.proofs.Asking.{Searching}
 use Rattle.neighbor_asked.specs.Strays.{strayed}
 use Rattle.neighbor.proofs.rebuild.some_far_long.Given as goal
 

@@ -1,5 +1,4 @@
 use Rattle.neighbor_asked.proofs.Displaced.{none_far}
-use Rattle.std.proofs.Common.{rules}
 use Rattle.neighbor.proofs.rebuild.some_far_near.Goals as goal
 
 pub returns-then-all_near : goal.returns-then-all_near

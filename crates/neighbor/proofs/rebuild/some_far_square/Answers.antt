@@ -1,6 +1,5 @@
 use Rattle.cell.specs.Vec.{position_at}
 use Rattle.neighbor_asked.proofs.Displaced.{none_strays}
-use Rattle.std.proofs.Common.{rules}
 use Rattle.neighbor.proofs.rebuild.some_far_square.Goals as goal
 
 pub returns-then-all_still : goal.returns-then-all_still

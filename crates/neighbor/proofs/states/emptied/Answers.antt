@@ -1,5 +1,4 @@
 use Rattle.neighbor.specs.State.{emptied_of}
-use Rattle.std.proofs.Common.{rules}
 use Rattle.neighbor.proofs.states.emptied.Goals as goal
 
 pub returns : goal.returns

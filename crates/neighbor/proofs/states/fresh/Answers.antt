@@ -1,5 +1,4 @@
 use Rattle.neighbor.specs.State.{fresh_of}
-use Rattle.std.proofs.Common.{rules}
 use Rattle.neighbor.proofs.states.fresh.Goals as goal
 
 pub returns : goal.returns

@@ -1,4 +1,3 @@
-use Rattle.std.proofs.Common.{rules}
 use Rattle.neighbor.proofs.states.full.Goals as goal
 
 pub returns : goal.returns

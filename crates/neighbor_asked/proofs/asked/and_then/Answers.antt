@@ -1,5 +1,4 @@
 use Rattle.neighbor_asked.proofs.Turns.{then_refused, then_on}
-use borrow.Author.Rules.{rules}
 use Rattle.neighbor_asked.proofs.asked.and_then.Goals as goal
 
 pub returns-in-Answered : goal.returns-in-Answered

@@ -1,4 +1,3 @@
-use borrow.Author.Rules.{rules}
 use Rattle.neighbor_asked.proofs.asked.names_in_turn.Goals as goal
 
 pub returns : goal.returns

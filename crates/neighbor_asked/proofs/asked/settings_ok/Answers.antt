@@ -1,5 +1,4 @@
 use Rattle.neighbor_asked.specs.Asked.{settings_ok}
-use borrow.Author.Rules.{rules}
 use Rattle.neighbor_asked.proofs.asked.settings_ok.Goals as goal
 
 pub returns : goal.returns

@@ -1,5 +1,4 @@
 use Rattle.neighbor_asked.proofs.Displaced.{enough_says}
-use borrow.Author.Rules.{rules}
 use Rattle.neighbor_asked.proofs.strays.is_enough.Goals as goal
 
 pub returns : goal.returns

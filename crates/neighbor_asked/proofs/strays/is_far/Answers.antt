@@ -1,5 +1,4 @@
 use Rattle.neighbor_asked.proofs.Displaced.{strays_in_box}
-use borrow.Author.Rules.{rules}
 use Rattle.neighbor_asked.proofs.strays.is_far.Goals as goal
 
 pub returns-then-in_box : goal.returns-then-in_box

@@ -1,5 +1,4 @@
 use Rattle.neighbor_asked.specs.Strays.{strayed}
-use borrow.Author.Rules.{rules}
 use Rattle.neighbor_asked.proofs.strays.is_far_long.Goals as goal
 
 pub returns : goal.returns

@@ -1,4 +1,3 @@
-use borrow.Author.Rules.{rules}
 use Rattle.neighbor_asked.proofs.strays.is_quiet.Goals as goal
 
 pub returns : goal.returns

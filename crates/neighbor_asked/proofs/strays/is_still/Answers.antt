@@ -1,5 +1,4 @@
 use Rattle.neighbor_asked.proofs.Displaced.{still_in_box}
-use borrow.Author.Rules.{rules}
 use Rattle.neighbor_asked.proofs.strays.is_still.Goals as goal
 
 pub returns : goal.returns

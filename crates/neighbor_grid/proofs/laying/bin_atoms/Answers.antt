@@ -1,7 +1,4 @@
-use Prim.Native.Nat.{◌-◌}
-use Rattle.neighbor_grid.proofs.Loops.{Filling, filling_begin, filling_turn, filling_end}
-use borrow.Author.Rules.{rules}
-use lib.ListN.{length}
+use Rattle.neighbor_grid.proofs.Loops.{filling_begin, filling_turn, filling_end}
 use native.Mathlib.Omega.{arith}
 use Rattle.neighbor_grid.proofs.laying.bin_atoms.Goals as goal
 

@@ -1,8 +1,6 @@
 use Prim.Native.Nat.{◌-◌}
-use Rattle.neighbor_grid.proofs.Loops.{Filling, filling_begin, filling_turn, filling_end}
-use borrow.Author.Rules.{rules}
+use Rattle.neighbor_grid.proofs.Loops.{Filling}
 use lib.ListN.{length}
-use native.Mathlib.Omega.{arith}
 use Rattle.neighbor_grid.proofs.laying.bin_atoms.Given as goal
 
 abbrev pub invariant-loop-i : goal.invariant-loop-i

@@ -1,5 +1,4 @@
 use Rattle.neighbor_grid.specs.Grid.{bin_of}
-use borrow.Author.Rules.{rules}
 use Rattle.neighbor_grid.proofs.laying.bin_of.Goals as goal
 
 pub returns : goal.returns

@@ -3,7 +3,6 @@ use Rattle.neighbor_grid.proofs.Sizes.{filled}
 use Rattle.lists.proofs.Loops.{room_front}
 use Rattle.bins.proofs.Tables.{done_within, done_part, laid_starts, laid_items}
 use Rattle.candidates.proofs.Counted.{done_rows}
-use borrow.Author.Rules.{rules}
 use lib.ListN.{length}
 use mathlib.Core.Path.{refl, ◌∙◌, sym}
 use native.Mathlib.Omega.{arith}

@@ -1,5 +1,4 @@
 use Rattle.neighbor_grid.proofs.Sizes.{place_small}
-use borrow.Author.Rules.{rules}
 use native.Mathlib.Omega.{arith}
 use Rattle.neighbor_grid.proofs.laying.place_of.Goals as goal
 

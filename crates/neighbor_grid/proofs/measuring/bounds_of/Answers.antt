@@ -1,6 +1,4 @@
-use Prim.Native.Nat.{◌-◌}
-use Rattle.neighbor_grid.proofs.Loops.{Bounded, bounded_begin, bounded_turn, bounded_low, bounded_high}
-use borrow.Author.Rules.{rules}
+use Rattle.neighbor_grid.proofs.Loops.{bounded_begin, bounded_turn, bounded_low, bounded_high}
 use lib.Ieee.{neg}
 use Rattle.neighbor_grid.proofs.measuring.bounds_of.Goals as goal
 

@@ -1,5 +1,4 @@
 use Rattle.neighbor_grid.specs.Grid.{boxed_of}
-use borrow.Author.Rules.{rules}
 use Rattle.neighbor_grid.proofs.measuring.boxed.Goals as goal
 
 pub returns : goal.returns

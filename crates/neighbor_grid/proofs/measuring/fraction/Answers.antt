@@ -1,5 +1,4 @@
 use Rattle.neighbor_grid.specs.Steps.{fraction_by}
-use borrow.Author.Rules.{rules}
 use Rattle.neighbor_grid.proofs.measuring.fraction.Goals as goal
 
 pub returns-in-Folded : goal.returns-in-Folded

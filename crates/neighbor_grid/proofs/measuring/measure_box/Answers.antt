@@ -1,6 +1,5 @@
 use Rattle.neighbor_grid.specs.Grid.{extent_of}
 use Rattle.neighbor_grid.specs.Steps.{measure_of, ruler_of}
-use borrow.Author.Rules.{rules}
 use Rattle.neighbor_grid.proofs.measuring.measure_box.Goals as goal
 
 pub returns : goal.returns

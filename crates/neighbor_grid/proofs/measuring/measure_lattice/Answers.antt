@@ -1,5 +1,4 @@
 use Rattle.neighbor_grid.specs.Steps.{measure_of, ruler_of}
-use borrow.Author.Rules.{rules}
 use Rattle.neighbor_grid.proofs.measuring.measure_lattice.Goals as goal
 
 pub returns : goal.returns

@@ -1,4 +1,3 @@
-use borrow.Author.Rules.{rules}
 use Rattle.neighbor_grid.proofs.measuring.measure_of.Goals as goal
 
 pub returns-in-Absent : goal.returns-in-Absent

@@ -1,4 +1,3 @@
-use borrow.Author.Rules.{rules}
 use Rattle.neighbor_grid.proofs.measuring.turned.Goals as goal
 
 pub returns : goal.returns

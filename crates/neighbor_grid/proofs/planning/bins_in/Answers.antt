@@ -1,5 +1,4 @@
 use Rattle.neighbor_grid.specs.Grid.{bins_in}
-use borrow.Author.Rules.{rules}
 use lib.Ieee.Casts.{to_signed_in}
 use mir.Facts.{to_z-of_z}
 use Rattle.std.proofs.Common.{w64}

@@ -1,5 +1,4 @@
 use Rattle.neighbor_grid.specs.Grid.{narrow}
-use borrow.Author.Rules.{rules}
 use Rattle.neighbor_grid.proofs.planning.is_narrow.Goals as goal
 
 pub returns : goal.returns

@@ -1,6 +1,5 @@
 use Rattle.neighbor_grid.proofs.Plans.{plan_by}
 use Rattle.neighbor_grid.specs.Steps.{plan_of}
-use borrow.Author.Rules.{rules}
 use Rattle.neighbor_grid.proofs.planning.plan_of.Goals as goal
 
 pub returns-then-r-m : goal.returns-then-r-m

@@ -1,5 +1,4 @@
 use Rattle.neighbor_grid.proofs.Plans.{plan_narrow, plan_long, plan_few, plan_crowded, plan_laid, over_all, none_long, two_fit, three_fit}
-use borrow.Author.Rules.{rules}
 use borrow.Author.Tests.{ltb-true, ltb-false}
 use native.Mathlib.Omega.{arith}
 use Rattle.neighbor_grid.proofs.planning.plan_sizes.Goals as goal

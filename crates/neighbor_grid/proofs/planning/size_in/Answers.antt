@@ -1,6 +1,5 @@
 use Rattle.neighbor_grid.proofs.Sizes.{bins_back}
 use Rattle.neighbor_grid.specs.Grid.{size_of}
-use borrow.Author.Rules.{rules}
 use mathlib.Core.Path.{ap, ◌∙◌}
 use Rattle.neighbor_grid.proofs.planning.size_in.Goals as goal
 

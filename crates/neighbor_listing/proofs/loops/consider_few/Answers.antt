@@ -1,5 +1,4 @@
 use Rattle.neighbor_listing.proofs.Sifted.{room_long, room_near, room_within, room_count, ready_near, few_listed}
-use borrow.Author.Rules.{rules}
 use mathlib.Core.Path.{sym}
 use native.Mathlib.Omega.{arith}
 use Rattle.neighbor_listing.proofs.loops.consider_few.Goals as goal

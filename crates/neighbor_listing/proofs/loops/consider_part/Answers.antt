@@ -1,10 +1,6 @@
-use Prim.Native.Nat.{◌-◌, ◌≤◌}
-use Rattle.bins.proofs.Runs.{Run, run_begin, run_with_end}
+use Rattle.bins.proofs.Runs.{run_begin, run_with_end}
 use Rattle.neighbor_listing.proofs.Sifted.{run_piece, ready_piece, piece_long, below_piece}
-use Rattle.neighbor_listing.specs.Steps.{scene_by}
-use Rattle.lists.specs.Lists.{with_each}
-use lib.ListN.{length, drop}
-use mathlib.Core.Path.{◌≡◌, refl, ◌∙◌}
+use mathlib.Core.Path.{refl, ◌∙◌}
 use native.Mathlib.Omega.{arith}
 use Rattle.neighbor_listing.proofs.loops.consider_part.Goals as goal
 

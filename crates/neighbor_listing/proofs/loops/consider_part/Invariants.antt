@@ -1,11 +1,9 @@
 use Prim.Native.Nat.{◌-◌, ◌≤◌}
-use Rattle.bins.proofs.Runs.{Run, run_begin, run_with_end}
-use Rattle.neighbor_listing.proofs.Sifted.{run_piece, ready_piece, piece_long, below_piece}
+use Rattle.bins.proofs.Runs.{Run}
 use Rattle.neighbor_listing.specs.Steps.{scene_by}
 use Rattle.lists.specs.Lists.{with_each}
 use lib.ListN.{length, drop}
-use mathlib.Core.Path.{◌≡◌, refl, ◌∙◌}
-use native.Mathlib.Omega.{arith}
+use mathlib.Core.Path.{◌≡◌}
 use Rattle.neighbor_listing.proofs.loops.consider_part.Given as goal
 
 abbrev pub invariant-loop-k : goal.invariant-loop-k

@@ -2,7 +2,6 @@ use Prim.Native.Nat.{◌/◌}
 use Rattle.bins.proofs.Runs.{below_rest}
 use Rattle.neighbor_listing.proofs.Flagging.{rest_ready, kept_listed}
 use Rattle.neighbor_listing.specs.Steps.{scene_by}
-use borrow.Author.Rules.{rules}
 use lib.ListN.{length}
 use Rattle.neighbor_listing.proofs.loops.consider_side.Goals as goal
 

@@ -1,7 +1,6 @@
 use Rattle.lists.specs.Lists.{with_each}
 use Rattle.neighbor_listing.proofs.Flagging.{kept_memory}
 use Rattle.neighbor_listing.specs.Steps.{scene_by}
-use borrow.Author.Rules.{rules}
 use native.Mathlib.Omega.{arith}
 use Rattle.neighbor_listing.proofs.loops.consider_whole.Goals as goal
 

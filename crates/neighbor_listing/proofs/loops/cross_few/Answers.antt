@@ -1,5 +1,4 @@
 use Rattle.neighbor_listing.proofs.Shortcuts.{shares_all}
-use borrow.Author.Rules.{rules}
 use mathlib.Core.Path.{sym}
 use Rattle.neighbor_listing.proofs.loops.cross_few.Goals as goal
 

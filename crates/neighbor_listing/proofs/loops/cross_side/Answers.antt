@@ -1,10 +1,5 @@
-use Prim.Native.Nat.{◌-◌, ◌≤◌}
-use Rattle.bins.proofs.Runs.{Run, run_begin, run_across, run_across_end, ready_across}
-use Rattle.lists.specs.Lists.{across}
-use Rattle.neighbor_listing.specs.Steps.{scene_by}
-use borrow.Author.Rules.{rules}
-use lib.ListN.{length, drop}
-use mathlib.Core.Path.{◌≡◌, refl, sym, ◌∙◌}
+use Rattle.bins.proofs.Runs.{run_begin, run_across, run_across_end, ready_across}
+use mathlib.Core.Path.{refl, sym, ◌∙◌}
 use native.Mathlib.Omega.{arith}
 use Rattle.neighbor_listing.proofs.loops.cross_side.Goals as goal
 

@@ -1,6 +1,5 @@
 use Rattle.neighbor_listing.proofs.Flagging.{laid_framed}
 use Rattle.neighbor_listing.proofs.Shortcuts.{shares_all}
-use borrow.Author.Rules.{rules}
 use mathlib.Core.Path.{sym}
 use Rattle.neighbor_listing.proofs.loops.home_few.Goals as goal
 

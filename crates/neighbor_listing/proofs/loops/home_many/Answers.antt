@@ -1,11 +1,8 @@
-use Prim.Native.Nat.{◌+◌, ◌-◌, ◌/◌, ◌≤◌}
-use Rattle.bins.proofs.Runs.{Run, run_begin, run_inside, run_inside_end, ready_inside, below_rest}
-use Rattle.neighbor_listing.specs.Steps.{scene_by}
-use Rattle.lists.specs.Lists.{inside}
-use borrow.Author.Rules.{rules}
-use lib.ListN.{length, drop}
+use Prim.Native.Nat.{◌+◌, ◌/◌}
+use Rattle.bins.proofs.Runs.{run_begin, run_inside, run_inside_end, ready_inside, below_rest}
+use lib.ListN.{length}
 use mathlib.Core.List.{[]}
-use mathlib.Core.Path.{◌≡◌, refl, ◌∙◌}
+use mathlib.Core.Path.{refl, ◌∙◌}
 use native.Mathlib.Omega.{arith}
 use Rattle.neighbor_listing.proofs.loops.home_many.Goals as goal
 

@@ -1,12 +1,9 @@
-use Prim.Native.Nat.{◌+◌, ◌-◌, ◌/◌, ◌≤◌}
-use Rattle.bins.proofs.Runs.{Run, run_begin, run_inside, run_inside_end, ready_inside, below_rest}
+use Prim.Native.Nat.{◌-◌, ◌≤◌}
+use Rattle.bins.proofs.Runs.{Run}
 use Rattle.neighbor_listing.specs.Steps.{scene_by}
 use Rattle.lists.specs.Lists.{inside}
-use borrow.Author.Rules.{rules}
 use lib.ListN.{length, drop}
-use mathlib.Core.List.{[]}
-use mathlib.Core.Path.{◌≡◌, refl, ◌∙◌}
-use native.Mathlib.Omega.{arith}
+use mathlib.Core.Path.{◌≡◌}
 use Rattle.neighbor_listing.proofs.loops.home_many.Given as goal
 
 abbrev pub invariant-loop-k : goal.invariant-loop-k

@@ -1,12 +1,7 @@
-use Prim.Native.Nat.{◌-◌, ◌≤◌}
-use Rattle.bins.proofs.Runs.{Run, run_begin, run_inside_end}
-use Rattle.lists.specs.Lists.{inside}
+use Rattle.bins.proofs.Runs.{run_begin, run_inside_end}
 use Rattle.neighbor_listing.proofs.Flagging.{inside_ready, inside_run}
-use Rattle.neighbor_listing.specs.Steps.{scene_by}
-use borrow.Author.Rules.{rules}
-use lib.ListN.{length, drop}
 use mathlib.Core.List.{[]}
-use mathlib.Core.Path.{◌≡◌, refl, sym, ◌∙◌}
+use mathlib.Core.Path.{refl, sym, ◌∙◌}
 use native.Mathlib.Omega.{arith}
 use Rattle.neighbor_listing.proofs.loops.home_side.Goals as goal
 

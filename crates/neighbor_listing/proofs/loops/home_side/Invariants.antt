@@ -1,13 +1,9 @@
 use Prim.Native.Nat.{◌-◌, ◌≤◌}
-use Rattle.bins.proofs.Runs.{Run, run_begin, run_inside_end}
+use Rattle.bins.proofs.Runs.{Run}
 use Rattle.lists.specs.Lists.{inside}
-use Rattle.neighbor_listing.proofs.Flagging.{inside_ready, inside_run}
 use Rattle.neighbor_listing.specs.Steps.{scene_by}
-use borrow.Author.Rules.{rules}
 use lib.ListN.{length, drop}
-use mathlib.Core.List.{[]}
-use mathlib.Core.Path.{◌≡◌, refl, sym, ◌∙◌}
-use native.Mathlib.Omega.{arith}
+use mathlib.Core.Path.{◌≡◌}
 use Rattle.neighbor_listing.proofs.loops.home_side.Given as goal
 
 abbrev pub invariant-loop-k : goal.invariant-loop-k

@@ -1,6 +1,5 @@
 use Rattle.neighbor_listing.proofs.Flagging.{flags_bits, kept_ready, side_listed, taken_within, taken_count, rest_fits, none_listed}
 use Rattle.neighbor_listing.proofs.Shortcuts.{reaches, none_reached, shared_at}
-use borrow.Author.Rules.{rules}
 use lib.ListN.{length}
 use mathlib.Core.Bool.{true}
 use mathlib.Core.Path.{◌∙◌, refl, ◌≡◌}

@@ -1,6 +1,5 @@
 use Prim.Native.Nat.{◌+◌}
 use Rattle.neighbor_listing.proofs.Sifted.{pair_skipped, pair_listed}
-use borrow.Author.Rules.{rules}
 use mathlib.Core.Path.{◌≡◌}
 use native.Mathlib.Omega.{arith}
 use Rattle.neighbor_listing.proofs.loops.settle.Goals as goal

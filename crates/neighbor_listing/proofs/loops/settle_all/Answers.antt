@@ -1,10 +1,5 @@
-use Prim.Native.Nat.{◌-◌, ◌≤◌}
-use Rattle.bins.proofs.Runs.{Run, run_begin, run_with, run_with_end, ready_with}
-use Rattle.neighbor_listing.specs.Steps.{chosen_by}
-use Rattle.lists.specs.Lists.{with_each}
-use borrow.Author.Rules.{rules}
-use lib.ListN.{length, drop}
-use mathlib.Core.Path.{◌≡◌, refl, ◌∙◌}
+use Rattle.bins.proofs.Runs.{run_begin, run_with, run_with_end, ready_with}
+use mathlib.Core.Path.{refl, ◌∙◌}
 use native.Mathlib.Omega.{arith}
 use Rattle.neighbor_listing.proofs.loops.settle_all.Goals as goal
 

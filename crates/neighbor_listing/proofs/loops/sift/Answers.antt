@@ -1,8 +1,4 @@
-use Prim.Native.Nat.{◌-◌}
-use Rattle.neighbor_listing.proofs.Sifted.{Sifting, sifting_begin, sifting_turn, sifting_end, near_is}
-use Rattle.neighbor_listing.specs.Steps.{near_to}
-use borrow.Author.Rules.{rules}
-use lib.ListN.{length}
+use Rattle.neighbor_listing.proofs.Sifted.{sifting_begin, sifting_turn, sifting_end, near_is}
 use mathlib.Core.Path.{refl}
 use native.Mathlib.Omega.{arith}
 use Rattle.neighbor_listing.proofs.loops.sift.Goals as goal

@@ -1,10 +1,7 @@
 use Prim.Native.Nat.{◌-◌}
-use Rattle.neighbor_listing.proofs.Sifted.{Sifting, sifting_begin, sifting_turn, sifting_end, near_is}
+use Rattle.neighbor_listing.proofs.Sifted.{Sifting}
 use Rattle.neighbor_listing.specs.Steps.{near_to}
-use borrow.Author.Rules.{rules}
 use lib.ListN.{length}
-use mathlib.Core.Path.{refl}
-use native.Mathlib.Omega.{arith}
 use Rattle.neighbor_listing.proofs.loops.sift.Given as goal
 
 abbrev pub invariant-loop-k : goal.invariant-loop-k

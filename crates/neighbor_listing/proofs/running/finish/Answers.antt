@@ -1,5 +1,4 @@
 use Rattle.neighbor_listing.specs.Listed.{shown_of}
-use borrow.Author.Rules.{rules}
 use borrow.Author.Tests.{le-leb, lt-leb}
 use Rattle.neighbor_listing.proofs.running.finish.Goals as goal
 

@@ -1,7 +1,4 @@
-use Prim.Native.Nat.{◌-◌}
-use Rattle.neighbor_listing.proofs.Numbered.{Numbering, numbering_begin, numbering_turn, numbering_end}
-use borrow.Author.Rules.{rules}
-use lib.ListN.{length}
+use Rattle.neighbor_listing.proofs.Numbered.{numbering_begin, numbering_turn, numbering_end}
 use native.Mathlib.Omega.{arith}
 use Rattle.neighbor_listing.proofs.running.number.Goals as goal
 

@@ -1,8 +1,6 @@
 use Prim.Native.Nat.{◌-◌}
-use Rattle.neighbor_listing.proofs.Numbered.{Numbering, numbering_begin, numbering_turn, numbering_end}
-use borrow.Author.Rules.{rules}
+use Rattle.neighbor_listing.proofs.Numbered.{Numbering}
 use lib.ListN.{length}
-use native.Mathlib.Omega.{arith}
 use Rattle.neighbor_listing.proofs.running.number.Given as goal
 
 abbrev pub invariant-loop-k : goal.invariant-loop-k

@@ -2,7 +2,6 @@ use Prim.Native.Nat.{ℕ, ◌/◌}
 use Rattle.lists.proofs.Loops.{room_front}
 use Rattle.neighbor_listing.proofs.Counts.{grid_ran, grid_ready, grid_swept, shown_is}
 use Rattle.neighbor_listing.proofs.Partners.{tops_part, tops_within, tops_long, cleared_front}
-use borrow.Author.Rules.{rules}
 use lib.ListN.{length}
 use mathlib.Core.Bool.{false}
 use mathlib.Core.Path.{ap, sym}

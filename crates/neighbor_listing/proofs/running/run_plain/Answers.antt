@@ -5,7 +5,6 @@ use Rattle.neighbor_listing.proofs.Counts.{plain_ran, shown_is}
 use Rattle.neighbor_listing.proofs.Numbered.{part_is, part_within, part_long, part_below}
 use Rattle.neighbor_listing.proofs.Partners.{tops_part, tops_within, tops_long, cleared_front}
 use Rattle.neighbor_listing.specs.Found.{scene_of}
-use borrow.Author.Rules.{rules}
 use lib.ListN.{length}
 use mathlib.Core.Bool.{true}
 use mathlib.Core.Path.{ap, sym}

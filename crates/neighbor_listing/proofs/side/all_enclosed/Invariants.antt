@@ -1,8 +1,5 @@
 use Prim.Native.Nat.{◌-◌, ◌≤◌}
-use Rattle.neighbor_listing.proofs.Flagging.{enclosed_begin, enclosed_turn, enclosed_end}
 use Rattle.neighbor_listing.specs.Sides.{AllEnclosed}
-use borrow.Author.Rules.{rules}
-use native.Mathlib.Omega.{arith}
 use Rattle.neighbor_listing.proofs.side.all_enclosed.Given as goal
 
 abbrev pub invariant-loop-k : goal.invariant-loop-k

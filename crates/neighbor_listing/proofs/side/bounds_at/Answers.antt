@@ -1,5 +1,4 @@
 use Rattle.neighbor_listing.proofs.Flagging.{unframed, laid_framed}
-use borrow.Author.Rules.{rules}
 use Rattle.neighbor_listing.proofs.side.bounds_at.Goals as goal
 
 pub returns-then-part-gt64 : goal.returns-then-part-gt64

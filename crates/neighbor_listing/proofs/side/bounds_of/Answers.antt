@@ -1,5 +1,4 @@
 use Rattle.neighbor_listing.proofs.Flagging.{bounds_are}
-use borrow.Author.Rules.{rules}
 use Rattle.neighbor_listing.proofs.side.bounds_of.Goals as goal
 
 pub returns : goal.returns

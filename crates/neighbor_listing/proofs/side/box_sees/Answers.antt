@@ -1,5 +1,4 @@
 use Rattle.neighbor_listing.proofs.Shortcuts.{box_says}
-use borrow.Author.Rules.{rules}
 use Rattle.neighbor_listing.proofs.side.box_sees.Goals as goal
 
 pub returns : goal.returns

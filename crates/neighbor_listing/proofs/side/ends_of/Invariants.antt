@@ -1,6 +1,4 @@
 use Prim.Native.Nat.{◌-◌, ◌≤◌}
-use borrow.Author.Rules.{rules}
-use native.Mathlib.Omega.{arith}
 use Rattle.neighbor_listing.proofs.side.ends_of.Given as goal
 
 abbrev pub invariant-loop-k : goal.invariant-loop-k

@@ -1,7 +1,4 @@
-use Prim.Native.Nat.{◌-◌}
-use Rattle.neighbor_listing.proofs.Flagging.{Flagging, flagging_begin, box_flagged, flagging_end}
-use borrow.Author.Rules.{rules}
-use lib.ListN.{length}
+use Rattle.neighbor_listing.proofs.Flagging.{flagging_begin, box_flagged, flagging_end}
 use native.Mathlib.Omega.{arith}
 use Rattle.neighbor_listing.proofs.side.flag_box.Goals as goal
 

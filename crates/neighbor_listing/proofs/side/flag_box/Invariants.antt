@@ -1,8 +1,6 @@
 use Prim.Native.Nat.{◌-◌}
-use Rattle.neighbor_listing.proofs.Flagging.{Flagging, flagging_begin, box_flagged, flagging_end}
-use borrow.Author.Rules.{rules}
+use Rattle.neighbor_listing.proofs.Flagging.{Flagging}
 use lib.ListN.{length}
-use native.Mathlib.Omega.{arith}
 use Rattle.neighbor_listing.proofs.side.flag_box.Given as goal
 
 abbrev pub invariant-loop-k : goal.invariant-loop-k

@@ -1,5 +1,4 @@
 use Rattle.neighbor_listing.proofs.Shortcuts.{still_reaches}
-use borrow.Author.Rules.{rules}
 use Rattle.neighbor_listing.proofs.side.flag_single.Goals as goal
 
 pub flag_still-requires : goal.flag_still-requires

@@ -1,11 +1,7 @@
 use Prim.Native.Nat.{◌-◌}
-use Rattle.neighbor_listing.proofs.Flagging.{Flagging, flagging_begin, reached_flagged, flagging_end}
-use Rattle.neighbor_listing.proofs.Slanted.{slanted_slope}
-use borrow.Author.Rules.{rules}
+use Rattle.neighbor_listing.proofs.Flagging.{Flagging}
 use lib.ListN.{length}
 use mathlib.Core.Bool.{true}
-use mathlib.Core.Path.{◌∙◌, refl}
-use native.Mathlib.Omega.{arith}
 use Rattle.neighbor_listing.proofs.side.flag_slanted.Given as goal
 
 abbrev pub invariant-loop-k : goal.invariant-loop-k

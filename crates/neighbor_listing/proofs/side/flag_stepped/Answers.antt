@@ -1,8 +1,4 @@
-use Prim.Native.Nat.{◌-◌}
-use Rattle.neighbor_listing.proofs.Flagging.{Flagging, flagging_begin, reached_flagged, flagging_end}
-use borrow.Author.Rules.{rules}
-use lib.ListN.{length}
-use mathlib.Core.Bool.{true}
+use Rattle.neighbor_listing.proofs.Flagging.{flagging_begin, reached_flagged, flagging_end}
 use mathlib.Core.Path.{refl}
 use native.Mathlib.Omega.{arith}
 use Rattle.neighbor_listing.proofs.side.flag_stepped.Goals as goal

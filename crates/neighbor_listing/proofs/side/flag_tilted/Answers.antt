@@ -1,7 +1,4 @@
-use Prim.Native.Nat.{◌-◌}
-use Rattle.neighbor_listing.proofs.Flagging.{Flagging, flagging_begin, tilted_flagged, flagging_end}
-use borrow.Author.Rules.{rules}
-use lib.ListN.{length}
+use Rattle.neighbor_listing.proofs.Flagging.{flagging_begin, tilted_flagged, flagging_end}
 use mathlib.Core.Path.{refl}
 use native.Mathlib.Omega.{arith}
 use Rattle.neighbor_listing.proofs.side.flag_tilted.Goals as goal

@@ -1,9 +1,6 @@
 use Prim.Native.Nat.{◌-◌}
-use Rattle.neighbor_listing.proofs.Flagging.{Flagging, flagging_begin, tilted_flagged, flagging_end}
-use borrow.Author.Rules.{rules}
+use Rattle.neighbor_listing.proofs.Flagging.{Flagging}
 use lib.ListN.{length}
-use mathlib.Core.Path.{refl}
-use native.Mathlib.Omega.{arith}
 use Rattle.neighbor_listing.proofs.side.flag_tilted.Given as goal
 
 abbrev pub invariant-loop-k : goal.invariant-loop-k

@@ -1,9 +1,5 @@
-use Prim.Native.Nat.{◌-◌}
-use Rattle.neighbor_listing.proofs.Flagging.{Flagging, flagging_begin, reached_flagged, flagging_end}
+use Rattle.neighbor_listing.proofs.Flagging.{flagging_begin, reached_flagged, flagging_end}
 use Rattle.neighbor_listing.proofs.Slanted.{upper_slope}
-use borrow.Author.Rules.{rules}
-use lib.ListN.{length}
-use mathlib.Core.Bool.{true}
 use mathlib.Core.Path.{◌∙◌, refl}
 use native.Mathlib.Omega.{arith}
 use Rattle.neighbor_listing.proofs.side.flag_upper.Goals as goal

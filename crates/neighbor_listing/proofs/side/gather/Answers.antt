@@ -1,7 +1,4 @@
-use Prim.Native.Nat.{◌-◌}
-use Rattle.neighbor_listing.proofs.Flagging.{Taking, taking_begin, taking_turn, taking_end}
-use borrow.Author.Rules.{rules}
-use lib.ListN.{length}
+use Rattle.neighbor_listing.proofs.Flagging.{taking_begin, taking_turn, taking_end}
 use native.Mathlib.Omega.{arith}
 use Rattle.neighbor_listing.proofs.side.gather.Goals as goal
 

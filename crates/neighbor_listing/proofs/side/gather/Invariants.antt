@@ -1,8 +1,6 @@
 use Prim.Native.Nat.{◌-◌}
-use Rattle.neighbor_listing.proofs.Flagging.{Taking, taking_begin, taking_turn, taking_end}
-use borrow.Author.Rules.{rules}
+use Rattle.neighbor_listing.proofs.Flagging.{Taking}
 use lib.ListN.{length}
-use native.Mathlib.Omega.{arith}
 use Rattle.neighbor_listing.proofs.side.gather.Given as goal
 
 abbrev pub invariant-loop-k : goal.invariant-loop-k

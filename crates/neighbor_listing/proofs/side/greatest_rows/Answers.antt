@@ -1,5 +1,4 @@
 use Rattle.neighbor_listing.specs.Sides.{greatest_rows}
-use borrow.Author.Rules.{rules}
 use Rattle.neighbor_listing.proofs.side.greatest_rows.Goals as goal
 
 pub returns : goal.returns

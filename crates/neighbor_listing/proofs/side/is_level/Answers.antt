@@ -1,5 +1,4 @@
 use Rattle.neighbor_listing.specs.Sides.{is_level}
-use borrow.Author.Rules.{rules}
 use Rattle.neighbor_listing.proofs.side.is_level.Goals as goal
 
 pub returns : goal.returns

@@ -1,5 +1,4 @@
 use Rattle.neighbor_listing.specs.Sides.{nearer_in, is_outside}
-use borrow.Author.Rules.{rules}
 use Rattle.neighbor_listing.proofs.side.is_outside.Goals as goal
 
 pub returns : goal.returns

@@ -1,5 +1,4 @@
 use Rattle.neighbor_listing.proofs.Shortcuts.{single_says}
-use borrow.Author.Rules.{rules}
 use Rattle.neighbor_listing.proofs.side.is_single.Goals as goal
 
 pub returns : goal.returns

@@ -1,5 +1,4 @@
 use Rattle.neighbor_listing.proofs.Shortcuts.{still_says}
-use borrow.Author.Rules.{rules}
 use Rattle.neighbor_listing.proofs.side.is_still.Goals as goal
 
 pub returns : goal.returns

@@ -1,8 +1,4 @@
-use Prim.Native.Nat.{◌-◌, ◌≤◌}
 use Rattle.neighbor_listing.proofs.Flagging.{laid_begin, laid_turn, laid_end}
-use Rattle.neighbor_listing.specs.Sides.{LaidOut}
-use borrow.Author.Rules.{rules}
-use lib.ListN.{length}
 use mathlib.Core.Path.{sym, ◌∙◌}
 use native.Mathlib.Omega.{arith}
 use Rattle.neighbor_listing.proofs.side.lay_out.Goals as goal

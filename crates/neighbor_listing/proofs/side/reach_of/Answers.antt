@@ -1,5 +1,4 @@
 use Rattle.neighbor_listing.proofs.Shortcuts.{reach_says}
-use borrow.Author.Rules.{rules}
 use mathlib.Core.Bool.{false≢true}
 use mathlib.Core.Path.{refl}
 use Rattle.neighbor_listing.proofs.side.reach_of.Goals as goal

@@ -1,5 +1,4 @@
 use Rattle.neighbor_listing.proofs.Shortcuts.{shared_reach}
-use borrow.Author.Rules.{rules}
 use mathlib.Core.Path.{refl}
 use Rattle.neighbor_listing.proofs.side.reach_shared.Goals as goal
 

@@ -1,5 +1,4 @@
 use Rattle.neighbor_listing.proofs.Shortcuts.{shared_says}
-use borrow.Author.Rules.{rules}
 use Rattle.neighbor_listing.proofs.side.shared_of.Goals as goal
 
 pub returns : goal.returns

@@ -1,5 +1,4 @@
 use Rattle.neighbor_listing.specs.Sides.{slanted_sees}
-use borrow.Author.Rules.{rules}
 use Rattle.neighbor_listing.proofs.side.slanted_sees.Goals as goal
 
 pub returns : goal.returns

@@ -1,4 +1,3 @@
-use borrow.Author.Rules.{rules}
 use Rattle.neighbor_listing.proofs.side.stepped_sees.Goals as goal
 
 pub returns : goal.returns

@@ -1,4 +1,3 @@
-use borrow.Author.Rules.{rules}
 use Rattle.neighbor_listing.proofs.side.tilted_holds.Goals as goal
 
 pub returns : goal.returns

@@ -1,5 +1,4 @@
 use Rattle.neighbor_listing.proofs.Slanted.{slant_reach, fit_ends}
-use borrow.Author.Rules.{rules}
 use Rattle.neighbor_listing.proofs.side.tilted_reach.Goals as goal
 
 pub slant_of-r-requires : goal.slant_of-r-requires

@@ -1,5 +1,4 @@
 use Rattle.neighbor_listing.specs.Sides.{upper_sees}
-use borrow.Author.Rules.{rules}
 use Rattle.neighbor_listing.proofs.side.upper_sees.Goals as goal
 
 pub returns : goal.returns

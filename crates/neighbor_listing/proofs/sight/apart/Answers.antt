@@ -1,4 +1,3 @@
-use borrow.Author.Rules.{rules}
 use Rattle.neighbor_listing.proofs.sight.apart.Goals as goal
 
 pub returns-then-rising : goal.returns-then-rising

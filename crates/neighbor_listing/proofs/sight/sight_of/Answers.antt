@@ -1,5 +1,4 @@
 use Rattle.neighbor_listing.specs.Steps.{sight_of}
-use borrow.Author.Rules.{rules}
 use Rattle.neighbor_listing.proofs.sight.sight_of.Goals as goal
 
 pub returns : goal.returns

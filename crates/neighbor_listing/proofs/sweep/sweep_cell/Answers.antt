@@ -1,12 +1,9 @@
-use Prim.Native.Nat.{◌-◌, ◌≤◌}
-use Rattle.bins.proofs.Runs.{Run, run_each, run_each_end, ready_each}
-use Rattle.bins.proofs.Sweeps.{rows_begin, rows_from}
-use Rattle.bins.specs.Traversal.{visit, cell_pairs}
+use Rattle.bins.proofs.Runs.{run_each, run_each_end, ready_each}
+use Rattle.bins.proofs.Sweeps.{rows_begin}
+use Rattle.bins.specs.Traversal.{visit}
 use Rattle.neighbor_listing.proofs.Considered.{part_is, part_below}
-use Rattle.neighbor_listing.specs.Steps.{atoms_by, scene_by}
-use borrow.Author.Rules.{rules}
-use lib.ListN.{length}
-use mathlib.Core.Path.{◌≡◌, refl, ◌∙◌}
+use Rattle.neighbor_listing.specs.Steps.{atoms_by}
+use mathlib.Core.Path.{refl, ◌∙◌}
 use native.Mathlib.Omega.{arith}
 use Rattle.neighbor_listing.proofs.sweep.sweep_cell.Goals as goal
 

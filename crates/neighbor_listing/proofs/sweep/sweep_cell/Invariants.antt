@@ -1,13 +1,10 @@
 use Prim.Native.Nat.{◌-◌, ◌≤◌}
-use Rattle.bins.proofs.Runs.{Run, run_each, run_each_end, ready_each}
-use Rattle.bins.proofs.Sweeps.{rows_begin, rows_from}
-use Rattle.bins.specs.Traversal.{visit, cell_pairs}
-use Rattle.neighbor_listing.proofs.Considered.{part_is, part_below}
+use Rattle.bins.proofs.Runs.{Run}
+use Rattle.bins.proofs.Sweeps.{rows_from}
+use Rattle.bins.specs.Traversal.{cell_pairs}
 use Rattle.neighbor_listing.specs.Steps.{atoms_by, scene_by}
-use borrow.Author.Rules.{rules}
 use lib.ListN.{length}
-use mathlib.Core.Path.{◌≡◌, refl, ◌∙◌}
-use native.Mathlib.Omega.{arith}
+use mathlib.Core.Path.{◌≡◌}
 use Rattle.neighbor_listing.proofs.sweep.sweep_cell.Given as goal
 
 abbrev pub invariant-loop-row : goal.invariant-loop-row

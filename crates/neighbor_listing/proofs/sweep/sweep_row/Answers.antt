@@ -3,7 +3,6 @@ use Rattle.bins.proofs.Sweeps.{row_none, row_other, row_home, row_cross}
 use Rattle.bins.specs.declared.Cell.{Cell}
 use Rattle.neighbor_listing.proofs.Considered.{part_is, part_below}
 use Rattle.neighbor_listing.specs.Steps.{atoms_by}
-use borrow.Author.Rules.{rules}
 use mathlib.Core.List.{List}
 use Rattle.neighbor_listing.proofs.sweep.sweep_row.Goals as goal
 

@@ -1,5 +1,4 @@
 use Rattle.neighbor_listing.proofs.Partners.{clear_within, clear_past}
-use borrow.Author.Rules.{rules}
 use Rattle.neighbor_listing.proofs.tops.is_clear.Goals as goal
 
 pub returns-then-a-tops : goal.returns-then-a-tops

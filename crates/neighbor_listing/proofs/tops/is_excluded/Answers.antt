@@ -1,5 +1,4 @@
 use Rattle.neighbor_listing.proofs.Partners.{clear_spares, unclear_looks, top_spares}
-use borrow.Author.Rules.{rules}
 use Rattle.neighbor_listing.proofs.tops.is_excluded.Goals as goal
 
 pub returns-then-is_clear : goal.returns-then-is_clear

@@ -1,5 +1,4 @@
 use Rattle.neighbor_listing.proofs.Partners.{top_within, top_past}
-use borrow.Author.Rules.{rules}
 use Rattle.neighbor_listing.proofs.tops.is_top.Goals as goal
 
 pub returns-then-a-tops : goal.returns-then-a-tops

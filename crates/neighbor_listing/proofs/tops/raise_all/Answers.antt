@@ -1,7 +1,5 @@
-use Prim.Native.Nat.{◌-◌, ◌/◌, ◌*◌}
-use Rattle.neighbor_listing.proofs.Partners.{Raised, raised_begin, raised_next, raised_end}
-use borrow.Author.Rules.{rules}
-use lib.ListN.{length}
+use Prim.Native.Nat.{◌*◌}
+use Rattle.neighbor_listing.proofs.Partners.{raised_begin, raised_next, raised_end}
 use native.Mathlib.Omega.{arith}
 use Rattle.neighbor_listing.proofs.tops.raise_all.Goals as goal
 

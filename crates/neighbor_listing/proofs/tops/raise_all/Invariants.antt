@@ -1,8 +1,6 @@
-use Prim.Native.Nat.{◌-◌, ◌/◌, ◌*◌}
-use Rattle.neighbor_listing.proofs.Partners.{Raised, raised_begin, raised_next, raised_end}
-use borrow.Author.Rules.{rules}
+use Prim.Native.Nat.{◌-◌, ◌/◌}
+use Rattle.neighbor_listing.proofs.Partners.{Raised}
 use lib.ListN.{length}
-use native.Mathlib.Omega.{arith}
 use Rattle.neighbor_listing.proofs.tops.raise_all.Given as goal
 
 abbrev pub invariant-loop-k : goal.invariant-loop-k

@@ -1,5 +1,4 @@
 use Rattle.potentials.proofs.Places.{apart_at, added}
-use borrow.Author.Rules.{rules}
 use Rattle.potentials.proofs.block.add.Goals as goal
 
 pub returns : goal.returns

@@ -1,11 +1,5 @@
-use Prim.Native.Nat.{◌≤◌, ◌-◌}
-use Rattle.lists.specs.Lists.{up_to}
-use Rattle.potentials_pair.specs.Pull.{held}
-use Rattle.potentials.proofs.Folds.{Left, left_begin, numbers_turn, numbers_over}
-use Rattle.potentials.specs.Blocks.{block_step, scaled_pull}
-use lib.ListN.{length}
-use mathlib.Core.List.{foldl}
-use mathlib.Core.Path.{◌≡◌, refl, ◌∙◌}
+use Rattle.potentials.proofs.Folds.{left_begin, numbers_turn, numbers_over}
+use mathlib.Core.Path.{refl, ◌∙◌}
 use native.Mathlib.Omega.{arith}
 use Rattle.potentials.proofs.block.add_all.Goals as goal
 

@@ -1,12 +1,11 @@
 use Prim.Native.Nat.{◌≤◌, ◌-◌}
 use Rattle.lists.specs.Lists.{up_to}
 use Rattle.potentials_pair.specs.Pull.{held}
-use Rattle.potentials.proofs.Folds.{Left, left_begin, numbers_turn, numbers_over}
+use Rattle.potentials.proofs.Folds.{Left}
 use Rattle.potentials.specs.Blocks.{block_step, scaled_pull}
 use lib.ListN.{length}
 use mathlib.Core.List.{foldl}
-use mathlib.Core.Path.{◌≡◌, refl, ◌∙◌}
-use native.Mathlib.Omega.{arith}
+use mathlib.Core.Path.{◌≡◌}
 use Rattle.potentials.proofs.block.add_all.Given as goal
 
 abbrev pub invariant-loop-m : goal.invariant-loop-m

@@ -1,4 +1,3 @@
-use borrow.Author.Rules.{rules}
 use Rattle.potentials.proofs.block.taken.Goals as goal
 
 pub returns-else-skipped : goal.returns-else-skipped

@@ -1,7 +1,6 @@
 use Rattle.potentials_pair.specs.Pull.{held}
 use Rattle.potentials.proofs.Bonded.{passed_over, not_passed}
 use Rattle.potentials.proofs.Places.{added}
-use borrow.Author.Rules.{rules}
 use Rattle.potentials.proofs.bonds.add.Goals as goal
 
 pub returns-then-roots-m : goal.returns-then-roots-m

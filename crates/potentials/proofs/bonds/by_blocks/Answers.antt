@@ -1,15 +1,11 @@
-use Prim.Native.Nat.{◌≤◌, ◌-◌, ◌/◌}
-use Rattle.cell_prepared.specs.Facts.{image_in}
 use Rattle.lists.proofs.Rows.{length_rows}
 use Rattle.lists.specs.Lists.{up_to, rows}
 use Rattle.potentials_pair.specs.Pull.{held}
 use Rattle.potentials.proofs.Blocks.{at_least, block_kept, block_turn}
 use Rattle.potentials.proofs.Bonded.{bonded_sum}
-use Rattle.potentials.proofs.Folds.{Left, left_begin, numbers_over}
-use Rattle.potentials.specs.Terms.{bond_step}
+use Rattle.potentials.proofs.Folds.{left_begin, numbers_over}
 use lib.ListN.{length}
-use mathlib.Core.List.{foldl}
-use mathlib.Core.Path.{◌≡◌, refl, ◌∙◌}
+use mathlib.Core.Path.{refl, ◌∙◌}
 use native.Mathlib.Omega.{arith}
 use Rattle.potentials.proofs.bonds.by_blocks.Goals as goal
 

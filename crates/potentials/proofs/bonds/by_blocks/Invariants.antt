@@ -1,16 +1,12 @@
 use Prim.Native.Nat.{◌≤◌, ◌-◌, ◌/◌}
 use Rattle.cell_prepared.specs.Facts.{image_in}
-use Rattle.lists.proofs.Rows.{length_rows}
 use Rattle.lists.specs.Lists.{up_to, rows}
 use Rattle.potentials_pair.specs.Pull.{held}
-use Rattle.potentials.proofs.Blocks.{at_least, block_kept, block_turn}
-use Rattle.potentials.proofs.Bonded.{bonded_sum}
-use Rattle.potentials.proofs.Folds.{Left, left_begin, numbers_over}
+use Rattle.potentials.proofs.Folds.{Left}
 use Rattle.potentials.specs.Terms.{bond_step}
 use lib.ListN.{length}
 use mathlib.Core.List.{foldl}
-use mathlib.Core.Path.{◌≡◌, refl, ◌∙◌}
-use native.Mathlib.Omega.{arith}
+use mathlib.Core.Path.{◌≡◌}
 use Rattle.potentials.proofs.bonds.by_blocks.Given as goal
 
 abbrev pub invariant-loop-b : goal.invariant-loop-b

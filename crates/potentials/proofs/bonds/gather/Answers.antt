@@ -4,7 +4,6 @@ use Rattle.potentials.proofs.Kernels.{both_there}
 use Rattle.potentials.proofs.Places.{bond_absent, bond_there}
 use Rattle.potentials.specs.Blocks.{bond_at}
 use Rattle.potentials.specs.Terms.{bond_step}
-use borrow.Author.Rules.{rules}
 use mathlib.Core.Bool.{false}
 use mathlib.Core.Path.{sym, refl, ◌∙◌}
 use Rattle.potentials.proofs.bonds.gather.Goals as goal

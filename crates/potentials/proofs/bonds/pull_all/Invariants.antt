@@ -1,9 +1,7 @@
 use Prim.Native.Nat.{◌≤◌, ◌-◌}
-use Rattle.potentials.proofs.Bonded.{bonded_none, bonded_turn, bonded_end}
 use Rattle.potentials.specs.Blocks.{Bonded}
 use lib.ListN.{length}
-use mathlib.Core.Path.{◌≡◌, refl, ◌∙◌}
-use native.Mathlib.Omega.{arith}
+use mathlib.Core.Path.{◌≡◌}
 use Rattle.potentials.proofs.bonds.pull_all.Given as goal
 
 abbrev pub invariant-loop-m : goal.invariant-loop-m

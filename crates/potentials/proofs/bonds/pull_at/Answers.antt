@@ -1,6 +1,5 @@
 use Prim.Native.Nat.{◌*◌}
 use Rattle.potentials.proofs.Bonded.{long_at, energy_at, slope_at}
-use borrow.Author.Rules.{rules}
 use lib.ListN.{length-set}
 use native.Mathlib.Omega.{arith}
 use Rattle.potentials.proofs.bonds.pull_at.Goals as goal

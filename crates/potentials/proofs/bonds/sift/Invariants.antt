@@ -1,13 +1,10 @@
 use Prim.Native.Nat.{◌≤◌, ◌-◌}
 use Rattle.cell_prepared.specs.Facts.{image_in}
-use Rattle.lists.proofs.Rows.{length_rows}
 use Rattle.lists.specs.Lists.{up_to, rows}
-use Rattle.potentials.proofs.Blocks.{sifted_begin, sifted_number, sifted_end, block_kept}
 use Rattle.potentials.specs.Blocks.{block_step, bond_at, Sifted}
 use Rattle.potentials.specs.Terms.{bond_step}
 use lib.ListN.{length}
-use mathlib.Core.Path.{◌≡◌, refl, ◌∙◌}
-use native.Mathlib.Omega.{arith}
+use mathlib.Core.Path.{◌≡◌}
 use Rattle.potentials.proofs.bonds.sift.Given as goal
 
 abbrev pub invariant-loop-b : goal.invariant-loop-b

@@ -2,16 +2,11 @@ use Prim.Native.Nat.{◌≤◌, ◌-◌, ◌/◌}
 use Rattle.lists.specs.Lists.{rows}
 use Rattle.potentials_pair.specs.Pull.{held}
 use Rattle.potentials_pair.specs.Species.{tables}
-use Rattle.potentials.proofs.Charged.{coulomb_row_lem}
-use Rattle.potentials.proofs.Folds.{Left, left_begin, rows_end}
-use Rattle.potentials.proofs.Laid.{rows_turn}
-use Rattle.potentials.proofs.Near.{lj_row_lem}
-use Rattle.potentials.specs.Rows.{lj_rowed, coulomb_rowed}
+use Rattle.potentials.proofs.Folds.{Left}
 use Rattle.potentials.specs.Steps.{lj_step, coulomb_step, Kept}
 use lib.ListN.{length}
 use mathlib.Core.List.{foldl}
-use mathlib.Core.Path.{◌≡◌, refl, sym, ◌∙◌}
-use native.Mathlib.Omega.{arith}
+use mathlib.Core.Path.{◌≡◌}
 use Rattle.potentials.proofs.both.by_blocks.Given as goal
 
 abbrev pub invariant-loop-k : goal.invariant-loop-k

@@ -1,7 +1,6 @@
 use Rattle.potentials_pair.specs.Pull.{held}
 use Rattle.potentials.proofs.Charged.{charges_sum}
 use Rattle.potentials.proofs.Laid.{rows_there}
-use borrow.Author.Rules.{rules}
 use mathlib.Core.Path.{◌∙◌}
 use native.Mathlib.Omega.{arith}
 use Rattle.potentials.proofs.coulomb.add.Goals as goal

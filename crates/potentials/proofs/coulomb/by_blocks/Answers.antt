@@ -1,14 +1,9 @@
-use Prim.Native.Nat.{◌≤◌, ◌-◌, ◌/◌}
-use Rattle.lists.specs.Lists.{rows}
-use Rattle.potentials_pair.specs.Pull.{held}
 use Rattle.potentials.proofs.Charged.{coulomb_row_lem}
-use Rattle.potentials.proofs.Folds.{Left, left_begin, rows_end}
+use Rattle.potentials.proofs.Folds.{left_begin, rows_end}
 use Rattle.potentials.proofs.Laid.{rows_turn}
 use Rattle.potentials.specs.Rows.{coulomb_rowed}
 use Rattle.potentials.specs.Steps.{coulomb_step}
-use lib.ListN.{length}
-use mathlib.Core.List.{foldl}
-use mathlib.Core.Path.{◌≡◌, refl, ◌∙◌}
+use mathlib.Core.Path.{refl, ◌∙◌}
 use native.Mathlib.Omega.{arith}
 use Rattle.potentials.proofs.coulomb.by_blocks.Goals as goal
 

@@ -1,15 +1,11 @@
 use Prim.Native.Nat.{◌≤◌, ◌-◌, ◌/◌}
 use Rattle.lists.specs.Lists.{rows}
 use Rattle.potentials_pair.specs.Pull.{held}
-use Rattle.potentials.proofs.Charged.{coulomb_row_lem}
-use Rattle.potentials.proofs.Folds.{Left, left_begin, rows_end}
-use Rattle.potentials.proofs.Laid.{rows_turn}
-use Rattle.potentials.specs.Rows.{coulomb_rowed}
+use Rattle.potentials.proofs.Folds.{Left}
 use Rattle.potentials.specs.Steps.{coulomb_step}
 use lib.ListN.{length}
 use mathlib.Core.List.{foldl}
-use mathlib.Core.Path.{◌≡◌, refl, ◌∙◌}
-use native.Mathlib.Omega.{arith}
+use mathlib.Core.Path.{◌≡◌}
 use Rattle.potentials.proofs.coulomb.by_blocks.Given as goal
 
 abbrev pub invariant-loop-k : goal.invariant-loop-k

@@ -1,9 +1,6 @@
-use Prim.Native.Nat.{◌≤◌, ◌-◌}
 use Rattle.potentials.proofs.Charged.{charges_begin, charges_turn, charges_end}
-use Rattle.potentials.specs.Rows.{ChargesPicked}
-use borrow.Author.Rules.{rules}
-use lib.ListN.{length, length-set}
-use mathlib.Core.Path.{◌≡◌, refl}
+use lib.ListN.{length-set}
+use mathlib.Core.Path.{refl}
 use native.Mathlib.Omega.{arith}
 use Rattle.potentials.proofs.coulomb.keep.Goals as goal
 

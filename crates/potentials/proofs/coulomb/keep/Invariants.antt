@@ -1,10 +1,7 @@
 use Prim.Native.Nat.{◌≤◌, ◌-◌}
-use Rattle.potentials.proofs.Charged.{charges_begin, charges_turn, charges_end}
 use Rattle.potentials.specs.Rows.{ChargesPicked}
-use borrow.Author.Rules.{rules}
-use lib.ListN.{length, length-set}
-use mathlib.Core.Path.{◌≡◌, refl}
-use native.Mathlib.Omega.{arith}
+use lib.ListN.{length}
+use mathlib.Core.Path.{◌≡◌}
 use Rattle.potentials.proofs.coulomb.keep.Given as goal
 
 abbrev pub invariant-loop-t : goal.invariant-loop-t

@@ -1,9 +1,6 @@
-use Prim.Native.Nat.{◌≤◌, ◌-◌}
 use Rattle.potentials.proofs.Blocks.{pulled_none, pulled_turn, pulled_end}
-use Rattle.potentials.specs.Blocks.{coulomb_energy, coulomb_slope, Pulled}
-use borrow.Author.Rules.{rules}
-use lib.ListN.{length}
-use mathlib.Core.Path.{◌≡◌, refl, ◌∙◌}
+use Rattle.potentials.specs.Blocks.{coulomb_energy, coulomb_slope}
+use mathlib.Core.Path.{refl, ◌∙◌}
 use native.Mathlib.Omega.{arith}
 use Rattle.potentials.proofs.coulomb.pull_all.Goals as goal
 

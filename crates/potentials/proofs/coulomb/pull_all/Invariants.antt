@@ -1,10 +1,7 @@
 use Prim.Native.Nat.{◌≤◌, ◌-◌}
-use Rattle.potentials.proofs.Blocks.{pulled_none, pulled_turn, pulled_end}
 use Rattle.potentials.specs.Blocks.{coulomb_energy, coulomb_slope, Pulled}
-use borrow.Author.Rules.{rules}
 use lib.ListN.{length}
-use mathlib.Core.Path.{◌≡◌, refl, ◌∙◌}
-use native.Mathlib.Omega.{arith}
+use mathlib.Core.Path.{◌≡◌}
 use Rattle.potentials.proofs.coulomb.pull_all.Given as goal
 
 abbrev pub invariant-loop-m : goal.invariant-loop-m

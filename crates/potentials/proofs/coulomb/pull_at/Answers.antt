@@ -1,7 +1,6 @@
 use Prim.Native.Nat.{◌*◌}
 use Rattle.float.specs.Arith.{◌⊘◌, at}
 use Rattle.potentials.specs.Blocks.{coulomb_energy, coulomb_slope}
-use borrow.Author.Rules.{rules}
 use lib.ListN.{length-set}
 use native.Mathlib.Omega.{arith}
 use Rattle.potentials.proofs.coulomb.pull_at.Goals as goal

@@ -1,5 +1,4 @@
 use Rattle.potentials.proofs.Table.{first_row}
-use borrow.Author.Rules.{rules}
 use Rattle.potentials.proofs.kept.first_room.Goals as goal
 
 pub returns : goal.returns

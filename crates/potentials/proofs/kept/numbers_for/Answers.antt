@@ -1,5 +1,4 @@
 use Rattle.potentials.specs.Steps.{numbers_for}
-use borrow.Author.Rules.{rules}
 use Rattle.potentials.proofs.kept.numbers_for.Goals as goal
 
 pub returns : goal.returns

@@ -1,5 +1,4 @@
 use Rattle.potentials.proofs.Kernels.{bonds_from_zero}
-use borrow.Author.Rules.{rules}
 use lib.ListN.{length}
 use Rattle.potentials.proofs.kernel.bonds_all.Goals as goal
 

@@ -1,6 +1,5 @@
 use Rattle.lists.specs.Lists.{rows}
 use Rattle.potentials.proofs.Kernels.{lj_from_zero, coulomb_from_zero}
-use borrow.Author.Rules.{rules}
 use lib.ListN.{length}
 use mathlib.Core.Path.{◌∙◌}
 use Rattle.potentials.proofs.kernel.both_pairs.Goals as goal

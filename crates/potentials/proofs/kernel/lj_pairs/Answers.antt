@@ -1,6 +1,5 @@
 use Rattle.lists.specs.Lists.{rows}
 use Rattle.potentials.proofs.Kernels.{lj_from_zero}
-use borrow.Author.Rules.{rules}
 use lib.ListN.{length}
 use Rattle.potentials.proofs.kernel.lj_pairs.Goals as goal
 

@@ -1,7 +1,6 @@
 use Rattle.potentials_pair.specs.Pull.{held}
 use Rattle.potentials.proofs.Laid.{rows_there}
 use Rattle.potentials.proofs.Near.{kept_rest, near_sum, rows_same}
-use borrow.Author.Rules.{rules}
 use mathlib.Core.Path.{◌∙◌}
 use native.Mathlib.Omega.{arith}
 use Rattle.potentials.proofs.lennard_jones.add.Goals as goal

@@ -1,15 +1,9 @@
-use Prim.Native.Nat.{◌≤◌, ◌-◌, ◌/◌}
-use Rattle.lists.specs.Lists.{rows}
-use Rattle.potentials_pair.specs.Pull.{held}
-use Rattle.potentials_pair.specs.Species.{tables}
-use Rattle.potentials.proofs.Folds.{Left, left_begin, rows_end}
+use Rattle.potentials.proofs.Folds.{left_begin, rows_end}
 use Rattle.potentials.proofs.Laid.{rows_turn}
 use Rattle.potentials.proofs.Near.{lj_row_lem}
 use Rattle.potentials.specs.Rows.{lj_rowed}
-use Rattle.potentials.specs.Steps.{lj_step, Kept}
-use lib.ListN.{length}
-use mathlib.Core.List.{foldl}
-use mathlib.Core.Path.{◌≡◌, refl, sym, ◌∙◌}
+use Rattle.potentials.specs.Steps.{lj_step}
+use mathlib.Core.Path.{refl, sym, ◌∙◌}
 use native.Mathlib.Omega.{arith}
 use Rattle.potentials.proofs.lennard_jones.by_blocks.Goals as goal
 

@@ -1,9 +1,6 @@
-use Prim.Native.Nat.{◌≤◌, ◌-◌}
 use Rattle.potentials.proofs.Near.{near_begin, near_turn, near_end, near_kept}
-use Rattle.potentials.specs.Rows.{NearPicked}
-use borrow.Author.Rules.{rules}
-use lib.ListN.{length, length-set}
-use mathlib.Core.Path.{◌≡◌, refl}
+use lib.ListN.{length-set}
+use mathlib.Core.Path.{refl}
 use native.Mathlib.Omega.{arith}
 use Rattle.potentials.proofs.lennard_jones.keep.Goals as goal
 

@@ -1,10 +1,7 @@
 use Prim.Native.Nat.{◌≤◌, ◌-◌}
-use Rattle.potentials.proofs.Near.{near_begin, near_turn, near_end, near_kept}
 use Rattle.potentials.specs.Rows.{NearPicked}
-use borrow.Author.Rules.{rules}
-use lib.ListN.{length, length-set}
-use mathlib.Core.Path.{◌≡◌, refl}
-use native.Mathlib.Omega.{arith}
+use lib.ListN.{length}
+use mathlib.Core.Path.{◌≡◌}
 use Rattle.potentials.proofs.lennard_jones.keep.Given as goal
 
 abbrev pub invariant-loop-t : goal.invariant-loop-t

@@ -1,9 +1,6 @@
 use Prim.Native.Nat.{◌≤◌, ◌-◌}
 use Rattle.potentials_pair.specs.Species.{tables}
-use Rattle.potentials.proofs.Near.{recalled_none, recalled_turn, recalled_end, rows_same}
 use Rattle.potentials.specs.Blocks.{Recalled}
-use mathlib.Core.Path.{sym, ◌∙◌}
-use native.Mathlib.Omega.{arith}
 use Rattle.potentials.proofs.lennard_jones.number_all.Given as goal
 
 abbrev pub invariant-loop-m : goal.invariant-loop-m

@@ -1,5 +1,4 @@
 use Rattle.potentials.proofs.Near.{numbered_at}
-use borrow.Author.Rules.{rules}
 use lib.ListN.{length-set}
 use native.Mathlib.Omega.{arith}
 use Rattle.potentials.proofs.lennard_jones.number_at.Goals as goal

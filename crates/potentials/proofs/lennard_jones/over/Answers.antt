@@ -1,5 +1,4 @@
 use Rattle.potentials.proofs.Table.{begun}
-use borrow.Author.Rules.{rules}
 use Rattle.potentials.proofs.lennard_jones.over.Goals as goal
 
 pub by_blocks-requires : goal.by_blocks-requires

@@ -1,8 +1,6 @@
-use Prim.Native.Nat.{◌≤◌, ◌-◌}
 use Rattle.potentials.proofs.Blocks.{pulled_none, pulled_turn, pulled_end}
-use Rattle.potentials.specs.Blocks.{lj_energy_on, lj_slope_on, Pulled}
-use lib.ListN.{length}
-use mathlib.Core.Path.{◌≡◌, refl, ◌∙◌}
+use Rattle.potentials.specs.Blocks.{lj_energy_on, lj_slope_on}
+use mathlib.Core.Path.{refl, ◌∙◌}
 use native.Mathlib.Omega.{arith}
 use Rattle.potentials.proofs.lennard_jones.pull_all.Goals as goal
 

@@ -1,9 +1,7 @@
 use Prim.Native.Nat.{◌≤◌, ◌-◌}
-use Rattle.potentials.proofs.Blocks.{pulled_none, pulled_turn, pulled_end}
 use Rattle.potentials.specs.Blocks.{lj_energy_on, lj_slope_on, Pulled}
 use lib.ListN.{length}
-use mathlib.Core.Path.{◌≡◌, refl, ◌∙◌}
-use native.Mathlib.Omega.{arith}
+use mathlib.Core.Path.{◌≡◌}
 use Rattle.potentials.proofs.lennard_jones.pull_all.Given as goal
 
 abbrev pub invariant-loop-m : goal.invariant-loop-m

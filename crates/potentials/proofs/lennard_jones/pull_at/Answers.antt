@@ -1,6 +1,5 @@
 use Prim.Native.Nat.{◌*◌}
 use Rattle.potentials.specs.Blocks.{lj_energy_on, lj_slope_on}
-use borrow.Author.Rules.{rules}
 use lib.ListN.{length-set}
 use native.Mathlib.Omega.{arith}
 use Rattle.potentials.proofs.lennard_jones.pull_at.Goals as goal

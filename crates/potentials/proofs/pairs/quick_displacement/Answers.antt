@@ -1,5 +1,4 @@
 use Rattle.potentials.proofs.Kernels.{displaced_by}
-use borrow.Author.Rules.{rules}
 use mathlib.Core.Path.{refl, ◌∙◌}
 use Rattle.potentials.proofs.pairs.quick_displacement.Goals as goal
 

@@ -1,5 +1,4 @@
 use Prim.Native.Nat.{◌*◌, ◌+◌}
-use borrow.Author.Rules.{rules}
 use native.Mathlib.Omega.{arith}
 use Rattle.potentials.proofs.pairs.second_of.Goals as goal
 

@@ -1,4 +1,3 @@
-use borrow.Author.Rules.{rules}
 use mathlib.Core.Path.{refl}
 use Rattle.cell.specs.Vec.{position_at}
 use Rattle.potentials.proofs.pairs.spot_at.Goals as goal

@@ -1,5 +1,4 @@
 use Rattle.potentials.specs.Ranged.{bond_in_range}
-use borrow.Author.Rules.{rules}
 use Rattle.potentials.proofs.ranged.bond_in_range.Goals as goal
 
 pub returns : goal.returns

@@ -1,5 +1,4 @@
 use Rattle.potentials.proofs.Laid.{kept_added}
-use borrow.Author.Rules.{rules}
 use native.Mathlib.Omega.{arith}
 use Rattle.potentials.proofs.rows.add.Goals as goal
 

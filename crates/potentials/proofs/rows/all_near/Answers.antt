@@ -1,9 +1,6 @@
-use Prim.Native.Nat.{◌≤◌, ◌-◌}
 use Rattle.potentials.proofs.Laid.{axis_begin, axis_turn, axis_end}
-use Rattle.potentials.specs.Rows.{AxisSays}
-use borrow.Author.Rules.{rules}
-use lib.ListN.{length, length-set}
-use mathlib.Core.Path.{◌≡◌, refl}
+use lib.ListN.{length-set}
+use mathlib.Core.Path.{refl}
 use native.Mathlib.Omega.{arith}
 use Rattle.potentials.proofs.rows.all_near.Goals as goal
 

@@ -1,9 +1,5 @@
-use Prim.Native.Nat.{◌≤◌, ◌-◌}
 use Rattle.potentials.proofs.Laid.{rowed_begin, rowed_turn, rowed_end}
-use Rattle.potentials.specs.Rows.{Rowed}
-use borrow.Author.Rules.{rules}
-use lib.ListN.{length}
-use mathlib.Core.Path.{◌≡◌, refl, ◌∙◌}
+use mathlib.Core.Path.{refl, ◌∙◌}
 use native.Mathlib.Omega.{arith}
 use Rattle.potentials.proofs.rows.lay_each.Goals as goal
 

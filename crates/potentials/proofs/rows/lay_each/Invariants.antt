@@ -1,10 +1,7 @@
 use Prim.Native.Nat.{◌≤◌, ◌-◌}
-use Rattle.potentials.proofs.Laid.{rowed_begin, rowed_turn, rowed_end}
 use Rattle.potentials.specs.Rows.{Rowed}
-use borrow.Author.Rules.{rules}
 use lib.ListN.{length}
-use mathlib.Core.Path.{◌≡◌, refl, ◌∙◌}
-use native.Mathlib.Omega.{arith}
+use mathlib.Core.Path.{◌≡◌}
 use Rattle.potentials.proofs.rows.lay_each.Given as goal
 
 abbrev pub invariant-loop-t : goal.invariant-loop-t

@@ -1,4 +1,3 @@
-use borrow.Author.Rules.{rules}
 use Rattle.potentials.proofs.rows.lay_rows.Goals as goal
 
 pub returns-then-lay_short : goal.returns-then-lay_short

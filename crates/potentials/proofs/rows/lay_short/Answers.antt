@@ -1,5 +1,4 @@
 use Rattle.potentials.proofs.Laid.{rowed_short, rowed_not}
-use borrow.Author.Rules.{rules}
 use borrow.Author.Tests.{not-false}
 use mathlib.Core.Path.{refl}
 use Rattle.std.proofs.Common.{ap, not}

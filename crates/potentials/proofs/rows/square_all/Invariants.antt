@@ -1,10 +1,7 @@
 use Prim.Native.Nat.{◌≤◌, ◌-◌}
-use Rattle.potentials.proofs.Laid.{squared_begin, squared_turn, squared_end}
 use Rattle.potentials.specs.Rows.{Squared}
-use borrow.Author.Rules.{rules}
-use lib.ListN.{length, length-set}
-use mathlib.Core.Path.{◌≡◌, refl, ◌∙◌}
-use native.Mathlib.Omega.{arith}
+use lib.ListN.{length}
+use mathlib.Core.Path.{◌≡◌}
 use Rattle.potentials.proofs.rows.square_all.Given as goal
 
 abbrev pub invariant-loop-t : goal.invariant-loop-t

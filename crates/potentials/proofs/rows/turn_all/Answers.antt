@@ -1,5 +1,4 @@
 use Rattle.potentials.proofs.Laid.{box_turned}
-use borrow.Author.Rules.{rules}
 use Rattle.potentials.proofs.rows.turn_all.Goals as goal
 
 pub returns : goal.returns

@@ -1,6 +1,5 @@
 use Rattle.float.proofs.Branches.{yes}
 use Rattle.potentials.proofs.Laid.{axis_still, axis_settled}
-use borrow.Author.Rules.{rules}
 use Rattle.potentials.proofs.rows.turn_axis.Goals as goal
 
 pub returns-then-settle : goal.returns-then-settle

@@ -1,6 +1,5 @@
 use Rattle.potentials.proofs.Kernels.{both_there}
 use Rattle.potentials.specs.Rows.{way_of}
-use borrow.Author.Rules.{rules}
 use mathlib.Core.Path.{sym, ◌∙◌}
 use Rattle.potentials.proofs.rows.way_of.Goals as goal
 

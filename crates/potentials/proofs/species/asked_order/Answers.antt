@@ -1,5 +1,4 @@
 use Rattle.potentials.specs.Calls.{order_asked}
-use borrow.Author.Rules.{rules}
 use borrow.Author.Tests.{not-true, not-false}
 use mathlib.Core.Path.{sym, ◌∙◌}
 use Rattle.std.proofs.Common.{ap, not}

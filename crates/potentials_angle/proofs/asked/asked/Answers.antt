@@ -1,5 +1,4 @@
 use Rattle.potentials_angle.specs.Calls.{angles_asked}
-use borrow.Author.Rules.{rules}
 use Rattle.potentials_angle.proofs.asked.asked.Goals as goal
 
 pub returns : goal.returns

@@ -1,5 +1,4 @@
 use Rattle.potentials_angle.specs.Calls.{angles_ranges}
-use borrow.Author.Rules.{rules}
 use Rattle.potentials_angle.proofs.asked.in_range.Goals as goal
 
 pub returns : goal.returns

@@ -1,4 +1,3 @@
-use borrow.Author.Rules.{rules}
 use Rattle.potentials_angle.proofs.bends.apply.Goals as goal
 
 pub returns-in-Skip : goal.returns-in-Skip

@@ -1,5 +1,4 @@
 use Rattle.potentials_angle.specs.Bend.{bend_of}
-use borrow.Author.Rules.{rules}
 use Rattle.potentials_angle.proofs.bends.bend.Goals as goal
 
 pub returns-then-is_short_arm : goal.returns-then-is_short_arm

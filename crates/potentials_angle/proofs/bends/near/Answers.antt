@@ -1,5 +1,4 @@
 use Rattle.potentials_angle.specs.Bend.{bend_near}
-use borrow.Author.Rules.{rules}
 use Rattle.potentials_angle.proofs.bends.near.Goals as goal
 
 pub returns : goal.returns

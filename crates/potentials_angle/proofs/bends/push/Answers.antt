@@ -1,5 +1,4 @@
 use Rattle.potentials_angle.specs.Bend.{forces_with_bend}
-use borrow.Author.Rules.{rules}
 use Rattle.potentials_angle.proofs.bends.push.Goals as goal
 
 pub returns : goal.returns

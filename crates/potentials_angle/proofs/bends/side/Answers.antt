@@ -1,5 +1,4 @@
 use Rattle.potentials_angle.specs.Bend.{side_of}
-use borrow.Author.Rules.{rules}
 use Rattle.potentials_angle.proofs.bends.side.Goals as goal
 
 pub returns : goal.returns

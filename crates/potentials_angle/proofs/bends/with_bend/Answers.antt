@@ -1,5 +1,4 @@
 use Rattle.potentials_angle.specs.Bend.{sum_with_bend}
-use borrow.Author.Rules.{rules}
 use Rattle.potentials_angle.proofs.bends.with_bend.Goals as goal
 
 pub returns : goal.returns

@@ -1,5 +1,4 @@
 use Rattle.potentials_angle.proofs.Kernels.{angles_from_zero}
-use borrow.Author.Rules.{rules}
 use lib.ListN.{length}
 use Rattle.potentials_angle.proofs.kernel.angles_all.Goals as goal
 

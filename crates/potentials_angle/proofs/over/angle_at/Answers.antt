@@ -1,5 +1,4 @@
 use Rattle.potentials_angle.specs.Terms.{angle_at}
-use borrow.Author.Rules.{rules}
 use borrow.Author.Tests.{lt-ltb, le-ltb}
 use Rattle.potentials_angle.proofs.over.angle_at.Goals as goal
 

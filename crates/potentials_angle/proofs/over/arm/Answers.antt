@@ -1,5 +1,4 @@
 use Rattle.potentials.proofs.Kernels.{displaced_by}
-use borrow.Author.Rules.{rules}
 use Rattle.potentials_angle.proofs.over.arm.Goals as goal
 
 pub returns : goal.returns

@@ -1,5 +1,4 @@
 use Rattle.potentials_angle.specs.Terms.{angle_bend}
-use borrow.Author.Rules.{rules}
 use Rattle.potentials_angle.proofs.over.bend_at.Goals as goal
 
 pub returns : goal.returns

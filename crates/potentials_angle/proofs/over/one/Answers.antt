@@ -1,6 +1,5 @@
 use Rattle.potentials_angle.proofs.Kernels.{three_there}
 use Rattle.potentials_angle.specs.Terms.{angle_step}
-use borrow.Author.Rules.{rules}
 use mathlib.Core.Path.{sym, ◌∙◌}
 use Rattle.potentials_angle.proofs.over.one.Goals as goal
 

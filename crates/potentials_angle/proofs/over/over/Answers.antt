@@ -1,12 +1,7 @@
-use Prim.Native.Nat.{◌≤◌, ◌-◌, ◌/◌}
-use Rattle.cell_prepared.specs.Facts.{image_in}
-use Rattle.lists.specs.Lists.{up_to}
-use Rattle.potentials.proofs.Folds.{Left, left_begin, numbers_turn, numbers_over}
-use Rattle.potentials_angle.specs.Terms.{angle_step}
-use Rattle.potentials_pair.specs.Pull.{held}
+use Prim.Native.Nat.{◌/◌}
+use Rattle.potentials.proofs.Folds.{left_begin, numbers_turn, numbers_over}
 use lib.ListN.{length}
-use mathlib.Core.List.{foldl}
-use mathlib.Core.Path.{◌≡◌, refl, ◌∙◌}
+use mathlib.Core.Path.{refl, ◌∙◌}
 use native.Mathlib.Omega.{arith}
 use Rattle.potentials_angle.proofs.over.over.Goals as goal
 

@@ -1,13 +1,12 @@
 use Prim.Native.Nat.{◌≤◌, ◌-◌, ◌/◌}
 use Rattle.cell_prepared.specs.Facts.{image_in}
 use Rattle.lists.specs.Lists.{up_to}
-use Rattle.potentials.proofs.Folds.{Left, left_begin, numbers_turn, numbers_over}
+use Rattle.potentials.proofs.Folds.{Left}
 use Rattle.potentials_angle.specs.Terms.{angle_step}
 use Rattle.potentials_pair.specs.Pull.{held}
 use lib.ListN.{length}
 use mathlib.Core.List.{foldl}
-use mathlib.Core.Path.{◌≡◌, refl, ◌∙◌}
-use native.Mathlib.Omega.{arith}
+use mathlib.Core.Path.{◌≡◌}
 use Rattle.potentials_angle.proofs.over.over.Given as goal
 
 abbrev pub invariant-loop-r : goal.invariant-loop-r

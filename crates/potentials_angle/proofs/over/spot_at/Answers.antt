@@ -1,5 +1,4 @@
 use Rattle.cell.specs.Vec.{position_at}
-use borrow.Author.Rules.{rules}
 use mathlib.Core.Path.{refl}
 use Rattle.potentials_angle.proofs.over.spot_at.Goals as goal
 

@@ -1,5 +1,4 @@
 use Rattle.potentials_angle.specs.Ranged.{angle_in_range}
-use borrow.Author.Rules.{rules}
 use Rattle.potentials_angle.proofs.ranged.angle_in_range.Goals as goal
 
 pub returns : goal.returns

@@ -1,5 +1,4 @@
 use Rattle.potentials_angle.specs.Ranged.{angle_row}
-use borrow.Author.Rules.{rules}
 use mathlib.Core.Path.{refl}
 use Rattle.potentials_angle.proofs.ranged.angle_row.Goals as goal
 

@@ -1,13 +1,8 @@
 use Prim.Native.Nat.{◌≤◌, ◌-◌, ◌/◌}
 use Rattle.lists.specs.Lists.{numbers, every}
-use Rattle.potentials_angle.proofs.Kernels.{every_begins, every_holds, every_breaks, every_ends}
 use Rattle.potentials_angle.specs.Ranged.{angle_in_range, angle_row, per_angle_in_range}
-use borrow.Author.Rules.{rules}
-use borrow.Author.Tests.{not-true, not-false}
 use lib.ListN.{length}
-use mathlib.Core.Path.{sym, ◌≡◌, ◌∙◌, ap}
-use native.Mathlib.Omega.{arith}
-use Rattle.std.proofs.Common.{not}
+use mathlib.Core.Path.{◌≡◌}
 use Rattle.potentials_angle.proofs.ranged.per_angle_in_range.Given as goal
 
 abbrev pub invariant-loop-r : goal.invariant-loop-r

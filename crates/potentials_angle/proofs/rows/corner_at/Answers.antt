@@ -1,5 +1,4 @@
 use Rattle.potentials_angle.specs.Rows.{corner_at}
-use borrow.Author.Rules.{rules}
 use Rattle.potentials_angle.proofs.rows.corner_at.Goals as goal
 
 pub returns : goal.returns

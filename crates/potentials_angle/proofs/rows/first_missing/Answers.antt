@@ -1,10 +1,8 @@
-use Prim.Native.Nat.{◌≤◌, ◌+◌, ◌-◌, ◌/◌}
-use Rattle.lists.specs.Lists.{numbers, first_where}
+use Prim.Native.Nat.{◌/◌}
 use Rattle.potentials_angle.proofs.Kernels.{first_begins, first_found, first_later, first_ends}
 use Rattle.potentials_angle.specs.Rows.{corner_at, is_missing, missing_of}
-use borrow.Author.Rules.{rules}
 use lib.ListN.{length}
-use mathlib.Core.Path.{sym, ◌≡◌, ◌∙◌, ap}
+use mathlib.Core.Path.{sym, ◌∙◌, ap}
 use native.Mathlib.Omega.{arith}
 use Rattle.potentials_angle.proofs.rows.first_missing.Goals as goal
 

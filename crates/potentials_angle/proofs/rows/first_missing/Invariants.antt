@@ -1,11 +1,8 @@
 use Prim.Native.Nat.{◌≤◌, ◌+◌, ◌-◌, ◌/◌}
 use Rattle.lists.specs.Lists.{numbers, first_where}
-use Rattle.potentials_angle.proofs.Kernels.{first_begins, first_found, first_later, first_ends}
 use Rattle.potentials_angle.specs.Rows.{corner_at, is_missing, missing_of}
-use borrow.Author.Rules.{rules}
 use lib.ListN.{length}
-use mathlib.Core.Path.{sym, ◌≡◌, ◌∙◌, ap}
-use native.Mathlib.Omega.{arith}
+use mathlib.Core.Path.{◌≡◌}
 use Rattle.potentials_angle.proofs.rows.first_missing.Given as goal
 
 abbrev pub invariant-loop-r : goal.invariant-loop-r

@@ -1,5 +1,4 @@
 use Rattle.potentials.specs.Calls.{bonds_ranges}
-use borrow.Author.Rules.{rules}
 use Rattle.potentials_calls.proofs.asked.bonds_ranges.Goals as goal
 
 pub returns : goal.returns

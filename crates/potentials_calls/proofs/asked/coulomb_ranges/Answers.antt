@@ -1,5 +1,4 @@
 use Rattle.potentials.specs.Calls.{coulomb_ranges}
-use borrow.Author.Rules.{rules}
 use Rattle.potentials_calls.proofs.asked.coulomb_ranges.Goals as goal
 
 pub returns : goal.returns

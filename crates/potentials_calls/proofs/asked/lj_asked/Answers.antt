@@ -1,5 +1,4 @@
 use Rattle.potentials.specs.Calls.{lj_asked}
-use borrow.Author.Rules.{rules}
 use Rattle.potentials_calls.proofs.asked.lj_asked.Goals as goal
 
 pub returns : goal.returns

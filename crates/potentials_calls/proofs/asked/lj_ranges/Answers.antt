@@ -1,5 +1,4 @@
 use Rattle.potentials.specs.Calls.{lj_ranges}
-use borrow.Author.Rules.{rules}
 use Rattle.potentials_calls.proofs.asked.lj_ranges.Goals as goal
 
 pub returns : goal.returns

@@ -1,5 +1,4 @@
 use Rattle.potentials.specs.Calls.{rows_asked}
-use borrow.Author.Rules.{rules}
 use Rattle.potentials_calls.proofs.asked.rows_asked.Goals as goal
 
 pub returns : goal.returns

@@ -1,7 +1,6 @@
 use Prim.Native.Nat.{◌/◌}
 use Rattle.lists.specs.Lists.{all_pairs}
 use Rattle.potentials.proofs.Kernels.{coulomb_from_zero}
-use borrow.Author.Rules.{rules}
 use lib.ListN.{length}
 use Rattle.potentials_calls.proofs.every.coulomb_all.Goals as goal
 

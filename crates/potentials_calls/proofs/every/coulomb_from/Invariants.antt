@@ -1,14 +1,11 @@
-use Prim.Native.Nat.{◌*◌, ◌/◌}
+use Prim.Native.Nat.{◌/◌}
 use Rattle.lists.specs.Lists.{all_pairs}
 use Rattle.potentials.specs.Steps.{coulomb_step}
-use Rattle.potentials_calls.proofs.AllPairs.{filled_less, left_turn, left_first, left_last}
 use Rattle.potentials_calls.specs.AllPairs.{pairs_from, PairsLeft}
 use Rattle.potentials_pair.specs.Pull.{held}
 use lib.ListN.{length}
-use lib.Seq.{length-take-le}
 use mathlib.Core.List.{foldl}
-use mathlib.Core.Path.{◌≡◌, refl, sym, ◌∙◌}
-use native.Mathlib.Omega.{arith}
+use mathlib.Core.Path.{◌≡◌}
 use Rattle.potentials_calls.proofs.every.coulomb_from.Given as goal
 
 abbrev pub invariant-loop-j : goal.invariant-loop-j

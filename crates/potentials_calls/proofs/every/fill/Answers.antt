@@ -1,8 +1,5 @@
-use Prim.Native.Nat.{◌-◌}
 use Rattle.potentials_calls.proofs.AllPairs.{both_below, filled_first, filled_turn}
-use Rattle.potentials_calls.specs.AllPairs.{PairsFilled}
-use lib.ListN.{length}
-use mathlib.Core.Path.{◌≡◌, refl, ◌∙◌}
+use mathlib.Core.Path.{refl, ◌∙◌}
 use native.Mathlib.Omega.{arith}
 use Rattle.potentials_calls.proofs.every.fill.Goals as goal
 

@@ -1,9 +1,7 @@
 use Prim.Native.Nat.{◌-◌}
-use Rattle.potentials_calls.proofs.AllPairs.{both_below, filled_first, filled_turn}
 use Rattle.potentials_calls.specs.AllPairs.{PairsFilled}
 use lib.ListN.{length}
-use mathlib.Core.Path.{◌≡◌, refl, ◌∙◌}
-use native.Mathlib.Omega.{arith}
+use mathlib.Core.Path.{◌≡◌}
 use Rattle.potentials_calls.proofs.every.fill.Given as goal
 
 abbrev pub invariant-loop-c : goal.invariant-loop-c

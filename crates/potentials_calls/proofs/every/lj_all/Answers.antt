@@ -1,7 +1,6 @@
 use Prim.Native.Nat.{◌/◌}
 use Rattle.lists.specs.Lists.{all_pairs}
 use Rattle.potentials.proofs.Kernels.{lj_from_zero}
-use borrow.Author.Rules.{rules}
 use lib.ListN.{length}
 use Rattle.potentials_calls.proofs.every.lj_all.Goals as goal
 

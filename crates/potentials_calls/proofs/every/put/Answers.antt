@@ -1,5 +1,4 @@
 use Rattle.potentials_calls.proofs.AllPairs.{put_partner, put_atom}
-use borrow.Author.Rules.{rules}
 use lib.ListN.{length-set}
 use mathlib.Core.Path.{refl}
 use native.Mathlib.Omega.{arith}

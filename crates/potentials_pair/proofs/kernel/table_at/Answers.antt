@@ -1,5 +1,4 @@
 use Rattle.lists.proofs.Walks.{any_default}
-use borrow.Author.Rules.{rules}
 use lib.Ieee.{nan}
 use lib.ListN.{get_or-eq_default}
 use mathlib.Core.Path.{sym}

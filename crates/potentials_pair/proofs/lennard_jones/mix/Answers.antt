@@ -1,5 +1,4 @@
 use Rattle.potentials_pair.specs.Lj.{mix_of}
-use borrow.Author.Rules.{rules}
 use Rattle.potentials_pair.proofs.lennard_jones.mix.Goals as goal
 
 pub returns : goal.returns

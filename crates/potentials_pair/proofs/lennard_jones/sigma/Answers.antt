@@ -1,5 +1,4 @@
 use Rattle.potentials_pair.specs.Lj.{sigma_of}
-use borrow.Author.Rules.{rules}
 use Rattle.potentials_pair.proofs.lennard_jones.sigma.Goals as goal
 
 pub returns-in-HalfSum : goal.returns-in-HalfSum

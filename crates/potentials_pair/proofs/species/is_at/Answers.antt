@@ -1,5 +1,4 @@
 use Rattle.potentials_pair.specs.Species.{is_at}
-use borrow.Author.Rules.{rules}
 use borrow.Author.Tests.{lt-ltb, le-ltb}
 use Rattle.potentials_pair.proofs.species.is_at.Goals as goal
 

@@ -1,10 +1,7 @@
-use Prim.Native.Nat.{◌≤◌, ◌-◌}
-use Rattle.potentials_pair.proofs.Lookup.{left, rising_passes, rising_fails, rising_past}
+use Rattle.potentials_pair.proofs.Lookup.{rising_passes, rising_fails, rising_past}
 use Rattle.potentials_pair.specs.Species.{rising}
-use borrow.Author.Rules.{rules}
 use borrow.Author.Tests.{not-true, not-false}
-use lib.ListN.{length}
-use mathlib.Core.Path.{◌≡◌, refl, sym, ◌∙◌}
+use mathlib.Core.Path.{refl, sym, ◌∙◌}
 use native.Mathlib.Omega.{arith}
 use Rattle.std.proofs.Common.{ap, not}
 use Rattle.potentials_pair.proofs.species.is_rising.Goals as goal

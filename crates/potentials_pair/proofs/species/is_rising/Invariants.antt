@@ -1,12 +1,8 @@
 use Prim.Native.Nat.{◌≤◌, ◌-◌}
-use Rattle.potentials_pair.proofs.Lookup.{left, rising_passes, rising_fails, rising_past}
+use Rattle.potentials_pair.proofs.Lookup.{left}
 use Rattle.potentials_pair.specs.Species.{rising}
-use borrow.Author.Rules.{rules}
-use borrow.Author.Tests.{not-true, not-false}
 use lib.ListN.{length}
-use mathlib.Core.Path.{◌≡◌, refl, sym, ◌∙◌}
-use native.Mathlib.Omega.{arith}
-use Rattle.std.proofs.Common.{ap, not}
+use mathlib.Core.Path.{◌≡◌}
 use Rattle.potentials_pair.proofs.species.is_rising.Given as goal
 
 abbrev pub invariant-loop-k : goal.invariant-loop-k

@@ -1,5 +1,4 @@
 use Rattle.potentials_pair.specs.Species.{look_by, row_by}
-use borrow.Author.Rules.{rules}
 use borrow.Author.Tests.{lt-ltb, le-ltb}
 use Rattle.potentials_pair.proofs.species.look.Goals as goal
 

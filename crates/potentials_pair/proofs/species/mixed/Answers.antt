@@ -1,4 +1,3 @@
-use borrow.Author.Rules.{rules}
 use Rattle.potentials_pair.proofs.species.mixed.Goals as goal
 
 pub returns : goal.returns

@@ -1,14 +1,9 @@
 use Prim.Native.Nat.{◌≤◌, ◌-◌}
-use Rattle.lists.proofs.Halving.{turn_up, turn_down, halved_stop}
 use Rattle.lists.specs.Loops.{halved}
 use Rattle.potentials_pair.specs.Species.{place_in}
-use borrow.Author.Rules.{rules}
-use borrow.Author.Tests.{lt-ltb, le-ltb}
 use lib.Dec.{ltb}
 use lib.ListN.{length, get_or}
-use mathlib.Core.Path.{◌≡◌, sym, ◌∙◌}
-use native.Mathlib.Nat.{sub-zero}
-use native.Mathlib.Omega.{arith}
+use mathlib.Core.Path.{◌≡◌}
 use Rattle.potentials_pair.proofs.species.place_in.Given as goal
 
 abbrev pub invariant-loop-from : goal.invariant-loop-from

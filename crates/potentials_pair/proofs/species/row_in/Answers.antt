@@ -1,5 +1,4 @@
 use Rattle.potentials_pair.specs.Species.{row_in_by}
-use borrow.Author.Rules.{rules}
 use Rattle.potentials_pair.proofs.species.row_in.Goals as goal
 
 pub returns-then-is_at : goal.returns-then-is_at

@@ -1,11 +1,9 @@
 use Prim.Native.Nat.{◌≤◌, ◌-◌}
 use Rattle.lists.specs.Lists.{every}
-use Rattle.ranges.proofs.Looked.{all_next, all_past}
 use Rattle.ranges.specs.Rows.{is_below}
-use borrow.Author.Rules.{rules}
 use lib.ListN.{length, drop}
 use mathlib.Core.Bool.{◌&&◌}
-use mathlib.Core.Path.{◌≡◌, refl, sym, ◌∙◌}
+use mathlib.Core.Path.{◌≡◌}
 use Rattle.ranges.proofs.rows.all_below.Given as goal
 
 abbrev pub invariant-loop-k : goal.invariant-loop-k

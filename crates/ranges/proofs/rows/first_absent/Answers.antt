@@ -1,12 +1,9 @@
-use Prim.Native.Nat.{◌≤◌, ◌+◌, ◌-◌, ◌/◌}
 use Rattle.lists.proofs.Rows.{length_rows}
 use Rattle.lists.proofs.Walks.{first_passes, first_fails, first_past}
-use Rattle.lists.specs.Lists.{rows, first_where}
+use Rattle.lists.specs.Lists.{rows}
 use Rattle.ranges.proofs.Looked.{absent_past}
 use Rattle.ranges.specs.Rows.{is_absent, absent_of}
-use borrow.Author.Rules.{rules}
-use lib.ListN.{length, drop}
-use mathlib.Core.Path.{sym, ◌≡◌, ◌∙◌}
+use mathlib.Core.Path.{sym, ◌∙◌}
 use native.Mathlib.Omega.{arith}
 use Rattle.ranges.proofs.rows.first_absent.Goals as goal
 

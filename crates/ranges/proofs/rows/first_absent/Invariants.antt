@@ -1,13 +1,8 @@
 use Prim.Native.Nat.{◌≤◌, ◌+◌, ◌-◌, ◌/◌}
-use Rattle.lists.proofs.Rows.{length_rows}
-use Rattle.lists.proofs.Walks.{first_passes, first_fails, first_past}
 use Rattle.lists.specs.Lists.{rows, first_where}
-use Rattle.ranges.proofs.Looked.{absent_past}
 use Rattle.ranges.specs.Rows.{is_absent, absent_of}
-use borrow.Author.Rules.{rules}
 use lib.ListN.{length, drop}
-use mathlib.Core.Path.{sym, ◌≡◌, ◌∙◌}
-use native.Mathlib.Omega.{arith}
+use mathlib.Core.Path.{◌≡◌}
 use Rattle.ranges.proofs.rows.first_absent.Given as goal
 
 abbrev pub invariant-loop-k : goal.invariant-loop-k

@@ -1,5 +1,4 @@
 use Rattle.lists.proofs.Rows.{rows_at}
-use borrow.Author.Rules.{rules}
 use Rattle.ranges.proofs.rows.is_absent.Goals as goal
 
 pub returns : goal.returns

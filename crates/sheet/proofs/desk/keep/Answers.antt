@@ -1,5 +1,4 @@
 use Rattle.sheet.proofs.Arms.{header_again, header_kept, atom_again, atom_kept, exclusion_over, exclusion_kept, malformed_line, end_line}
-use borrow.Author.Rules.{rules}
 use mathlib.Core.Path.{sym, ◌∙◌}
 use Rattle.sheet.proofs.desk.keep.Goals as goal
 

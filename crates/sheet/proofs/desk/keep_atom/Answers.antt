@@ -1,7 +1,6 @@
 use Prim.Native.Nat.{◌<◌}
 use Rattle.sheet.proofs.Keeping.{get_d_any}
 use Rattle.sheet.specs.Meaning.{placed}
-use borrow.Author.Rules.{rules}
 use borrow.Author.Tests.{eq-eqb, ne_eqb}
 use lib.ListN.{length, length-set}
 use mathlib.Core.Path.{refl, ◌∙◌}

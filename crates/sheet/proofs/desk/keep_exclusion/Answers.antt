@@ -1,5 +1,4 @@
 use Rattle.sheet.proofs.Keeping.{when_answered, when_refused}
-use borrow.Author.Rules.{rules}
 use native.Mathlib.Omega.{arith}
 use Rattle.sheet.proofs.desk.keep_exclusion.Goals as goal
 

@@ -1,8 +1,5 @@
-use Prim.Native.Nat.{◌-◌}
 use Rattle.sheet.proofs.Keeping.{below_line}
-use Rattle.sheet.proofs.Turns.{Halfway, halfway_start, kept_wide, halfway_next, halfway_stop, halfway_end}
-use borrow.Author.Rules.{rules}
-use lib.ListN.{length}
+use Rattle.sheet.proofs.Turns.{halfway_start, kept_wide, halfway_next, halfway_stop, halfway_end}
 use mathlib.Core.Path.{sym, ◌∙◌}
 use native.Mathlib.Omega.{arith}
 use Rattle.sheet.proofs.desk.read_lines.Goals as goal

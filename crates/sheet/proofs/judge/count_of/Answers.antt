@@ -1,6 +1,5 @@
 use Rattle.sheet.proofs.Leads.{stray_is, absent_is}
 use Rattle.sheet.specs.Reading.{counted}
-use borrow.Author.Rules.{rules}
 use borrow.Author.Tests.{lt-ltb, le-ltb}
 use Rattle.sheet.proofs.judge.count_of.Goals as goal
 

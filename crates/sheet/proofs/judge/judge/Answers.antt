@@ -1,4 +1,3 @@
-use borrow.Author.Rules.{rules}
 use Rattle.sheet.proofs.judge.judge.Goals as goal
 
 pub returns-then-desk : goal.returns-then-desk

@@ -1,8 +1,5 @@
-use Prim.Native.Nat.{◌≤◌, ◌+◌, ◌-◌}
 use Rattle.sheet.proofs.Leads.{lead_more, lead_stop, lead_end}
-use Rattle.sheet.specs.Reading.{lead_of}
-use lib.ListN.{length, drop}
-use mathlib.Core.Path.{◌≡◌, refl}
+use mathlib.Core.Path.{refl}
 use native.Mathlib.Omega.{arith}
 use Rattle.sheet.proofs.judge.lead.Goals as goal
 

@@ -1,9 +1,7 @@
 use Prim.Native.Nat.{◌≤◌, ◌+◌, ◌-◌}
-use Rattle.sheet.proofs.Leads.{lead_more, lead_stop, lead_end}
 use Rattle.sheet.specs.Reading.{lead_of}
 use lib.ListN.{length, drop}
-use mathlib.Core.Path.{◌≡◌, refl}
-use native.Mathlib.Omega.{arith}
+use mathlib.Core.Path.{◌≡◌}
 use Rattle.sheet.proofs.judge.lead.Given as goal
 
 abbrev pub invariant-loop-i : goal.invariant-loop-i

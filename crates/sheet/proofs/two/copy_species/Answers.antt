@@ -1,4 +1,3 @@
-use Prim.Native.Nat.{◌≤◌, ◌-◌, ◌*◌}
 use Rattle.sheet.proofs.TurnsTwo.{one_species}
 use Rattle.sheet.specs.ReadTwo.{species_in}
 use lib.ListN.{length}

@@ -1,10 +1,7 @@
-use Prim.Native.Nat.{◌≤◌, ◌-◌, ◌*◌}
-use Rattle.sheet.proofs.TurnsTwo.{one_species}
+use Prim.Native.Nat.{◌≤◌, ◌-◌}
 use Rattle.sheet.specs.ReadTwo.{species_in}
-use lib.ListN.{length}
-use lib.Seq.{sets, length-sets}
-use mathlib.Core.Path.{◌≡◌, refl, ap, ◌∙◌}
-use native.Mathlib.Omega.{arith}
+use lib.Seq.{sets}
+use mathlib.Core.Path.{◌≡◌}
 use Rattle.sheet.proofs.two.copy_species.Given as goal
 
 abbrev pub invariant-loop-i : goal.invariant-loop-i

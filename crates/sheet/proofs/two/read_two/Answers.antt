@@ -1,5 +1,4 @@
 use Rattle.sheet.proofs.SettlingTwo.{long_two, no_room_two, no_species, no_rows_two, kinds_refused, two_refused, two_whole}
-use borrow.Author.Rules.{rules}
 use Rattle.sheet.proofs.two.read_two.Goals as goal
 
 pub returns-then-input-gt65536 : goal.returns-then-input-gt65536

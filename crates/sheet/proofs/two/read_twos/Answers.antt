@@ -1,7 +1,6 @@
 use Prim.Native.Nat.{◌-◌}
-use Rattle.sheet.proofs.Turning.{Half, half_start, half_wide, half_next, half_stop, half_end}
+use Rattle.sheet.proofs.Turning.{half_start, half_wide, half_next, half_stop, half_end}
 use Rattle.sheet.proofs.TurnsTwo.{told_from, one_two, told_end, told_all, below_two}
-use borrow.Author.Rules.{rules}
 use lib.ListN.{length}
 use mathlib.Core.Path.{sym, ◌∙◌}
 use native.Mathlib.Omega.{arith}

@@ -1,10 +1,7 @@
 use Prim.Native.Nat.{◌-◌}
-use Rattle.sheet.proofs.Turning.{Half, half_start, half_wide, half_next, half_stop, half_end}
-use Rattle.sheet.proofs.TurnsTwo.{told_from, one_two, told_end, told_all, below_two}
-use borrow.Author.Rules.{rules}
+use Rattle.sheet.proofs.Turning.{Half}
+use Rattle.sheet.proofs.TurnsTwo.{told_from}
 use lib.ListN.{length}
-use mathlib.Core.Path.{sym, ◌∙◌}
-use native.Mathlib.Omega.{arith}
 use Rattle.sheet.proofs.two.read_twos.Given as goal
 
 abbrev pub invariant-loop-at : goal.invariant-loop-at

@@ -2,7 +2,6 @@ use Rattle.answer.specs.Seen.{answered}
 use Rattle.sheet.proofs.SettlingTwo.{job_few, settled_two, unsettled_two}
 use Rattle.sheet.specs.Desk.{meaning_for}
 use Rattle.sheet.specs.Reading.{then_tested}
-use borrow.Author.Rules.{rules}
 use native.Mathlib.Omega.{arith}
 use Rattle.sheet.proofs.two.settle_two.Goals as goal
 

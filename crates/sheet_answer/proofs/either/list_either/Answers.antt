@@ -1,6 +1,5 @@
 use Prim.Native.Nat.{ℕ}
 use Rattle.sheet_answer.proofs.TellingEither.{either_answered, either_refused}
-use borrow.Author.Rules.{rules}
 use lib.ListN.{replicate, length-replicate}
 use mathlib.Core.Path.{◌∙◌}
 use native.Mathlib.Omega.{arith}

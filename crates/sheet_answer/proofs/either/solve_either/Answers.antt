@@ -1,7 +1,6 @@
 use Rattle.answer.specs.declared.Refusal.TheVariants.{Lengths}
 use Rattle.answer.specs.declared.Whole.TheVariants.{Answered, Refused}
 use Rattle.sheet_answer.proofs.TellingEither.{either_fits, either_listed, either_small, either_solved}
-use borrow.Author.Rules.{rules}
 use Rattle.sheet_answer.proofs.either.solve_either.Goals as goal
 
 pub returns-then-out-lt90133 : goal.returns-then-out-lt90133

@@ -1,7 +1,6 @@
 use Prim.Native.Nat.{ℕ}
 use Rattle.lists.proofs.Cases.{impossible}
 use Rattle.sheet_answer.proofs.Telling.{read_answered, read_refused}
-use borrow.Author.Rules.{rules}
 use lib.ListN.{replicate, length-replicate}
 use mathlib.Core.Path.{◌∙◌}
 use native.Mathlib.Omega.{arith}

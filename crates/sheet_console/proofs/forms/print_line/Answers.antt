@@ -1,6 +1,5 @@
 use Prim.Native.Nat.{ℕ}
 use Rattle.sheet_printed.proofs.Parts.{length_refusal}
-use borrow.Author.Rules.{rules}
 use lib.ListN.{length-replicate}
 use lib.Seq.{length-take-le}
 use mathlib.Core.Path.{sym}

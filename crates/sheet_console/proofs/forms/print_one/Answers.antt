@@ -1,7 +1,6 @@
 use Rattle.sheet_moved.proofs.ThereAndBack.{to_one_fits}
 use Rattle.sheet_moved.specs.Moved.{seen_moved}
 use Rattle.sheet_written.specs.Write.{Outcome}
-use borrow.Author.Rules.{rules}
 use lib.Seq.{length-take-le}
 use mathlib.Core.Path.{ap, sym}
 use Rattle.sheet_console.proofs.forms.print_one.Goals as goal

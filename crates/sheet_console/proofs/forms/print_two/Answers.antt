@@ -1,7 +1,6 @@
 use Rattle.answer.specs.Seen.{seen_whole}
 use Rattle.sheet_moved.proofs.ThereAndBack.{to_two_fits}
 use Rattle.sheet_written.specs.Write.{Outcome}
-use borrow.Author.Rules.{rules}
 use lib.Seq.{length-take-le}
 use mathlib.Core.Path.{ap, sym}
 use Rattle.sheet_console.proofs.forms.print_two.Goals as goal

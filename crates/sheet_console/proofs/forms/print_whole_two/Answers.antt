@@ -1,6 +1,5 @@
 use Rattle.sheet_moved.proofs.Whole.{two_whole}
 use Rattle.sheet_written.specs.Write.{Outcome}
-use borrow.Author.Rules.{rules}
 use mathlib.Core.Path.{ap, ◌∙◌}
 use Rattle.sheet_console.proofs.forms.print_whole_two.Goals as goal
 

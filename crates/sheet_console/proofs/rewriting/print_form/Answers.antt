@@ -1,7 +1,6 @@
 use Rattle.answer.specs.Seen.{seen_whole}
 use Rattle.sheet_rewritten.proofs.Fitting.{rewrite_fits}
 use Rattle.sheet_rewritten.specs.Rewrite.{Outcome}
-use borrow.Author.Rules.{rules}
 use lib.Seq.{length-take-le}
 use mathlib.Core.Path.{ap, sym}
 use Rattle.sheet_console.proofs.rewriting.print_form.Goals as goal

@@ -1,6 +1,5 @@
 use Rattle.sheet_rewritten.proofs.Forms.{rewrote}
 use Rattle.sheet_rewritten.specs.Rewrite.{Outcome, rewritten}
-use borrow.Author.Rules.{rules}
 use lib.ListN.{length}
 use lib.Seq.{sets}
 use mathlib.Core.Path.{ap, refl, sym, ◌∙◌}

@@ -1,6 +1,5 @@
 use Rattle.frame.proofs.Ranges.{failed, passed}
 use Rattle.sheet_written.proofs.Cases.{ask_lengths, ask_many, ask_range, ask_table, ask_fine}
-use borrow.Author.Rules.{rules}
 use mathlib.Core.Path.{◌∙◌, sym}
 use Rattle.std.proofs.Common.{ap, not}
 use Rattle.sheet_written.proofs.asked.asked.Goals as goal

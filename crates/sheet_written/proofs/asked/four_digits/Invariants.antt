@@ -1,11 +1,8 @@
-use Prim.Native.Nat.{◌-◌, ◌≤◌}
-use Rattle.lists.proofs.Walks.{every_passes, every_fails, every_past}
+use Prim.Native.Nat.{◌-◌}
 use Rattle.lists.specs.Lists.{every}
-use borrow.Author.Tests.{le-leb, lt-leb}
 use lib.Dec.{leb}
 use lib.ListN.{length, drop}
-use mathlib.Core.Path.{◌≡◌, sym, ◌∙◌, refl}
-use native.Mathlib.Omega.{arith}
+use mathlib.Core.Path.{◌≡◌}
 use Rattle.sheet_written.proofs.asked.four_digits.Given as goal
 
 abbrev pub invariant-loop-i : goal.invariant-loop-i

@@ -1,5 +1,4 @@
 use Rattle.sheet_written.proofs.Cases.{too_long, as_tested}
-use borrow.Author.Rules.{rules}
 use Rattle.sheet_written.proofs.asked.table_fits.Goals as goal
 
 pub returns-then-table-gt1024 : goal.returns-then-table-gt1024

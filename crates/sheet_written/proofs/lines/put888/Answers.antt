@@ -1,5 +1,4 @@
 use Rattle.sheet_written.proofs.OneAfterAnother.{three_put}
-use borrow.Author.Rules.{rules}
 use Rattle.sheet_written.proofs.lines.put888.Goals as goal
 
 pub returns : goal.returns

@@ -3,7 +3,6 @@ use Rattle.hexadecimal.specs.Glyphs.{text2, text4}
 use Rattle.sheet_lines.specs.Grammar.{line_text, text888}
 use Rattle.sheet_printed.proofs.Parts.{three_parts}
 use Rattle.sheet_written.proofs.OneAfterAnother.{long888}
-use borrow.Author.Rules.{rules}
 use Rattle.sheet_written.proofs.lines.put_atom.Goals as goal
 
 pub returns : goal.returns

@@ -2,7 +2,6 @@ use Rattle.hexadecimal.proofs.Writing.{length2, length4}
 use Rattle.hexadecimal.specs.Glyphs.{text2, text4}
 use Rattle.sheet_lines.specs.Grammar.{line_text}
 use Rattle.sheet_printed.proofs.Parts.{three_parts}
-use borrow.Author.Rules.{rules}
 use Rattle.sheet_written.proofs.lines.put_exclusion.Goals as goal
 
 pub returns : goal.returns

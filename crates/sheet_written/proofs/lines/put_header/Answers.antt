@@ -1,5 +1,4 @@
 use Rattle.sheet_written.proofs.OneAfterAnother.{header_put}
-use borrow.Author.Rules.{rules}
 use Rattle.sheet_written.proofs.lines.put_header.Goals as goal
 
 pub returns : goal.returns

@@ -1,12 +1,4 @@
-use Prim.Native.Nat.{◌+◌, ◌*◌, ◌-◌, ◌/◌, ◌≤◌}
-use Rattle.lists.specs.Lists.{rows}
-use Rattle.sheet_lines.specs.Grammar.{sheet_text, line_text}
-use Rattle.sheet_written.proofs.OneAfterAnother.{RowsPut, rows_begin, rows_turn, rows_end}
-use Rattle.sheet_written.specs.Written.{row_line}
-use lib.ListN.{length}
-use lib.Seq.{sets, length-sets}
-use mathlib.Core.List.{map}
-use mathlib.Core.Path.{◌≡◌, refl, ap, ◌∙◌}
+use Rattle.sheet_written.proofs.OneAfterAnother.{rows_begin, rows_turn, rows_end}
 use native.Mathlib.Omega.{arith}
 use Rattle.sheet_written.proofs.lines.put_rows.Goals as goal
 

@@ -1,5 +1,4 @@
 use Rattle.sheet_written.proofs.TwoAfterAnother.{atom_put_two}
-use borrow.Author.Rules.{rules}
 use Rattle.sheet_written.proofs.two.put_atom_two.Goals as goal
 
 pub returns : goal.returns

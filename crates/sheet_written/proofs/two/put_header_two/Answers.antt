@@ -1,7 +1,6 @@
 use Rattle.sheet_lines.specs.declared.Line.TheVariants.{Header}
 use Rattle.sheet_lines_two.specs.Grammar.{text_with}
 use Rattle.sheet_written.proofs.TwoAfterAnother.{header_put_two}
-use borrow.Author.Rules.{rules}
 use lib.ListN.{length}
 use lib.Seq.{length-sets}
 use mathlib.Core.Path.{ap, ◌∙◌}

@@ -1,6 +1,5 @@
 use Rattle.sheet_written.proofs.Cases.{write_fine}
 use Rattle.sheet_written.proofs.TwoAfterAnother.{two_refused, two_full, two_done}
-use borrow.Author.Rules.{rules}
 use native.Mathlib.Omega.{arith}
 use Rattle.sheet_written.proofs.two.write_two.Goals as goal
 

@@ -1,5 +1,4 @@
 use Rattle.shells.specs.Steps.{before_order}
-use borrow.Author.Rules.{rules}
 use borrow.Author.Tests.{eq-eqb, ne_eqb}
 use mathlib.Core.Path.{sym, ◌∙◌}
 use Rattle.shells.proofs.asked.before_order.Goals as goal

@@ -1,5 +1,4 @@
 use Rattle.shells.proofs.Refusals.{refusal_fine, refusal_first}
-use borrow.Author.Rules.{rules}
 use mathlib.Core.Path.{◌∙◌, sym}
 use Rattle.shells.proofs.asked.refusal.Goals as goal
 

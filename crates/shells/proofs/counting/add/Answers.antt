@@ -1,10 +1,9 @@
 use Rattle.lists.proofs.Rows.{length_rows}
 use Rattle.lists.specs.Lists.{rows}
-use Rattle.shells.proofs.Totals.{some_long, taken_back, all_added}
+use Rattle.shells.proofs.Totals.{taken_back, all_added}
 use Rattle.shells.specs.Shells.{shell_at}
-use borrow.Author.Rules.{rules}
 use mathlib.Core.Bool.{not}
-use mathlib.Core.Path.{◌≡◌, ◌∙◌, sym, ap}
+use mathlib.Core.Path.{sym, ap}
 use Rattle.shells.proofs.counting.add.Goals as goal
 
 pub returns-then-k-pairs : goal.returns-then-k-pairs

@@ -1,12 +1,8 @@
-use Prim.Native.Nat.{◌-◌, ◌/◌, ◌<◌}
-use Rattle.lists.proofs.Rows.{length_rows}
+use Prim.Native.Nat.{◌-◌}
 use Rattle.lists.specs.Lists.{rows}
-use Rattle.shells.proofs.Totals.{AddedUpTo, up_start, up_long, up_end, up_turn, up_full}
+use Rattle.shells.proofs.Totals.{AddedUpTo}
 use Rattle.shells.specs.Shells.{shell_at}
-use borrow.Author.Rules.{rules}
 use lib.ListN.{length}
-use mathlib.Core.Path.{◌≡◌, ◌∙◌, sym}
-use native.Mathlib.Omega.{arith}
 use Rattle.shells.proofs.counting.add_some.Given as goal
 
 abbrev pub invariant-loop-k : goal.invariant-loop-k

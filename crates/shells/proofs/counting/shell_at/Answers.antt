@@ -1,5 +1,4 @@
 use Rattle.shells.proofs.Distances.{shell_row}
-use borrow.Author.Rules.{rules}
 use Rattle.shells.proofs.counting.shell_at.Goals as goal
 
 pub squared-requires : goal.squared-requires

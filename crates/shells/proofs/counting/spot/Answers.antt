@@ -1,5 +1,4 @@
 use Rattle.frame.specs.Distance.{spot_of}
-use borrow.Author.Rules.{rules}
 use mathlib.Core.Path.{refl}
 use Rattle.shells.proofs.counting.spot.Goals as goal
 

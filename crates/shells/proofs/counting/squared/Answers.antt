@@ -1,5 +1,4 @@
 use Rattle.shells.proofs.Distances.{never_refused, squared_is}
-use borrow.Author.Rules.{rules}
 use Rattle.shells.proofs.counting.squared.Goals as goal
 
 pub returns-in_default : goal.returns-in_default

@@ -1,12 +1,5 @@
-use Prim.Native.Nat.{◌-◌, ◌/◌, ◌<◌, ◌≤◌}
 use Rattle.lists.proofs.Rows.{length_rows}
-use Rattle.lists.specs.Lists.{rows}
-use Rattle.shells.proofs.Totals.{down_start, down_long, down_turn, down_end, TakenUpTo}
-use Rattle.shells.specs.Shells.{shell_at}
-use Rattle.shells.specs.Steps.{totals_without}
-use borrow.Author.Rules.{rules}
-use lib.ListN.{length, take}
-use mathlib.Core.Path.{◌≡◌, ◌∙◌, sym}
+use Rattle.shells.proofs.Totals.{down_start, down_long, down_turn, down_end}
 use native.Mathlib.Omega.{arith}
 use Rattle.shells.proofs.counting.take_back.Goals as goal
 

@@ -1,12 +1,8 @@
 use Prim.Native.Nat.{◌-◌, ◌≤◌}
-use Rattle.lists.proofs.Walks.{every_passes, every_fails, every_past}
 use Rattle.lists.specs.Lists.{every}
 use Rattle.strike.specs.Calls.{is_mark}
-use borrow.Author.Rules.{rules}
-use borrow.Author.Tests.{le-ltb, lt-ltb}
-use lib.ListN.{length, drop, get_or}
-use mathlib.Core.Path.{◌≡◌, refl, sym, ◌∙◌}
-use native.Mathlib.Omega.{arith}
+use lib.ListN.{length, drop}
+use mathlib.Core.Path.{◌≡◌}
 use Rattle.strike.proofs.asked.are_marks.Given as goal
 
 abbrev pub invariant-loop-i : goal.invariant-loop-i

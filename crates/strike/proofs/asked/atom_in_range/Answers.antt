@@ -1,5 +1,4 @@
 use Rattle.strike.specs.Calls.{atom_in_range}
-use borrow.Author.Rules.{rules}
 use Rattle.strike.proofs.asked.atom_in_range.Goals as goal
 
 pub returns : goal.returns

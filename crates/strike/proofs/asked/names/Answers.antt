@@ -1,6 +1,5 @@
 use Rattle.neighbor.specs.Update.{table_asked}
 use Rattle.strike.specs.Calls.{links_asked}
-use borrow.Author.Rules.{rules}
 use borrow.Author.Tests.{lt-ltb, le-ltb}
 use Rattle.strike.proofs.asked.names.Goals as goal
 

@@ -1,6 +1,5 @@
 use Rattle.strike.proofs.Passed.{asked_lengths, asked_many, asked_marks, asked_names}
 use Rattle.strike.specs.Calls.{atoms, links}
-use borrow.Author.Rules.{rules}
 use Rattle.std.proofs.Common.{ap, not}
 use Rattle.strike.proofs.asked.strike.Goals as goal
 

@@ -1,9 +1,7 @@
-use Prim.Native.Nat.{◌-◌, ◌+◌, ◌*◌}
+use Prim.Native.Nat.{◌+◌, ◌*◌}
 use Rattle.float.specs.Arith.{at}
 use Rattle.strike.proofs.Rows.{row_below}
 use Rattle.strike.proofs.Turns.{carry_start, carry_turn, carry_done, carried_not, carried_on}
-use Rattle.strike.specs.Steps.{Carrying}
-use borrow.Author.Rules.{rules}
 use lib.Ieee.{nan}
 use mathlib.Core.Path.{refl}
 use native.Mathlib.Omega.{arith}

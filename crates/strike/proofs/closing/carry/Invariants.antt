@@ -1,13 +1,7 @@
 use Prim.Native.Nat.{◌-◌, ◌+◌, ◌*◌}
 use Rattle.float.specs.Arith.{at}
-use Rattle.strike.proofs.Rows.{row_below}
-use Rattle.strike.proofs.Turns.{carry_start, carry_turn, carry_done, carried_not, carried_on}
 use Rattle.strike.specs.Steps.{Carrying}
-use borrow.Author.Rules.{rules}
 use lib.Ieee.{nan}
-use mathlib.Core.Path.{refl}
-use native.Mathlib.Omega.{arith}
-use Rattle.std.proofs.Common.{ap, not}
 use Rattle.strike.proofs.closing.carry.Given as goal
 
 abbrev pub invariant-loop-c : goal.invariant-loop-c

@@ -1,14 +1,10 @@
 use borrow.Author.Tests.{not-false}
-use Prim.Native.Nat.{◌-◌, ◌≤◌, ◌*◌, ◌+◌}
-use Rattle.float.specs.Arith.{at}
-use Rattle.strike.proofs.Rows.{row_there, row_below}
+use Prim.Native.Nat.{◌*◌, ◌+◌}
+use Rattle.strike.proofs.Rows.{row_below}
 use Rattle.strike.proofs.Turns.{carry_start, carry_turn, carry_done, carried_not, carried_on, row_there_at, fresh_there, fresh_is}
-use Rattle.strike.specs.Closed.{survives, link_survives, row_survives, new_number}
-use Rattle.strike.specs.Steps.{Closed, Carrying}
-use borrow.Author.Rules.{rules}
-use lib.Ieee.{nan}
-use lib.ListN.{length, get_or}
-use mathlib.Core.Path.{◌≡◌, subst, refl, sym, ap, ◌∙◌}
+use Rattle.strike.specs.Closed.{new_number}
+use lib.ListN.{get_or}
+use mathlib.Core.Path.{refl, sym, ap, ◌∙◌}
 use native.Mathlib.Omega.{arith}
 use Rattle.std.proofs.Common.{not}
 use Rattle.strike.proofs.closing.carry_names.Goals as goal

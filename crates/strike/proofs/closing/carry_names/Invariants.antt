@@ -1,16 +1,7 @@
-use borrow.Author.Tests.{not-false}
-use Prim.Native.Nat.{◌-◌, ◌≤◌, ◌*◌, ◌+◌}
-use Rattle.float.specs.Arith.{at}
-use Rattle.strike.proofs.Rows.{row_there, row_below}
-use Rattle.strike.proofs.Turns.{carry_start, carry_turn, carry_done, carried_not, carried_on, row_there_at, fresh_there, fresh_is}
-use Rattle.strike.specs.Closed.{survives, link_survives, row_survives, new_number}
-use Rattle.strike.specs.Steps.{Closed, Carrying}
-use borrow.Author.Rules.{rules}
-use lib.Ieee.{nan}
-use lib.ListN.{length, get_or}
-use mathlib.Core.Path.{◌≡◌, subst, refl, sym, ap, ◌∙◌}
-use native.Mathlib.Omega.{arith}
-use Rattle.std.proofs.Common.{not}
+use Prim.Native.Nat.{◌-◌, ◌*◌, ◌+◌}
+use Rattle.strike.specs.Closed.{new_number}
+use Rattle.strike.specs.Steps.{Carrying}
+use lib.ListN.{get_or}
 use Rattle.strike.proofs.closing.carry_names.Given as goal
 
 abbrev pub invariant-loop-c : goal.invariant-loop-c

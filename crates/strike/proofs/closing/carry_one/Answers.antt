@@ -1,5 +1,4 @@
 use Rattle.strike.proofs.Turns.{carried_not, carried_one}
-use borrow.Author.Rules.{rules}
 use lib.ListN.{get_or}
 use mathlib.Core.Path.{refl}
 use Rattle.std.proofs.Common.{ap, not}

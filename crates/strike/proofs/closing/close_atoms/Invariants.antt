@@ -1,14 +1,8 @@
-use Prim.Native.Nat.{◌-◌, ◌≤◌, ◌*◌, ◌+◌}
+use Prim.Native.Nat.{◌-◌, ◌≤◌}
 use Rattle.float.specs.Arith.{at}
-use Rattle.strike.proofs.Rows.{row_there, row_below}
-use Rattle.strike.proofs.Turns.{closed_none, closed_few, closed_long, closed_rest, closed_turn}
-use Rattle.strike.specs.Closed.{survives, link_survives, row_survives, new_number}
-use Rattle.strike.specs.Steps.{Closed, Carrying}
-use borrow.Author.Rules.{rules}
-use lib.Ieee.{nan}
-use lib.ListN.{length, get_or}
-use mathlib.Core.Path.{◌≡◌, subst, refl, sym, ap, ◌∙◌}
-use native.Mathlib.Omega.{arith}
+use Rattle.strike.specs.Closed.{survives}
+use Rattle.strike.specs.Steps.{Closed}
+use lib.ListN.{length}
 use Rattle.strike.proofs.closing.close_atoms.Given as goal
 
 abbrev pub invariant-loop-k : goal.invariant-loop-k

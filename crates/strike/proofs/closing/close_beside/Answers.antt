@@ -1,13 +1,11 @@
-use Prim.Native.Nat.{◌-◌, ◌≤◌, ◌*◌, ◌+◌}
 use Rattle.float.specs.Arith.{at}
-use Rattle.strike.proofs.Rows.{row_there, row_below}
+use Rattle.strike.proofs.Rows.{row_there}
 use Rattle.strike.proofs.Turns.{closed_none, closed_few, closed_long, closed_rest, closed_turn}
-use Rattle.strike.specs.Closed.{survives, link_survives, row_survives, new_number}
-use Rattle.strike.specs.Steps.{Closed, Carrying}
-use borrow.Author.Rules.{rules}
+use Rattle.strike.specs.Closed.{link_survives}
+use Rattle.strike.specs.Steps.{Closed}
 use lib.Ieee.{nan}
-use lib.ListN.{length, get_or}
-use mathlib.Core.Path.{◌≡◌, subst, refl, sym, ap, ◌∙◌}
+use lib.ListN.{length}
+use mathlib.Core.Path.{subst}
 use native.Mathlib.Omega.{arith}
 use Rattle.strike.proofs.closing.close_beside.Goals as goal
 

@@ -1,11 +1,9 @@
-use Prim.Native.Nat.{◌-◌, ◌≤◌, ◌*◌, ◌+◌}
-use Rattle.strike.proofs.Rows.{row_there, row_below}
+use Rattle.strike.proofs.Rows.{row_there}
 use Rattle.strike.proofs.Turns.{closed_none, closed_few, closed_long, closed_rest, closed_turn, row_asked}
-use Rattle.strike.specs.Closed.{survives, link_survives, row_survives, new_number}
-use Rattle.strike.specs.Steps.{Closed, Carrying}
-use borrow.Author.Rules.{rules}
+use Rattle.strike.specs.Closed.{row_survives, new_number}
+use Rattle.strike.specs.Steps.{Closed}
 use lib.ListN.{length, get_or}
-use mathlib.Core.Path.{◌≡◌, subst, refl, sym, ap, ◌∙◌}
+use mathlib.Core.Path.{subst, ap}
 use native.Mathlib.Omega.{arith}
 use Rattle.strike.proofs.closing.close_names.Goals as goal
 

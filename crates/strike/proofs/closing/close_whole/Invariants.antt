@@ -1,11 +1,7 @@
 use Prim.Native.Nat.{◌-◌, ◌≤◌}
-use Rattle.strike.proofs.Turns.{closed_none, closed_few, closed_long, closed_rest, closed_turn}
 use Rattle.strike.specs.Closed.{survives}
 use Rattle.strike.specs.Steps.{Closed}
-use borrow.Author.Rules.{rules}
 use lib.ListN.{length, get_or}
-use mathlib.Core.Path.{◌≡◌, subst}
-use native.Mathlib.Omega.{arith}
 use Rattle.strike.proofs.closing.close_whole.Given as goal
 
 abbrev pub invariant-loop-k : goal.invariant-loop-k

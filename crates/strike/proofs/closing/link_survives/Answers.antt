@@ -1,12 +1,7 @@
-use Prim.Native.Nat.{◌-◌, ◌≤◌, ◌*◌, ◌+◌}
-use Rattle.float.specs.Arith.{at}
-use Rattle.strike.proofs.Rows.{row_there, row_below}
+use Rattle.strike.proofs.Rows.{row_there}
 use Rattle.strike.proofs.Turns.{link_there, link_past}
-use Rattle.strike.specs.Closed.{survives, link_survives, row_survives, new_number}
-use Rattle.strike.specs.Steps.{Closed, Carrying}
-use lib.Ieee.{nan}
-use lib.ListN.{length, get_or}
-use mathlib.Core.Path.{◌≡◌, subst, refl, sym, ap, ◌∙◌}
+use lib.ListN.{length}
+use mathlib.Core.Path.{sym, ◌∙◌}
 use Rattle.strike.proofs.closing.link_survives.Goals as goal
 
 pub row_survives-requires : goal.row_survives-requires

@@ -1,9 +1,6 @@
-use Prim.Native.Nat.{◌-◌, ◌≤◌}
 use Rattle.strike.proofs.Turns.{counted_none, counted_turn, counted_few, all_numbered}
-use Rattle.strike.specs.Steps.{CountedTo}
-use borrow.Author.Rules.{rules}
-use lib.ListN.{length, length-set}
-use mathlib.Core.Path.{◌≡◌, refl}
+use lib.ListN.{length-set}
+use mathlib.Core.Path.{refl}
 use native.Mathlib.Omega.{arith}
 use Rattle.strike.proofs.closing.number.Goals as goal
 

@@ -1,10 +1,7 @@
 use Prim.Native.Nat.{◌-◌, ◌≤◌}
-use Rattle.strike.proofs.Turns.{counted_none, counted_turn, counted_few, all_numbered}
 use Rattle.strike.specs.Steps.{CountedTo}
-use borrow.Author.Rules.{rules}
-use lib.ListN.{length, length-set}
-use mathlib.Core.Path.{◌≡◌, refl}
-use native.Mathlib.Omega.{arith}
+use lib.ListN.{length}
+use mathlib.Core.Path.{◌≡◌}
 use Rattle.strike.proofs.closing.number.Given as goal
 
 abbrev pub invariant-loop-k : goal.invariant-loop-k

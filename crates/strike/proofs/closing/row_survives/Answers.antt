@@ -1,10 +1,7 @@
 use borrow.Author.Tests.{not-false, not-true}
-use Prim.Native.Nat.{◌-◌, ◌≤◌}
-use Rattle.strike.proofs.Turns.{row_left, row_start, row_passes, row_fails, row_past}
-use Rattle.strike.specs.Closed.{row_survives, survives}
-use borrow.Author.Rules.{rules}
-use lib.ListN.{get_or}
-use mathlib.Core.Path.{◌≡◌, sym, ◌∙◌, ap}
+use Rattle.strike.proofs.Turns.{row_start, row_passes, row_fails, row_past}
+use Rattle.strike.specs.Closed.{survives}
+use mathlib.Core.Path.{sym, ◌∙◌, ap}
 use native.Mathlib.Omega.{arith}
 use Rattle.std.proofs.Common.{not}
 use Rattle.strike.proofs.closing.row_survives.Goals as goal

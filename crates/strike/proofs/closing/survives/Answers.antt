@@ -1,5 +1,4 @@
 use Rattle.strike.specs.Closed.{survives}
-use borrow.Author.Rules.{rules}
 use borrow.Author.Tests.{lt-ltb, le-ltb}
 use Rattle.strike.proofs.closing.survives.Goals as goal
 

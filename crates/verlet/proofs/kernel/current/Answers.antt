@@ -1,5 +1,4 @@
 use Rattle.verlet.specs.Verlet.{current_of}
-use borrow.Author.Rules.{rules}
 use Rattle.verlet.proofs.kernel.current.Goals as goal
 
 pub returns : goal.returns

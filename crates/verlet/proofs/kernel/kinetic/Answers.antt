@@ -1,5 +1,4 @@
 use Rattle.verlet.specs.Verlet.{kinetic_at}
-use borrow.Author.Rules.{rules}
 use Rattle.verlet.proofs.kernel.kinetic.Goals as goal
 
 pub returns : goal.returns

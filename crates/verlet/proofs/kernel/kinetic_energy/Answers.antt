@@ -1,10 +1,6 @@
-use Prim.Native.Nat.{◌≤◌, ◌-◌, ◌/◌, min}
-use Rattle.float.specs.Literals.{f0}
-use Rattle.float.specs.Arith.{◌⊕◌, at}
+use Prim.Native.Nat.{◌/◌, min}
 use Rattle.lists.proofs.Loops.{fold_up_to_none, fold_up_to_turn}
-use Rattle.lists.specs.Loops.{fold_up_to}
-use Rattle.verlet.specs.Verlet.{kinetic_at, kinetic_energy_of}
-use Rattle.virial.specs.Virial.{velocity_at}
+use Rattle.verlet.specs.Verlet.{kinetic_energy_of}
 use borrow.Author.Rules.{rules}
 use lib.ListN.{length}
 use mathlib.Core.Path.{◌≡◌, sym}

@@ -2,14 +2,11 @@
 use Prim.Native.Nat.{◌≤◌, ◌-◌, ◌/◌, min}
 use Rattle.float.specs.Literals.{f0}
 use Rattle.float.specs.Arith.{◌⊕◌, at}
-use Rattle.lists.proofs.Loops.{fold_up_to_none, fold_up_to_turn}
 use Rattle.lists.specs.Loops.{fold_up_to}
-use Rattle.verlet.specs.Verlet.{kinetic_at, kinetic_energy_of}
+use Rattle.verlet.specs.Verlet.{kinetic_at}
 use Rattle.virial.specs.Virial.{velocity_at}
-use borrow.Author.Rules.{rules}
 use lib.ListN.{length}
-use mathlib.Core.Path.{◌≡◌, sym}
-use native.Mathlib.Omega.{arith}
+use mathlib.Core.Path.{◌≡◌}
 use Rattle.verlet.proofs.kernel.kinetic_energy.Given as goal
 
 abbrev pub invariant-loop-i : goal.invariant-loop-i

@@ -1,5 +1,4 @@
 use Rattle.verlet.specs.Verlet.{lambda_of}
-use borrow.Author.Rules.{rules}
 use Rattle.verlet.proofs.kernel.lambda.Goals as goal
 
 pub returns : goal.returns

@@ -1,6 +1,5 @@
 use Rattle.verlet.specs.Parts.{rescaled_by}
 use Rattle.verlet.specs.Verlet.{berendsen_of}
-use borrow.Author.Rules.{rules}
 use borrow.Author.Tests.{le-leb, lt-leb, eq-eqb, ne_eqb}
 use Rattle.verlet.proofs.kernel.rescale.Goals as goal
 

@@ -1,13 +1,9 @@
 -- The invariant: the first k floats are scaled, the others as they came. Assumes nothing.
 use Prim.Native.Nat.{◌≤◌, ◌-◌}
-use Rattle.lists.proofs.Loops.{part_none, part_turn, part_done}
 use Rattle.lists.specs.Loops.{part_at}
-use Rattle.verlet.specs.Verlet.{scale_at, scaled_by}
-use borrow.Author.Rules.{rules}
-use lib.Ieee.{nan}
-use lib.ListN.{length, length-set}
-use mathlib.Core.Path.{◌≡◌, refl}
-use native.Mathlib.Omega.{arith}
+use Rattle.verlet.specs.Verlet.{scale_at}
+use lib.ListN.{length}
+use mathlib.Core.Path.{◌≡◌}
 use Rattle.verlet.proofs.kernel.scale_all.Given as goal
 
 abbrev pub invariant-loop-k : goal.invariant-loop-k

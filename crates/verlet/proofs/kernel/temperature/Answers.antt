@@ -1,5 +1,4 @@
 use Rattle.verlet.specs.Verlet.{temperature_of}
-use borrow.Author.Rules.{rules}
 use Rattle.verlet.proofs.kernel.temperature.Goals as goal
 
 pub returns-then-dof : goal.returns-then-dof

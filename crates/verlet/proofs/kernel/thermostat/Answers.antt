@@ -1,5 +1,4 @@
 use Rattle.verlet.specs.Parts.{thermostat_by}
-use borrow.Author.Rules.{rules}
 use Rattle.verlet.proofs.kernel.thermostat.Goals as goal
 
 pub returns-in-Absent : goal.returns-in-Absent

@@ -1,14 +1,13 @@
-use Prim.Native.Nat.{◌≤◌, ◌-◌, ◌<◌}
+use Prim.Native.Nat.{◌≤◌, ◌<◌}
 use Rattle.lists.proofs.Walks.{every_passes, every_fails, every_past}
-use Rattle.lists.specs.Lists.{every}
 use Rattle.verlet.proofs.Steps.{drifted_length, drifted_at}
 use Rattle.verlet.specs.Parts.{coordinate}
 use Rattle.verlet.specs.Verlet.{kicked_of, drifted_of}
 use borrow.Author.Rules.{rules}
 use borrow.Author.Tests.{not-true, not-false}
 use lib.Ieee.{nan}
-use lib.ListN.{length, drop}
-use mathlib.Core.Path.{◌≡◌, refl, sym, ◌∙◌, ap}
+use lib.ListN.{length}
+use mathlib.Core.Path.{refl, sym, ◌∙◌, ap}
 use native.Mathlib.Omega.{arith}
 use Rattle.std.proofs.Common.{not}
 use Rattle.verlet.proofs.moves.all_drift.Goals as goal

@@ -1,11 +1,9 @@
-use Prim.Native.Nat.{◌≤◌, ◌-◌}
 use Rattle.lists.proofs.Loops.{part_none, part_turn, part_done}
-use Rattle.lists.specs.Loops.{part_at}
 use Rattle.verlet.specs.Verlet.{drift_at, drifted_of}
 use borrow.Author.Rules.{rules}
 use lib.Ieee.{nan}
-use lib.ListN.{length, length-set}
-use mathlib.Core.Path.{◌≡◌, refl}
+use lib.ListN.{length-set}
+use mathlib.Core.Path.{refl}
 use native.Mathlib.Omega.{arith}
 use Rattle.verlet.proofs.moves.drift_all.Goals as goal
 

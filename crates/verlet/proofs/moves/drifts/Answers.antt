@@ -1,6 +1,5 @@
 use Rattle.verlet.proofs.Steps.{move_fit}
 use Rattle.verlet.specs.Parts.{drifts}
-use borrow.Author.Rules.{rules}
 use mathlib.Core.Path.{sym, ◌∙◌}
 use Rattle.verlet.proofs.moves.drifts.Goals as goal
 

@@ -1,6 +1,5 @@
 use Rattle.verlet.proofs.Steps.{kick_fit}
 use Rattle.verlet.specs.Parts.{kicked_by}
-use borrow.Author.Rules.{rules}
 use mathlib.Core.Path.{sym, ◌∙◌}
 use Rattle.verlet.proofs.moves.kick.Goals as goal
 

@@ -1,15 +1,9 @@
 -- The invariant: the first k floats are kicked, the others as they came. Assumes nothing.
 use Prim.Native.Nat.{◌≤◌, ◌-◌}
-use Rattle.float.specs.Literals.{half}
-use Rattle.float.specs.Arith.{◌⊗◌}
-use Rattle.lists.proofs.Loops.{part_none, part_turn, part_done}
 use Rattle.lists.specs.Loops.{part_at}
-use Rattle.verlet.specs.Verlet.{kick_at, kicked_of}
-use borrow.Author.Rules.{rules}
-use lib.Ieee.{nan}
-use lib.ListN.{length, length-set}
-use mathlib.Core.Path.{◌≡◌, refl}
-use native.Mathlib.Omega.{arith}
+use Rattle.verlet.specs.Verlet.{kick_at}
+use lib.ListN.{length}
+use mathlib.Core.Path.{◌≡◌}
 use Rattle.verlet.proofs.moves.kick_all.Given as goal
 
 abbrev pub invariant-loop-k : goal.invariant-loop-k

@@ -1,7 +1,6 @@
 use Rattle.verlet.proofs.Steps.{move_fit, kicked_length}
 use Rattle.verlet.specs.Parts.{moved_by}
 use Rattle.verlet.specs.Verlet.{moved_of}
-use borrow.Author.Rules.{rules}
 use lib.ListN.{length}
 use mathlib.Core.Path.{sym, ◌∙◌, ap}
 use Rattle.verlet.proofs.moves.kick_and_drift.Goals as goal

@@ -1,5 +1,4 @@
 use Rattle.verlet.specs.Parts.{kick_fits}
-use borrow.Author.Rules.{rules}
 use Rattle.verlet.proofs.moves.kick_fits.Goals as goal
 
 pub returns : goal.returns

@@ -1,5 +1,4 @@
 use Rattle.verlet.specs.Parts.{three_each}
-use borrow.Author.Rules.{rules}
 use mathlib.Core.Path.{refl}
 use Rattle.verlet.proofs.moves.three_each.Goals as goal
 

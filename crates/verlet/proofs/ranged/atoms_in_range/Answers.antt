@@ -1,5 +1,4 @@
 use Rattle.verlet.specs.Ranged.{atoms_in_range}
-use borrow.Author.Rules.{rules}
 use Rattle.verlet.proofs.ranged.atoms_in_range.Goals as goal
 
 pub returns : goal.returns

@@ -1,5 +1,4 @@
 use Rattle.verlet.specs.Ranged.{temperature_in_range}
-use borrow.Author.Rules.{rules}
 use Rattle.verlet.proofs.ranged.temperature_in_range.Goals as goal
 
 pub returns : goal.returns

@@ -1,5 +1,4 @@
 use Rattle.verlet.specs.Ranged.{thermostat_in_range}
-use borrow.Author.Rules.{rules}
 use Rattle.verlet.proofs.ranged.thermostat_in_range.Goals as goal
 
 pub returns-in-Absent : goal.returns-in-Absent

@@ -1,5 +1,4 @@
 use Rattle.verlet.specs.Ranged.{time_step}
-use borrow.Author.Rules.{rules}
 use Rattle.verlet.proofs.ranged.time_step.Goals as goal
 
 pub returns : goal.returns

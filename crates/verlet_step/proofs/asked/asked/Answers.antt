@@ -1,5 +1,4 @@
 use Rattle.verlet_step.specs.Calls.{motion_asked}
-use borrow.Author.Rules.{rules}
 use Rattle.verlet_step.proofs.asked.asked.Goals as goal
 
 pub returns : goal.returns

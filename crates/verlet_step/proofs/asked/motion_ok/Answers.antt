@@ -1,5 +1,4 @@
 use Rattle.verlet_step.specs.Asked.{motion_ok}
-use borrow.Author.Rules.{rules}
 use Rattle.verlet_step.proofs.asked.motion_ok.Goals as goal
 
 pub returns : goal.returns

@@ -1,5 +1,4 @@
 use Rattle.verlet_step.specs.Calls.{cooled_of}
-use borrow.Author.Rules.{rules}
 use Rattle.verlet_step.proofs.ends.cool.Goals as goal
 
 pub returns-in-Refused : goal.returns-in-Refused

@@ -1,7 +1,6 @@
 use Rattle.potentials_pair.specs.Species.{tables}
 use Rattle.verlet_step.proofs.Landing.{advanced_refused, advanced_on}
 use Rattle.verlet_step.specs.Calls.{Motion, motion_of}
-use borrow.Author.Rules.{rules}
 use borrow.Author.Tests.{not-true, not-false}
 use Rattle.std.proofs.Common.{ap, not}
 use Rattle.verlet_step.proofs.kernel.advance.Goals as goal

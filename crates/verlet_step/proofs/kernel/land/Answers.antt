@@ -1,7 +1,6 @@
 use Rattle.potentials_pair.specs.Species.{tables}
 use Rattle.verlet_step.proofs.Landing.{landed_by_lem}
 use Rattle.verlet_step.specs.Calls.{Motion, motion_of}
-use borrow.Author.Rules.{rules}
 use Rattle.verlet_step.proofs.kernel.land.Goals as goal
 
 pub returns : goal.returns

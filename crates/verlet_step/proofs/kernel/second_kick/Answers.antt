@@ -1,5 +1,4 @@
 use Rattle.verlet_step.specs.Steps.{kicked_after}
-use borrow.Author.Rules.{rules}
 use Rattle.verlet_step.proofs.kernel.second_kick.Goals as goal
 
 pub returns : goal.returns

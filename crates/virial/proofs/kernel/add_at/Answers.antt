@@ -1,5 +1,4 @@
 use Rattle.virial.specs.Virial.{added_at}
-use borrow.Author.Rules.{rules}
 use borrow.Author.Tests.{lt-ltb, le-ltb}
 use lib.ListN.{length-set}
 use native.Mathlib.Omega.{arith}

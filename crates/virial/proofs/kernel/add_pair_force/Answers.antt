@@ -1,5 +1,4 @@
 use Rattle.virial.specs.Virial.{forces_with_pair}
-use borrow.Author.Rules.{rules}
 use Rattle.virial.proofs.kernel.add_pair_force.Goals as goal
 
 pub returns : goal.returns

@@ -1,13 +1,9 @@
 -- The invariant: the first k forces are +0, the others as they came. Assumes nothing.
 use Prim.Native.Nat.{◌≤◌, ◌-◌}
-use Rattle.lists.proofs.Loops.{part_none, part_turn, part_done}
 use Rattle.lists.specs.Loops.{part_at}
-use Rattle.virial.proofs.Forces.{zero_at, zeros_all}
-use borrow.Author.Rules.{rules}
-use lib.Ieee.{nan}
-use lib.ListN.{length, length-set}
-use mathlib.Core.Path.{◌≡◌, refl, ◌∙◌}
-use native.Mathlib.Omega.{arith}
+use Rattle.virial.proofs.Forces.{zero_at}
+use lib.ListN.{length}
+use mathlib.Core.Path.{◌≡◌}
 use Rattle.virial.proofs.kernel.clear.Given as goal
 
 abbrev pub invariant-loop-k : goal.invariant-loop-k

@@ -1,9 +1,7 @@
-use Prim.Native.Nat.{◌≤◌, ◌-◌, min}
 use Rattle.virial.proofs.Forces.{merged_none, merged_more, merged_past}
-use Rattle.virial.specs.Virial.{merged_forces}
 use borrow.Author.Rules.{rules}
-use lib.ListN.{length, length-set, take}
-use mathlib.Core.Path.{◌≡◌, refl, sym, ◌∙◌}
+use lib.ListN.{length-set}
+use mathlib.Core.Path.{refl, sym, ◌∙◌}
 use native.Mathlib.Numerals.{add-one}
 use native.Mathlib.Omega.{arith}
 use Rattle.virial.proofs.kernel.merge_forces.Goals as goal

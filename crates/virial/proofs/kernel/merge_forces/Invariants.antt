@@ -1,12 +1,8 @@
 -- The invariant: the forces are what they were, merged with the first k of the other list. Assumes nothing.
 use Prim.Native.Nat.{◌≤◌, ◌-◌, min}
-use Rattle.virial.proofs.Forces.{merged_none, merged_more, merged_past}
 use Rattle.virial.specs.Virial.{merged_forces}
-use borrow.Author.Rules.{rules}
-use lib.ListN.{length, length-set, take}
-use mathlib.Core.Path.{◌≡◌, refl, sym, ◌∙◌}
-use native.Mathlib.Numerals.{add-one}
-use native.Mathlib.Omega.{arith}
+use lib.ListN.{length, take}
+use mathlib.Core.Path.{◌≡◌}
 use Rattle.virial.proofs.kernel.merge_forces.Given as goal
 
 abbrev pub invariant-loop-k : goal.invariant-loop-k

@@ -1,5 +1,4 @@
 use Rattle.virial.specs.Calls.{pair_in_range}
-use borrow.Author.Rules.{rules}
 use Rattle.virial.proofs.ranged.pair_in_range.Goals as goal
 
 pub returns : goal.returns

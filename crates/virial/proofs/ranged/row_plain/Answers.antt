@@ -1,5 +1,4 @@
 use Rattle.virial.specs.Ranged.{plain_row}
-use borrow.Author.Rules.{rules}
 use Rattle.virial.proofs.ranged.row_plain.Goals as goal
 
 pub returns : goal.returns

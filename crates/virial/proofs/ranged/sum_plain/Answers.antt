@@ -1,5 +1,4 @@
 use Rattle.virial.specs.Ranged.{plain_sum}
-use borrow.Author.Rules.{rules}
 use Rattle.virial.proofs.ranged.sum_plain.Goals as goal
 
 pub returns : goal.returns

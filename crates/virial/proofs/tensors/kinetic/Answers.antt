@@ -1,4 +1,4 @@
-use Prim.Native.Nat.{◌≤◌, ◌-◌, ◌/◌, min}
+use Prim.Native.Nat.{◌/◌, min}
 use Rattle.lists.proofs.Loops.{fold_up_to_none, fold_up_to_turn}
 use Rattle.virial.specs.Virial.{kinetic_of}
 use borrow.Author.Rules.{rules}

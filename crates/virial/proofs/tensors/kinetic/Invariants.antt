@@ -1,11 +1,8 @@
 -- The invariant: p is the kinetic tensor of the first i atoms. Assumes nothing.
 use Prim.Native.Nat.{◌≤◌, ◌-◌, ◌/◌, min}
-use Rattle.lists.proofs.Loops.{fold_up_to_none, fold_up_to_turn}
 use Rattle.virial.specs.Virial.{kinetic_of}
-use borrow.Author.Rules.{rules}
 use lib.ListN.{length}
-use mathlib.Core.Path.{◌≡◌, ◌∙◌, sym}
-use native.Mathlib.Omega.{arith}
+use mathlib.Core.Path.{◌≡◌}
 use Rattle.virial.proofs.tensors.kinetic.Given as goal
 
 abbrev pub invariant-loop-i : goal.invariant-loop-i

@@ -1,5 +1,4 @@
 use Rattle.virial.specs.Virial.{over_volume}
-use borrow.Author.Rules.{rules}
 use Rattle.virial.proofs.tensors.over_volume.Goals as goal
 
 pub returns : goal.returns

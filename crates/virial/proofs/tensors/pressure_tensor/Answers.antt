@@ -1,5 +1,4 @@
 use Rattle.virial.specs.Virial.{pressure_tensor_of}
-use borrow.Author.Rules.{rules}
 use Rattle.virial.proofs.tensors.pressure_tensor.Goals as goal
 
 pub returns-then-volume : goal.returns-then-volume

@@ -1,5 +1,4 @@
 use Rattle.virial.specs.Virial.{row_over_volume}
-use borrow.Author.Rules.{rules}
 use mathlib.Core.Path.{refl}
 use Rattle.virial.proofs.tensors.row_over_volume.Goals as goal
 

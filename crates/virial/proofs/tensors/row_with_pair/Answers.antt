@@ -1,5 +1,4 @@
 use Rattle.virial.specs.Virial.{row_with_pair}
-use borrow.Author.Rules.{rules}
 use mathlib.Core.Path.{refl}
 use Rattle.virial.proofs.tensors.row_with_pair.Goals as goal
 

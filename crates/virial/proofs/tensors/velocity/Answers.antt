@@ -1,5 +1,4 @@
 use Rattle.virial.specs.Virial.{velocity_at}
-use borrow.Author.Rules.{rules}
 use mathlib.Core.Path.{refl}
 use Rattle.virial.proofs.tensors.velocity.Goals as goal
 

@@ -1,5 +1,4 @@
 use Rattle.virial.specs.Virial.{with_atom}
-use borrow.Author.Rules.{rules}
 use Rattle.virial.proofs.tensors.with_atom.Goals as goal
 
 pub returns : goal.returns
