@@ -142,5 +142,12 @@ fn main(rt: HostRuntime) {
     let mut words = [0u64; 8192];
     let mut answer = [0u64; 8208];
     let mut out = blank_out();
-    serve(&mut from, &mut chunk, &mut line, &mut words, &mut answer, &mut out);
+    serve(
+        &mut from,
+        &mut chunk,
+        &mut line,
+        &mut words,
+        &mut answer,
+        &mut out,
+    );
 }

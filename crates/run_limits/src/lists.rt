@@ -40,9 +40,10 @@ fn build(
     items: &mut [u32],
 ) -> State {
     let r = neighbor::build(s, cell, xs, &[], pairs, refs, starts, items);
+    let state = r.state;
     put_updated(r);
     put_rooms(pairs, refs, starts, items);
-    r.state
+    state
 }
 
 fn ask(s: State, cell: Cell, xs: &[f64], refs: &[f64]) {

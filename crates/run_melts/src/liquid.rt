@@ -2,7 +2,7 @@
 use cell::{Cell, Lattice, Vec3};
 
 // What a list of floats is filled with.
-#[derive(Drop)]
+#[derive(Clone, Copy)]
 pub(crate) enum Form {
     // Places of a cubic lattice, `last` + 1 on an axis, each coordinate off by less than a quarter of the spacing.
     Places { last: u8, spacing: f64 },
@@ -120,7 +120,7 @@ pub(crate) fn fill(form: Form, xs: &mut [f64]) {
 }
 
 // What a table is filled with.
-#[derive(Drop)]
+#[derive(Clone, Copy)]
 pub(crate) enum Table {
     // A molecule's atoms: 1, 2, 3.
     Species,

@@ -18,7 +18,7 @@ use replay_melts::works;
 use replay_melts::works::{Given, Work};
 
 // What a run does: evaluations; a first evaluation and steps; a step and its finish, refused.
-#[derive(Drop)]
+#[derive(Clone, Copy)]
 pub(crate) enum Kind {
     Evaluations,
     Steps,
@@ -26,7 +26,7 @@ pub(crate) enum Kind {
 }
 
 // `turns` in all. `few` is the room for its pairs until that stops it.
-#[derive(Drop)]
+#[derive(Clone, Copy)]
 pub(crate) struct Run {
     kind: Kind,
     last: u8,
@@ -41,7 +41,7 @@ pub(crate) struct Run {
 }
 
 // Where a run stands: the turn, the list and the potential before it, whether the turn before was stopped, the room for pairs, whether there is a turn.
-#[derive(Drop)]
+#[derive(Clone, Copy)]
 struct Reached {
     turn: usize,
     state: State,

@@ -1,4 +1,3 @@
-use borrow.Author.Rules.{rules}
 use Rattle.field.proofs.angles.tyn_angles_all.Goals as goal
 
 pub returns : goal.returns

@@ -1,4 +1,3 @@
-use borrow.Author.Rules.{rules}
 use Rattle.field.proofs.cells.tyn_to_fractional.Goals as goal
 
 pub returns : goal.returns

@@ -1,4 +1,3 @@
-use borrow.Author.Rules.{rules}
 use Rattle.field.proofs.cells.tyn_wrap.Goals as goal
 
 pub returns : goal.returns

@@ -1,4 +1,3 @@
-use borrow.Author.Rules.{rules}
 use Rattle.field.proofs.counts.tyn_add_shells.Goals as goal
 
 pub returns : goal.returns

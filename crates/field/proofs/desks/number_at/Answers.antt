@@ -1,5 +1,4 @@
 use Rattle.field.specs.Rows.{number_in}
-use borrow.Author.Rules.{rules}
 use borrow.Author.Tests.{lt-ltb, le-ltb}
 use Rattle.field.proofs.desks.number_at.Goals as goal
 

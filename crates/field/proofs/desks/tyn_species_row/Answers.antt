@@ -1,4 +1,3 @@
-use borrow.Author.Rules.{rules}
 use Rattle.field.proofs.desks.tyn_species_row.Goals as goal
 
 pub returns : goal.returns

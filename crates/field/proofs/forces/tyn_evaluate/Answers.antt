@@ -1,4 +1,3 @@
-use borrow.Author.Rules.{rules}
 use Rattle.field.proofs.forces.tyn_evaluate.Goals as goal
 
 pub returns : goal.returns

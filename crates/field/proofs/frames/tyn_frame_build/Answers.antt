@@ -1,4 +1,3 @@
-use borrow.Author.Rules.{rules}
 use Rattle.field.proofs.frames.tyn_frame_build.Goals as goal
 
 pub returns : goal.returns

@@ -1,4 +1,3 @@
-use borrow.Author.Rules.{rules}
 use Rattle.field.proofs.frames.tyn_squared_distance.Goals as goal
 
 pub returns : goal.returns

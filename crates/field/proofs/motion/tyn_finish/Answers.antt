@@ -1,4 +1,3 @@
-use borrow.Author.Rules.{rules}
 use Rattle.field.proofs.motion.tyn_finish.Goals as goal
 
 pub returns : goal.returns

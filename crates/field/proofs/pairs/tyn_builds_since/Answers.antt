@@ -1,4 +1,3 @@
-use borrow.Author.Rules.{rules}
 use Rattle.field.proofs.pairs.tyn_builds_since.Goals as goal
 
 pub returns : goal.returns

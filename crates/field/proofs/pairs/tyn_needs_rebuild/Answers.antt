@@ -1,4 +1,3 @@
-use borrow.Author.Rules.{rules}
 use Rattle.field.proofs.pairs.tyn_needs_rebuild.Goals as goal
 
 pub returns : goal.returns

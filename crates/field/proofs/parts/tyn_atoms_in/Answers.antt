@@ -1,6 +1,5 @@
 use Rattle.bins.proofs.Parts.{held_is, part_none}
 use Rattle.field.proofs.Told.{says_part, atoms_told, held_answered, held_refused, start_held, start_not}
-use borrow.Author.Rules.{rules}
 use native.Mathlib.Omega.{arith}
 use Rattle.field.proofs.parts.tyn_atoms_in.Goals as goal
 

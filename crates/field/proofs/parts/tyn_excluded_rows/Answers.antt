@@ -1,5 +1,4 @@
 use Rattle.field.proofs.Told.{says_part, excluded_told}
-use borrow.Author.Rules.{rules}
 use mathlib.Core.Path.{refl}
 use Rattle.field.proofs.parts.tyn_excluded_rows.Goals as goal
 

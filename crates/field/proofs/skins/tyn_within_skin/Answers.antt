@@ -1,4 +1,3 @@
-use borrow.Author.Rules.{rules}
 use Rattle.field.proofs.skins.tyn_within_skin.Goals as goal
 
 pub returns : goal.returns

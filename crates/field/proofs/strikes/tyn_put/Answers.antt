@@ -1,4 +1,3 @@
-use borrow.Author.Rules.{rules}
 use Rattle.field.proofs.strikes.tyn_put.Goals as goal
 
 pub returns : goal.returns

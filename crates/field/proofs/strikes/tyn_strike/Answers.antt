@@ -1,4 +1,3 @@
-use borrow.Author.Rules.{rules}
 use Rattle.field.proofs.strikes.tyn_strike.Goals as goal
 
 pub shape_of-positions : goal.shape_of-positions

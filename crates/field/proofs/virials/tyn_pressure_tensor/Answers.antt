@@ -1,4 +1,3 @@
-use borrow.Author.Rules.{rules}
 use Rattle.field.proofs.virials.tyn_pressure_tensor.Goals as goal
 
 pub returns : goal.returns

@@ -1,4 +1,3 @@
-use borrow.Author.Rules.{rules}
 use Rattle.field.proofs.virials.tyn_scalar_virial.Goals as goal
 
 pub returns : goal.returns

@@ -1,4 +1,3 @@
-use borrow.Author.Rules.{rules}
 use Rattle.field.proofs.virials.tyn_virial_from_pair.Goals as goal
 
 pub returns : goal.returns

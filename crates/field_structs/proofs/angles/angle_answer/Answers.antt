@@ -1,5 +1,4 @@
 use Rattle.field_structs.specs.Angles.{flat_angle_answer}
-use borrow.Author.Rules.{rules}
 use Rattle.field_structs.proofs.angles.angle_answer.Goals as goal
 
 pub returns-in-Answered : goal.returns-in-Answered

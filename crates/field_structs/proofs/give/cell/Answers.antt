@@ -1,5 +1,4 @@
 use Rattle.field_structs.specs.Flat.{flat_cell}
-use borrow.Author.Rules.{rules}
 use Rattle.field_structs.proofs.give.cell.Goals as goal
 
 pub returns-in-Absent : goal.returns-in-Absent

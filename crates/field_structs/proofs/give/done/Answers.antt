@@ -1,5 +1,4 @@
 use Rattle.field_structs.specs.Flat.{flat_done}
-use borrow.Author.Rules.{rules}
 use Rattle.field_structs.proofs.give.done.Goals as goal
 
 pub returns-in-Answered : goal.returns-in-Answered

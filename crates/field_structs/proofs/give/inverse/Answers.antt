@@ -1,5 +1,4 @@
 use Rattle.field_structs.specs.Flat.{flat_inverse}
-use borrow.Author.Rules.{rules}
 use Rattle.field_structs.proofs.give.inverse.Goals as goal
 
 pub returns : goal.returns

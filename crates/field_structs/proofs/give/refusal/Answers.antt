@@ -1,5 +1,4 @@
 use Rattle.field_structs.specs.Flat.{flat_refusal}
-use borrow.Author.Rules.{rules}
 use Rattle.field_structs.proofs.give.refusal.Goals as goal
 
 pub returns : goal.returns

@@ -1,5 +1,4 @@
 use Rattle.field_structs.specs.Flat.{flat_rows}
-use borrow.Author.Rules.{rules}
 use Rattle.field_structs.proofs.give.rows.Goals as goal
 
 pub returns : goal.returns

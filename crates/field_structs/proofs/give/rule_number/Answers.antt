@@ -1,5 +1,4 @@
 use Rattle.field_structs.specs.Flat.{flat_rule}
-use borrow.Author.Rules.{rules}
 use Rattle.field_structs.proofs.give.rule_number.Goals as goal
 
 pub returns-in-HalfSum : goal.returns-in-HalfSum

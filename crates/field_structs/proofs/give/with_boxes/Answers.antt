@@ -1,5 +1,4 @@
 use Rattle.field_structs.specs.Flat.{with_boxes}
-use borrow.Author.Rules.{rules}
 use mir.Facts.{to_z-of_z}
 use mir.Syntax.{w32}
 use Rattle.field_structs.proofs.give.with_boxes.Goals as goal

@@ -1,4 +1,3 @@
-use borrow.Author.Rules.{rules}
 use Rattle.field_structs.proofs.give.zero_state.Goals as goal
 
 pub returns : goal.returns

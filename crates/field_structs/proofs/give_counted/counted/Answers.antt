@@ -1,5 +1,4 @@
 use Rattle.field_structs.specs.FlatCounted.{flat_counted}
-use borrow.Author.Rules.{rules}
 use Rattle.field_structs.proofs.give_counted.counted.Goals as goal
 
 pub returns-in-Answered : goal.returns-in-Answered

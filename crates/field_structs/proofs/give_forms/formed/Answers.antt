@@ -1,5 +1,4 @@
 use Rattle.field_structs.specs.FlatForms.{flat_formed}
-use borrow.Author.Rules.{rules}
 use Rattle.field_structs.proofs.give_forms.formed.Goals as goal
 
 pub returns-in-Answered : goal.returns-in-Answered

@@ -1,5 +1,4 @@
 use Rattle.field_structs.specs.Settlings.{flat_fired}
-use borrow.Author.Rules.{rules}
 use Rattle.field_structs.proofs.settlings.fired.Goals as goal
 
 pub returns : goal.returns

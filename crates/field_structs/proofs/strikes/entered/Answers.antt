@@ -1,5 +1,4 @@
 use Rattle.field_structs.specs.Strikes.{flat_entered}
-use borrow.Author.Rules.{rules}
 use Rattle.field_structs.proofs.strikes.entered.Goals as goal
 
 pub returns : goal.returns

@@ -1,5 +1,4 @@
 use Rattle.field_structs.specs.Strikes.{flat_struck}
-use borrow.Author.Rules.{rules}
 use Rattle.field_structs.proofs.strikes.struck.Goals as goal
 
 pub returns : goal.returns

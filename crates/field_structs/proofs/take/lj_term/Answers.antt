@@ -1,5 +1,4 @@
 use Rattle.field_structs.specs.Taken.{lj_term_of}
-use borrow.Author.Rules.{rules}
 use borrow.Author.Tests.{eq-eqb, ne_eqb}
 use Rattle.field_structs.proofs.take.lj_term.Goals as goal
 

@@ -1,5 +1,4 @@
 use Rattle.field_structs.specs.Taken.{pace_of}
-use borrow.Author.Rules.{rules}
 use Rattle.field_structs.proofs.take.pace.Goals as goal
 
 pub returns : goal.returns

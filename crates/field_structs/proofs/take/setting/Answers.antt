@@ -1,5 +1,4 @@
 use Rattle.field_structs.specs.Taken.{setting_of}
-use borrow.Author.Rules.{rules}
 use Rattle.field_structs.proofs.take.setting.Goals as goal
 
 pub returns : goal.returns

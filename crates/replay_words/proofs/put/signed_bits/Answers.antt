@@ -1,6 +1,5 @@
 -- Below 0 a number is turned to -1 - x, which is not.
 use Prim.Native.Nat.{ℕ, suc, ◌<◌}
-use borrow.Author.Rules.{rules}
 use borrow.Author.Tests.{ltb-true, le-ltb}
 use lib.IntN.{ℤ, pos, negsuc, ◌-ℤ◌}
 use lib.Signed.{mag, lt_z}

@@ -1,5 +1,4 @@
 use Prim.Native.Nat.{◌-◌, ◌≤◌}
-use borrow.Author.Rules.{rules}
 use Rattle.replay_words.proofs.take.all_u32.Given as goal
 
 abbrev pub invariant-loop-k : goal.invariant-loop-k
