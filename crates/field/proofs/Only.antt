@@ -7,6 +7,7 @@ use Rattle.potentials_pair.specs.Species.{Tables}
 use Rattle.cell.proofs.Only.{orthorhombic_only, cubic_only, is_orthorhombic_only, matrix_only, volume_only, inverse_only, to_fractional_only, to_cartesian_only, wrap_only, perp_widths_only, min_image_only}
 use Rattle.virial.proofs.Only.{zeros_only, merge_only, add_pair_force_only, virial_from_pair_only, scalar_virial_only, pressure_only, pressure_tensor_only, to_gpa_only}
 use Rattle.exclusions.proofs.Only.{exclude_only, set_only, asked_only as rows_asked_only}
+use Rattle.bins.proofs.Only.{asked_only as atoms_asked_only}
 use Rattle.neighbor.proofs.Only.{new_only, search_radius_only, needs_rebuild_only, outdated_only, update_only, listed_asked_only}
 use Rattle.neighbor.specs.declared.Question.TheVariants.{Unasked, NeedsRebuild}
 use Rattle.potentials.proofs.Only.{monatomic_only, uniform_only, species_row_asked_only, lj_pairs_only, lj_all_only, coulomb_pairs_only, coulomb_all_only, bonds_all_only}
@@ -343,7 +344,7 @@ pub tyn_excluded_rows_only : OneOutcome excluded_rows_contract.ended excluded_ro
 tyn_excluded_rows_only l a r s m n p q = (part_only p q (rows_asked_only _ _), refl)
 
 pub tyn_atoms_in_only : OneOutcome atoms_in_contract.ended atoms_in.Reads.Post
-tyn_atoms_in_only l a r s m n p q = (part_only p q (atoms-asked-only _ _ _), refl)
+tyn_atoms_in_only l a r s m n p q = (part_only p q (atoms_asked_only _ _ _), refl)
 
 -- ---- the whole-number frame, and job sheets
 pub tyn_squared_distance_only : OneOutcome squared_distance_contract.ended squared_distance.Reads.Post
