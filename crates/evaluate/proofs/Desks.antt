@@ -33,7 +33,7 @@ abbrev others : Terms → Cell → List Float → ℕ → List (ℕ × ℕ) → 
 others t cell xs room l =
     coulomb_gives t.coulomb t.units.ke_coulomb cell t.charges xs room l
     ++ (bond_gives t.bond cell t.bonds t.lengths t.ks xs room
-    ++ angle_gives t.angle cell t.angles t.per_angle_lem xs room)
+    ++ angle_gives t.angle cell t.angles t.per_angle xs room)
 
 -- two evaluations that differ in their lookup and tables alone, where Lennard-Jones gives the same
 module _ (f g : Tables → Lj → ℕ → Mixed) (t u : Tables) (j : Job) (room : ℕ) (l : List (ℕ × ℕ))

@@ -25,9 +25,9 @@ use Rattle.neighbor.specs.Update.{Given, first_of, kept_asked, table_asked}
 use Rattle.evaluate.specs.Terms.{Terms}
 
 -- 1 of the terms' tables: "rows not two an id" in either species table (`tables`); "species, charges not n; bonds .. half a row; forces not as long as positions"; half a row of angles or of their numbers. The other arguments are lengths
-unfoldable pub terms_fit : (tables : Bool) (species charges bonds angles per_angle_lem xs forces : ℕ) → Bool
-terms_fit tables species charges bonds angles per_angle_lem xs forces =
-    tables && eqb species (xs / 3) && eqb charges (xs / 3) && eqb (bonds % 2) 0 && eqb (angles % 3) 0 && eqb (per_angle_lem % 2) 0
+unfoldable pub terms_fit : (tables : Bool) (species charges bonds angles per_angle xs forces : ℕ) → Bool
+terms_fit tables species charges bonds angles per_angle xs forces =
+    tables && eqb species (xs / 3) && eqb charges (xs / 3) && eqb (bonds % 2) 0 && eqb (angles % 3) 0 && eqb (per_angle % 2) 0
     && eqb forces xs
 
 -- 3 of the present terms' numbers
@@ -48,10 +48,10 @@ angle_ok AngleTermCases.Absent = true
 angle_ok (AngleTermCases.Present angle) = angle_in_range angle
 
 -- 3 of the terms and of their tables
-unfoldable pub numbers_ok : LjTerm.LjTerm → CoulombTerm.CoulombTerm → BondTerm.BondTerm → AngleTerm.AngleTerm → Units → (own_params params charges lengths ks per_angle_lem : List Float) → Bool
-numbers_ok lj coulomb bond angle units own_params params charges lengths ks per_angle_lem =
+unfoldable pub numbers_ok : LjTerm.LjTerm → CoulombTerm.CoulombTerm → BondTerm.BondTerm → AngleTerm.AngleTerm → Units → (own_params params charges lengths ks per_angle : List Float) → Bool
+numbers_ok lj coulomb bond angle units own_params params charges lengths ks per_angle =
     lj_ok lj && coulomb_ok coulomb && bond_ok bond && angle_ok angle && units_in_range units
-    && rows_in_range own_params params && every charge charges && every coordinate lengths && every coordinate ks && per_angle_in_range per_angle_lem
+    && rows_in_range own_params params && every charge charges && every coordinate lengths && every coordinate ks && per_angle_in_range per_angle
 
 -- 4: "a pair, then a bond, names an atom not there"
 unfoldable pub bond_rows_asked : ℕ → List ℕ → Done
@@ -74,8 +74,8 @@ in_turn fits first in_range kept names =
 unfoldable pub job_asked : (fits in_range : Bool) → Terms → Given → (forces : ℕ) → Done
 job_asked fits in_range t g forces =
     in_turn
-    (fits && terms_fit (tables_fit (length t.tables.own_ids) (length t.tables.own_params) (length t.tables.ids) (length t.tables.params)) (length t.species) (length t.charges) (length t.bonds) (length t.angles) (length t.per_angle_lem) (length g.positions) forces)
+    (fits && terms_fit (tables_fit (length t.tables.own_ids) (length t.tables.own_params) (length t.tables.ids) (length t.tables.params)) (length t.species) (length t.charges) (length t.bonds) (length t.angles) (length t.per_angle) (length g.positions) forces)
     (first_of g.state g.cell g.positions (length g.exclusions) (length g.pairs) (length g.references) (length g.items))
-    (in_range && numbers_ok t.lj t.coulomb t.bond t.angle t.units t.tables.own_params t.tables.params t.charges t.lengths t.ks t.per_angle_lem)
+    (in_range && numbers_ok t.lj t.coulomb t.bond t.angle t.units t.tables.own_params t.tables.params t.charges t.lengths t.ks t.per_angle)
     (kept_asked g.state (atoms_of g.positions) g.pairs g.references)
     (names_asked (atoms_of g.positions) t.bonds t.angles g.exclusions t.tables.own_ids t.tables.ids)

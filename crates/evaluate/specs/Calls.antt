@@ -30,9 +30,9 @@ abbrev pub job : Terms → Given → List Float → Job
 job t g forces = record { terms = t; given = g; forces = forces }
 
 -- that of a call, from what it is handed
-abbrev pub job_of : Setting → State → (tab : Tables) (species : List ℕ) (charges : List Float) (bonds : List ℕ) (lengths ks : List Float) (angles : List ℕ) (per_angle_lem positions : List Float) (exclusions pairs : List ℕ) (references : List Float) (starts items : List ℕ) (forces : List Float) → Job
-job_of setting s tab species charges bonds lengths ks angles per_angle_lem positions exclusions pairs references starts items forces =
-    job (terms setting tab species charges bonds lengths ks angles per_angle_lem) (given s setting.cell positions exclusions pairs references starts items) forces
+abbrev pub job_of : Setting → State → (tab : Tables) (species : List ℕ) (charges : List Float) (bonds : List ℕ) (lengths ks : List Float) (angles : List ℕ) (per_angle positions : List Float) (exclusions pairs : List ℕ) (references : List Float) (starts items : List ℕ) (forces : List Float) → Job
+job_of setting s tab species charges bonds lengths ks angles per_angle positions exclusions pairs references starts items forces =
+    job (terms setting tab species charges bonds lengths ks angles per_angle) (given s setting.cell positions exclusions pairs references starts items) forces
 
 -- its tests, with what a step asks besides
 abbrev pub asked_of : (fits in_range : Bool) → Job → Done

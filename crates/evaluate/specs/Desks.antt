@@ -31,7 +31,7 @@ with_tables t j =
             lengths = j.terms.lengths;
             ks = j.terms.ks;
             angles = j.terms.angles;
-            per_angle_lem = j.terms.per_angle_lem;
+            per_angle = j.terms.per_angle;
           };
       given = j.given;
       forces = j.forces;

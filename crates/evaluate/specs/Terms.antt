@@ -34,11 +34,11 @@ pub record Terms : Type 0 where
   pub lengths : List Float
   pub ks : List Float
   pub angles : List ℕ
-  pub per_angle_lem : List Float
+  pub per_angle : List Float
 
 -- those of a setting, with their tables
-abbrev pub terms : Setting → (tab : Tables) → (species : List ℕ) → (charges : List Float) → (bonds : List ℕ) → (lengths ks : List Float) → (angles : List ℕ) → (per_angle_lem : List Float) → Terms
-terms setting tab species charges bonds lengths ks angles per_angle_lem =
+abbrev pub terms : Setting → (tab : Tables) → (species : List ℕ) → (charges : List Float) → (bonds : List ℕ) → (lengths ks : List Float) → (angles : List ℕ) → (per_angle : List Float) → Terms
+terms setting tab species charges bonds lengths ks angles per_angle =
     record {
       lj = setting.lj;
       coulomb = setting.coulomb;
@@ -52,7 +52,7 @@ terms setting tab species charges bonds lengths ks angles per_angle_lem =
       lengths = lengths;
       ks = ks;
       angles = angles;
-      per_angle_lem = per_angle_lem;
+      per_angle = per_angle;
     }
 
 -- ---- what a term gives over pairs l: one contribution from zero, with so many floats, where it is present; none where it is absent
@@ -70,9 +70,9 @@ unfoldable pub bond_gives : BondTerm.BondTerm → Cell → (bonds : List ℕ) �
 bond_gives BondTermCases.Absent cell bonds lengths ks xs room = []
 bond_gives (BondTermCases.Present bond) cell bonds lengths ks xs room = bonds_over bond cell bonds lengths ks xs room ∷ []
 
-unfoldable pub angle_gives : AngleTerm.AngleTerm → Cell → (angles : List ℕ) → (per_angle_lem xs : List Float) → (room : ℕ) → List Total
-angle_gives AngleTermCases.Absent cell angles per_angle_lem xs room = []
-angle_gives (AngleTermCases.Present angle) cell angles per_angle_lem xs room = angles_over angle cell angles per_angle_lem xs room ∷ []
+unfoldable pub angle_gives : AngleTerm.AngleTerm → Cell → (angles : List ℕ) → (per_angle xs : List Float) → (room : ℕ) → List Total
+angle_gives AngleTermCases.Absent cell angles per_angle xs room = []
+angle_gives (AngleTermCases.Present angle) cell angles per_angle xs room = angles_over angle cell angles per_angle xs room ∷ []
 
 -- "The evaluator (added) runs Lennard-Jones, Coulomb, bonds"; 02, No. 1: angles "after bonds"
 unfoldable pub contributions : (look : Tables → Lj → ℕ → Mixed) → Terms → Cell → (xs : List Float) → (room : ℕ) → List (ℕ × ℕ) → List Total
@@ -80,7 +80,7 @@ contributions look t cell xs room l =
     lj_gives (look t.tables) t.lj cell t.species xs room l
     ++ (coulomb_gives t.coulomb t.units.ke_coulomb cell t.charges xs room l
     ++ (bond_gives t.bond cell t.bonds t.lengths t.ks xs room
-    ++ angle_gives t.angle cell t.angles t.per_angle_lem xs room))
+    ++ angle_gives t.angle cell t.angles t.per_angle xs room))
 
 -- ---- merged in that order into zero
 

@@ -450,7 +450,7 @@ tyn_fire_only l a r s m n p q = shown_only p q (λ u v h k. let b = fire_only _ 
 
 -- ---- striking atoms
 pub tyn_strike_only : OneOutcome strike_contract.ended strike.Reads.Post
-tyn_strike_only l a r s m n p q = shown_only p q (λ u v h k. let b = strike_only _ _ _ _ u v _ _ _ _ h k in (b.0, λ i. (tt, (tt, ((b.1 i).positions, ((b.1 i).velocities, ((b.1 i).masses, ((b.1 i).charges, ((b.1 i).species, ((b.2 i).bonds, ((b.2 i).lengths, ((b.2 i).ks, ((b.2 i).angles, ((b.2 i).per_angle_lem, ((b.2 i).exclusions, tt)))))))))))))))
+tyn_strike_only l a r s m n p q = shown_only p q (λ u v h k. let b = strike_only _ _ _ _ u v _ _ _ _ h k in (b.0, λ i. (tt, (tt, ((b.1 i).positions, ((b.1 i).velocities, ((b.1 i).masses, ((b.1 i).charges, ((b.1 i).species, ((b.2 i).bonds, ((b.2 i).lengths, ((b.2 i).ks, ((b.2 i).angles, ((b.2 i).per_angle, ((b.2 i).exclusions, tt)))))))))))))))
 
 pub tyn_put_only : OneOutcome put_contract.ended put.Reads.Post
 tyn_put_only l a r s m n p q = shown_only p q (λ u v h k. let b = put_only _ _ _ _ u v _ _ h k in (b.0, λ i. (tt, (tt, (tt, ((b.1 i).positions, ((b.1 i).velocities, ((b.1 i).masses, ((b.1 i).charges, ((b.1 i).species, tt))))))))))

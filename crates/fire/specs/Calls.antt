@@ -22,9 +22,9 @@ use Rattle.fire.specs.Asked.{settling_ok}
 use Rattle.fire.specs.Steer.{largest_force, fresh_gait, steered_of}
 
 -- a call is given a step's motion: its time step is the options', its potential +0, its forces a room
-abbrev pub settling_of : FireOptions → Setting → State → (tab : Tables) (species : List ℕ) (charges : List Float) (bonds : List ℕ) (lengths ks : List Float) (angles : List ℕ) (per_angle_lem masses : List Float) (exclusions : List ℕ) (positions velocities : List Float) (pairs : List ℕ) (references : List Float) (starts items : List ℕ) (forces : List Float) → Motion
-settling_of o setting s tab species charges bonds lengths ks angles per_angle_lem masses exclusions positions velocities pairs references starts items forces =
-    motion_of setting o.dt s f0 tab species charges bonds lengths ks angles per_angle_lem masses exclusions positions velocities pairs references starts items forces
+abbrev pub settling_of : FireOptions → Setting → State → (tab : Tables) (species : List ℕ) (charges : List Float) (bonds : List ℕ) (lengths ks : List Float) (angles : List ℕ) (per_angle masses : List Float) (exclusions : List ℕ) (positions velocities : List Float) (pairs : List ℕ) (references : List Float) (starts items : List ℕ) (forces : List Float) → Motion
+settling_of o setting s tab species charges bonds lengths ks angles per_angle masses exclusions positions velocities pairs references starts items forces =
+    motion_of setting o.dt s f0 tab species charges bonds lengths ks angles per_angle masses exclusions positions velocities pairs references starts items forces
 
 -- between two iterations: what a step leaves (its potential is the energy), the pace, the largest force component, and how many iterations there were
 pub record Relaxing : Type 0 where

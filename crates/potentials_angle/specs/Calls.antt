@@ -28,19 +28,19 @@ abbrev pub UniformAnglesSays : (k rest : Float) → AngleAnswer → Type 0
 UniformAnglesSays k rest r = seen_angle r ≡ when (angle_in_range (angle_of k rest)) (angle_of k rest)
 
 -- 1: three floats an atom, three atoms a row, two floats a row of per_angle, forces as long as positions. The arguments are lengths
-unfoldable pub angles_fit : (angles per_angle_lem xs forces : ℕ) → Bool
+unfoldable pub angles_fit : (angles per_angle xs forces : ℕ) → Bool
 angles_fit angles per xs forces = eqb (xs % 3) 0 && eqb (angles % 3) 0 && eqb (per % 2) 0 && eqb forces xs
 
 -- 3
-unfoldable pub angles_ranges : Angle → Cell → (per_angle_lem xs : List Float) → Bool
+unfoldable pub angles_ranges : Angle → Cell → (per_angle xs : List Float) → Bool
 angles_ranges angle cell per xs = angle_in_range angle && cell_in_range cell && per_angle_in_range per && every coordinate xs
 
 -- 1, 2, 3, 4; angles and forces are lengths, missing is the first bad row of the angles; no table is in order, so no 5
-unfoldable pub angles_asked : Angle → Cell → (angles : ℕ) (per_angle_lem xs : List Float) (forces missing : ℕ) → Done
+unfoldable pub angles_asked : Angle → Cell → (angles : ℕ) (per_angle xs : List Float) (forces missing : ℕ) → Done
 angles_asked angle cell angles per xs forces missing =
     asked_by (angles_fit angles (length per) (length xs) forces) (atoms_of xs) (angles_ranges angle cell per xs) (angles / 3) missing DoneCases.Answered
 
-abbrev pub AnglesAllSays : (angle : Angle) (cell : Cell) (angles : List ℕ) (per_angle_lem positions forces : List Float) → Summed → (after : List Float) → Type 0
+abbrev pub AnglesAllSays : (angle : Angle) (cell : Cell) (angles : List ℕ) (per_angle positions forces : List Float) → Summed → (after : List Float) → Type 0
 AnglesAllSays angle cell angles per xs forces r after =
     left r after
     ≡ outcome_of (angles_asked angle cell (length angles) per xs (length forces) (missing_of (atoms_of xs) angles)) (angles_over angle cell angles per xs (length forces)) forces

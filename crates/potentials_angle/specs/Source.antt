@@ -14,7 +14,7 @@ use Rattle.potentials_angle.specs.Terms.{angle_bend, angles_over}
 use Rattle.potentials_angle.specs.Calls.{angles_asked}
 
 -- lines 312 to 359: row r of the angles, r rising
-abbrev pub AnglesAllBySource : (angle : Angle) (cell : Cell) (angles : List ℕ) (per_angle_lem positions forces : List Float) → Type 0
+abbrev pub AnglesAllBySource : (angle : Angle) (cell : Cell) (angles : List ℕ) (per_angle positions forces : List Float) → Type 0
 AnglesAllBySource angle cell angles per xs forces =
     angles_asked angle cell (length angles) per xs (length forces) (missing_of (atoms_of xs) angles) ≡ Answered
     → angles_over angle cell angles per xs (length forces)

@@ -21,17 +21,17 @@ unfoldable pub angle_at : List Float → ℕ → Angle → Angle
 angle_at per r angle = cond (ltb r (length per / 2)) (angle_row per r) angle
 
 -- lines 315 to 349, for row r: the arms are the minimum images of i - apex and k - apex; `image` is the minimum image in the cell
-unfoldable pub angle_bend : (Vec3 → Image) → Angle → (per_angle_lem xs : List Float) → ℕ → Corner → Bend
+unfoldable pub angle_bend : (Vec3 → Image) → Angle → (per_angle xs : List Float) → ℕ → Corner → Bend
 angle_bend image angle per xs r c =
     bend_of (angle_at per r angle) (displaced image xs (c.first, c.apex)) (displaced image xs (c.last, c.apex))
 
 -- row r of a table of angles; one that names an atom not there adds nothing (refusal 4 leaves no such case: Source.antt)
-unfoldable pub angle_step : (Vec3 → Image) → Angle → List ℕ → (per_angle_lem xs : List Float) → Total → ℕ → Total
+unfoldable pub angle_step : (Vec3 → Image) → Angle → List ℕ → (per_angle xs : List Float) → Total → ℕ → Total
 angle_step image angle angles per xs t r =
     let c = corner_at angles r in
     cond (is_missing (atoms_of xs) c) t (bent t c (angle_bend image angle per xs r c))
 
 -- `compute_all`: from zero, row after row
-unfoldable pub angles_over : Angle → Cell → List ℕ → (per_angle_lem xs : List Float) → ℕ → Total
+unfoldable pub angles_over : Angle → Cell → List ℕ → (per_angle xs : List Float) → ℕ → Total
 angles_over angle cell angles per xs room =
     foldl (angle_step (λ d. image_of d cell) angle angles per xs) (zero_total room) (up_to (length angles / 3))

@@ -41,7 +41,7 @@ pub other_malformed : (s : List ℕ) (at : ℕ) → OtherMalformed s at
 unfolding line_at two_at header_two end_two ruled_two
 other_malformed s at h =
     record {
-      header_two_lem = λ e. simp (lt-ltb at (length s) h, e);
+      header_two = λ e. simp (lt-ltb at (length s) h, e);
       atom_two = λ e. simp (lt-ltb at (length s) h, e);
       header_one = λ e. simp (lt-ltb at (length s) h, e);
       atom_one = λ e. simp (lt-ltb at (length s) h, e);

@@ -28,7 +28,7 @@ SecondForm s co sp ex = (j : RuledJob) → (read_two_of s co sp ex).shown ≡ an
 -- "each line of the other form is malformed": 11 and 12 to the first form's reader, 01 and 02 to the second's. So a mixed sheet is refused, 9, at the first line of the form that
 -- didn't come first, if not before.
 pub record OtherForm (s : List ℕ) (at : ℕ) : Type 0 where
-  pub header_two_lem : hex2 s at ≡ 17 → line_at s at ≡ Malformed
+  pub header_two : hex2 s at ≡ 17 → line_at s at ≡ Malformed
   pub atom_two : hex2 s at ≡ 18 → line_at s at ≡ Malformed
   pub header_one : hex2 s at ≡ 1 → two_at s at ≡ plain_two Malformed
   pub atom_one : hex2 s at ≡ 2 → two_at s at ≡ plain_two Malformed

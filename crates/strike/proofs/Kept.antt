@@ -138,7 +138,7 @@ module _ (marks : List ℕ) (a : LentAtoms) (l : Links) (h : strike_asked marks 
         lengths = kept nan (λ x. x) 1 (length l.lengths / 1) (link_survives marks 2 (length l.bonds / 2) l.bonds) l.lengths (omega arith);
         ks = kept nan (λ x. x) 1 (length l.ks / 1) (link_survives marks 2 (length l.bonds / 2) l.bonds) l.ks (omega arith);
         angles = kept 0 (new_number marks) 3 (length l.angles / 3) (row_survives marks 3 l.angles) l.angles (omega arith);
-        per_angle_lem = kept nan (λ x. x) 2 (length l.per_angle_lem / 2) (link_survives marks 3 (length l.angles / 3) l.angles) l.per_angle_lem (omega arith);
+        per_angle = kept nan (λ x. x) 2 (length l.per_angle / 2) (link_survives marks 3 (length l.angles / 3) l.angles) l.per_angle (omega arith);
         exclusions = kept 0 (new_number marks) 2 (length l.exclusions / 2) (row_survives marks 2 l.exclusions) l.exclusions (omega arith);
       }
 

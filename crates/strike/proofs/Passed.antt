@@ -74,7 +74,7 @@ module _ (marks : List ℕ) (a : LentAtoms) (l : Links) (h : strike_asked marks 
   pub fit_of : Fitting marks a
   unfolding strike_fits
   fit_of =
-      let z = and_both (eqb (length marks) room && atoms_fit (length a.positions) (length a.velocities) (length a.masses) (length a.charges) (length a.species)) (links_fit (length l.bonds) (length l.angles) (length l.per_angle_lem) (length l.exclusions)) first.0 in
+      let z = and_both (eqb (length marks) room && atoms_fit (length a.positions) (length a.velocities) (length a.masses) (length a.charges) (length a.species)) (links_fit (length l.bonds) (length l.angles) (length l.per_angle) (length l.exclusions)) first.0 in
       let y = and_both (eqb (length marks) room) (atoms_fit (length a.positions) (length a.velocities) (length a.masses) (length a.charges) (length a.species)) z.0 in
       let n : length marks ≡ room = eqb-true (length marks) room y.0 in
       let f = fit_lengths (length a.positions) (length a.velocities) (length a.masses) (length a.charges) (length a.species) y.1 in
@@ -162,7 +162,7 @@ module _ (marks : List ℕ) where
   unfolding names_left names_many beside_left beside_many
   angles_closed angles angles' per per' r a c = record { angles_held = c.held; per_held = a.held; angles_many = c.count; per_many = a.count }
 
-  pub links_closed : (n : ℕ) (l : Links) (b c : ThreeLeft) (x : ℕ) (bonds angles exclusions : List ℕ) (lengths ks per : List Float) → BondsClosed marks l.bonds l.lengths l.ks b bonds lengths ks → AnglesClosed marks l.angles l.per_angle_lem c angles per → Closed (λ e. new_number marks (get_or l.exclusions e 0)) 2 (row_survives marks 2 l.exclusions) (length l.exclusions / 2) l.exclusions x exclusions → LinksClosed marks n l (record { atoms = n; bonds = b.names; lengths = b.first; ks = b.second; angles = c.names; per_angle = c.first; exclusions = x }) (links bonds lengths ks angles per exclusions)
+  pub links_closed : (n : ℕ) (l : Links) (b c : ThreeLeft) (x : ℕ) (bonds angles exclusions : List ℕ) (lengths ks per : List Float) → BondsClosed marks l.bonds l.lengths l.ks b bonds lengths ks → AnglesClosed marks l.angles l.per_angle c angles per → Closed (λ e. new_number marks (get_or l.exclusions e 0)) 2 (row_survives marks 2 l.exclusions) (length l.exclusions / 2) l.exclusions x exclusions → LinksClosed marks n l (record { atoms = n; bonds = b.names; lengths = b.first; ks = b.second; angles = c.names; per_angle = c.first; exclusions = x }) (links bonds lengths ks angles per exclusions)
   unfolding links_left left_of
   links_closed n l b c x bonds angles exclusions lengths ks per t u v =
       record {
@@ -177,7 +177,7 @@ module _ (marks : List ℕ) where
       names_many_lem v = unfold names_many in v.count
 
 -- ---- the tests of `strike`, one after the other; x and y are what was found of the lengths
-module _ (marks : List ℕ) (a : LentAtoms) (l : Links) (x y : Bool) (ex : x ≡ atoms_fit (length a.positions) (length a.velocities) (length a.masses) (length a.charges) (length a.species)) (ey : y ≡ links_fit (length l.bonds) (length l.angles) (length l.per_angle_lem) (length l.exclusions)) where
+module _ (marks : List ℕ) (a : LentAtoms) (l : Links) (x y : Bool) (ex : x ≡ atoms_fit (length a.positions) (length a.velocities) (length a.masses) (length a.charges) (length a.species)) (ey : y ≡ links_fit (length l.bonds) (length l.angles) (length l.per_angle) (length l.exclusions)) where
   found : eqb (length marks) (atoms_of a.positions) && x && y ≡ strike_fits marks a l
   unfolding strike_fits
   found = rw (ex, ey)

@@ -106,28 +106,28 @@ module _ (marks : List ℕ) (a : LentAtoms) (l : Links) (h : strike_asked marks 
       same = rows_go_with marks 2 l.bonds b c
 
   -- the same of an angle's two numbers
-  own_angle : (t : Angle) (r : ℕ) → r < length l.angles / 3 → row_survives marks 3 l.angles r ≡ true → angle_at (take (2 * beside_many marks 3 l.angles 2 l.per_angle_lem) (links_left marks l).per_angle_lem) (how_many (row_survives marks 3 l.angles) (up_to r)) t ≡ angle_at l.per_angle_lem r t
+  own_angle : (t : Angle) (r : ℕ) → r < length l.angles / 3 → row_survives marks 3 l.angles r ≡ true → angle_at (take (2 * beside_many marks 3 l.angles 2 l.per_angle) (links_left marks l).per_angle) (how_many (row_survives marks 3 l.angles) (up_to r)) t ≡ angle_at l.per_angle r t
   unfolding beside_many angle_at angle_row
   own_angle t r c e =
       ⊎_elim
-      (λ (w : r < (length l.per_angle_lem / 2)).
-      let u = order (link_survives marks 3 (length l.angles / 3) l.angles) r (length l.per_angle_lem / 2) w live in
-      let x : ltb (how_many (link_survives marks 3 (length l.angles / 3) l.angles) (up_to r)) (length (take (2 * (how_many (link_survives marks 3 (length l.angles / 3) l.angles) (up_to (length l.per_angle_lem / 2)))) (links_left marks l).per_angle_lem) / 2) ≡ true = lt-ltb (how_many (link_survives marks 3 (length l.angles / 3) l.angles) (up_to r)) (length (take (2 * (how_many (link_survives marks 3 (length l.angles / 3) l.angles) (up_to (length l.per_angle_lem / 2)))) (links_left marks l).per_angle_lem) / 2) (omega (arith, length-take (2 * (how_many (link_survives marks 3 (length l.angles / 3) l.angles) (up_to (length l.per_angle_lem / 2)))) (links_left marks l).per_angle_lem, u, many_few (link_survives marks 3 (length l.angles / 3) l.angles) (length l.per_angle_lem / 2), k₂.long)) in
-      let y : ltb r (length l.per_angle_lem / 2) ≡ true = lt-ltb r (length l.per_angle_lem / 2) w in
-      let first : at (take (2 * (how_many (link_survives marks 3 (length l.angles / 3) l.angles) (up_to (length l.per_angle_lem / 2)))) (links_left marks l).per_angle_lem) (2 * (how_many (link_survives marks 3 (length l.angles / 3) l.angles) (up_to r))) ≡ at l.per_angle_lem (2 * r) =
-      get_or-take (2 * (how_many (link_survives marks 3 (length l.angles / 3) l.angles) (up_to (length l.per_angle_lem / 2)))) (links_left marks l).per_angle_lem (2 * (how_many (link_survives marks 3 (length l.angles / 3) l.angles) (up_to r))) nan (omega (arith, u)) ∙ ap (at (links_left marks l).per_angle_lem) (plus (2 * (how_many (link_survives marks 3 (length l.angles / 3) l.angles) (up_to r)))) ∙ k₂.same r 0 w live (omega arith) ∙ ap (at l.per_angle_lem) (sym (plus (2 * r))) in
-      let second : at (take (2 * (how_many (link_survives marks 3 (length l.angles / 3) l.angles) (up_to (length l.per_angle_lem / 2)))) (links_left marks l).per_angle_lem) (2 * (how_many (link_survives marks 3 (length l.angles / 3) l.angles) (up_to r)) + 1) ≡ at l.per_angle_lem (2 * r + 1) =
-      get_or-take (2 * (how_many (link_survives marks 3 (length l.angles / 3) l.angles) (up_to (length l.per_angle_lem / 2)))) (links_left marks l).per_angle_lem (2 * (how_many (link_survives marks 3 (length l.angles / 3) l.angles) (up_to r)) + 1) nan (omega (arith, u)) ∙ k₂.same r 1 w live (omega arith) in
+      (λ (w : r < (length l.per_angle / 2)).
+      let u = order (link_survives marks 3 (length l.angles / 3) l.angles) r (length l.per_angle / 2) w live in
+      let x : ltb (how_many (link_survives marks 3 (length l.angles / 3) l.angles) (up_to r)) (length (take (2 * (how_many (link_survives marks 3 (length l.angles / 3) l.angles) (up_to (length l.per_angle / 2)))) (links_left marks l).per_angle) / 2) ≡ true = lt-ltb (how_many (link_survives marks 3 (length l.angles / 3) l.angles) (up_to r)) (length (take (2 * (how_many (link_survives marks 3 (length l.angles / 3) l.angles) (up_to (length l.per_angle / 2)))) (links_left marks l).per_angle) / 2) (omega (arith, length-take (2 * (how_many (link_survives marks 3 (length l.angles / 3) l.angles) (up_to (length l.per_angle / 2)))) (links_left marks l).per_angle, u, many_few (link_survives marks 3 (length l.angles / 3) l.angles) (length l.per_angle / 2), k₂.long)) in
+      let y : ltb r (length l.per_angle / 2) ≡ true = lt-ltb r (length l.per_angle / 2) w in
+      let first : at (take (2 * (how_many (link_survives marks 3 (length l.angles / 3) l.angles) (up_to (length l.per_angle / 2)))) (links_left marks l).per_angle) (2 * (how_many (link_survives marks 3 (length l.angles / 3) l.angles) (up_to r))) ≡ at l.per_angle (2 * r) =
+      get_or-take (2 * (how_many (link_survives marks 3 (length l.angles / 3) l.angles) (up_to (length l.per_angle / 2)))) (links_left marks l).per_angle (2 * (how_many (link_survives marks 3 (length l.angles / 3) l.angles) (up_to r))) nan (omega (arith, u)) ∙ ap (at (links_left marks l).per_angle) (plus (2 * (how_many (link_survives marks 3 (length l.angles / 3) l.angles) (up_to r)))) ∙ k₂.same r 0 w live (omega arith) ∙ ap (at l.per_angle) (sym (plus (2 * r))) in
+      let second : at (take (2 * (how_many (link_survives marks 3 (length l.angles / 3) l.angles) (up_to (length l.per_angle / 2)))) (links_left marks l).per_angle) (2 * (how_many (link_survives marks 3 (length l.angles / 3) l.angles) (up_to r)) + 1) ≡ at l.per_angle (2 * r + 1) =
+      get_or-take (2 * (how_many (link_survives marks 3 (length l.angles / 3) l.angles) (up_to (length l.per_angle / 2)))) (links_left marks l).per_angle (2 * (how_many (link_survives marks 3 (length l.angles / 3) l.angles) (up_to r)) + 1) nan (omega (arith, u)) ∙ k₂.same r 1 w live (omega arith) in
       rw (sym same, x, y) (λ j. record { k = first j; rest = second j }))
-      (λ (w : (length l.per_angle_lem / 2) ≤ r).
-      let u = many_rises (link_survives marks 3 (length l.angles / 3) l.angles) (length l.per_angle_lem / 2) r w in
-      let x : ltb (how_many (link_survives marks 3 (length l.angles / 3) l.angles) (up_to r)) (length (take (2 * (how_many (link_survives marks 3 (length l.angles / 3) l.angles) (up_to (length l.per_angle_lem / 2)))) (links_left marks l).per_angle_lem) / 2) ≡ false = le-ltb (how_many (link_survives marks 3 (length l.angles / 3) l.angles) (up_to r)) (length (take (2 * (how_many (link_survives marks 3 (length l.angles / 3) l.angles) (up_to (length l.per_angle_lem / 2)))) (links_left marks l).per_angle_lem) / 2) (omega (arith, length-take (2 * (how_many (link_survives marks 3 (length l.angles / 3) l.angles) (up_to (length l.per_angle_lem / 2)))) (links_left marks l).per_angle_lem, u)) in
-      let y : ltb r (length l.per_angle_lem / 2) ≡ false = le-ltb r (length l.per_angle_lem / 2) w in
+      (λ (w : (length l.per_angle / 2) ≤ r).
+      let u = many_rises (link_survives marks 3 (length l.angles / 3) l.angles) (length l.per_angle / 2) r w in
+      let x : ltb (how_many (link_survives marks 3 (length l.angles / 3) l.angles) (up_to r)) (length (take (2 * (how_many (link_survives marks 3 (length l.angles / 3) l.angles) (up_to (length l.per_angle / 2)))) (links_left marks l).per_angle) / 2) ≡ false = le-ltb (how_many (link_survives marks 3 (length l.angles / 3) l.angles) (up_to r)) (length (take (2 * (how_many (link_survives marks 3 (length l.angles / 3) l.angles) (up_to (length l.per_angle / 2)))) (links_left marks l).per_angle) / 2) (omega (arith, length-take (2 * (how_many (link_survives marks 3 (length l.angles / 3) l.angles) (up_to (length l.per_angle / 2)))) (links_left marks l).per_angle, u)) in
+      let y : ltb r (length l.per_angle / 2) ≡ false = le-ltb r (length l.per_angle / 2) w in
       rw (sym same, x, y))
-      (below_or r (length l.per_angle_lem / 2))
+      (below_or r (length l.per_angle / 2))
     where
-      k₂ : Keeps nan (λ x. x) 2 (length l.per_angle_lem / 2) (link_survives marks 3 (length l.angles / 3) l.angles) l.per_angle_lem (links_left marks l).per_angle_lem
-      k₂ = (strike_keeps marks a l h).1.per_angle_lem
+      k₂ : Keeps nan (λ x. x) 2 (length l.per_angle / 2) (link_survives marks 3 (length l.angles / 3) l.angles) l.per_angle (links_left marks l).per_angle
+      k₂ = (strike_keeps marks a l h).1.per_angle
 
       plus : (n : ℕ) → n ≡ n + 0
       plus n = omega arith

@@ -182,7 +182,7 @@ module _ (marks : List ℕ) (a : LentAtoms) (l : Links) (h : strike_asked marks 
           lengths = one_a_row (link_survives marks 2 (length l.bonds / 2) l.bonds) (min (length l.lengths / 1) (length l.bonds / 2)) (length l.lengths / 1) (omega arith) (beside_stays 2 l.bonds bond_stays (length l.lengths / 1)) (beside_goes 2 l.bonds (length l.lengths / 1)) nan (λ x. x) l.lengths (links_left marks l).lengths r.lengths (λ e x. refl);
           ks = one_a_row (link_survives marks 2 (length l.bonds / 2) l.bonds) (min (length l.ks / 1) (length l.bonds / 2)) (length l.ks / 1) (omega arith) (beside_stays 2 l.bonds bond_stays (length l.ks / 1)) (beside_goes 2 l.bonds (length l.ks / 1)) nan (λ x. x) l.ks (links_left marks l).ks r.ks (λ e x. refl);
           angles = three_a_row (row_survives marks 3 l.angles) (length l.angles / 3) (length l.angles / 3) (omega arith) angle_stays (λ o x y. absurd (omega arith)) 0 (new_number marks) l.angles (links_left marks l).angles r.angles (λ e x. keeps_name marks z l.angles e (angle_there e x));
-          per_angle_lem = two_a_row (link_survives marks 3 (length l.angles / 3) l.angles) (min (length l.per_angle_lem / 2) (length l.angles / 3)) (length l.per_angle_lem / 2) (omega arith) (beside_stays 3 l.angles angle_stays (length l.per_angle_lem / 2)) (beside_goes 3 l.angles (length l.per_angle_lem / 2)) nan (λ x. x) l.per_angle_lem (links_left marks l).per_angle_lem r.per_angle_lem (λ e x. refl);
+          per_angle = two_a_row (link_survives marks 3 (length l.angles / 3) l.angles) (min (length l.per_angle / 2) (length l.angles / 3)) (length l.per_angle / 2) (omega arith) (beside_stays 3 l.angles angle_stays (length l.per_angle / 2)) (beside_goes 3 l.angles (length l.per_angle / 2)) nan (λ x. x) l.per_angle (links_left marks l).per_angle r.per_angle (λ e x. refl);
         }
 
 pub nothing_moves : (marks : List ℕ) (a : LentAtoms) (l : Links) → NothingMoves marks a l

@@ -38,11 +38,11 @@ pub record Links : Type 0 where
   pub lengths : List Float
   pub ks : List Float
   pub angles : List ℕ
-  pub per_angle_lem : List Float
+  pub per_angle : List Float
   pub exclusions : List ℕ
 
-abbrev pub links : (bonds : List ℕ) (lengths ks : List Float) (angles : List ℕ) (per_angle_lem : List Float) (exclusions : List ℕ) → Links
-links bonds lengths ks angles per_angle_lem exclusions = record { bonds = bonds; lengths = lengths; ks = ks; angles = angles; per_angle_lem = per_angle_lem; exclusions = exclusions }
+abbrev pub links : (bonds : List ℕ) (lengths ks : List Float) (angles : List ℕ) (per_angle : List Float) (exclusions : List ℕ) → Links
+links bonds lengths ks angles per_angle exclusions = record { bonds = bonds; lengths = lengths; ks = ks; angles = angles; per_angle = per_angle; exclusions = exclusions }
 
 -- "The list state comes back with no pairs and no references"
 unfoldable pub unlisted_of : State → State
@@ -65,14 +65,14 @@ unfoldable pub atoms_fit : (positions velocities masses charges species : ℕ) �
 atoms_fit positions velocities masses charges species =
     eqb (positions % 3) 0 && eqb velocities positions && eqb masses (positions / 3) && eqb charges (positions / 3) && eqb species (positions / 3)
 
-unfoldable pub links_fit : (bonds angles per_angle_lem exclusions : ℕ) → Bool
-links_fit bonds angles per_angle_lem exclusions = eqb (bonds % 2) 0 && eqb (angles % 3) 0 && eqb (per_angle_lem % 2) 0 && eqb (exclusions % 2) 0
+unfoldable pub links_fit : (bonds angles per_angle exclusions : ℕ) → Bool
+links_fit bonds angles per_angle exclusions = eqb (bonds % 2) 0 && eqb (angles % 3) 0 && eqb (per_angle % 2) 0 && eqb (exclusions % 2) 0
 
 unfoldable pub strike_fits : List ℕ → LentAtoms → Links → Bool
 strike_fits marks a l =
     eqb (length marks) (atoms_of a.positions)
     && atoms_fit (length a.positions) (length a.velocities) (length a.masses) (length a.charges) (length a.species)
-    && links_fit (length l.bonds) (length l.angles) (length l.per_angle_lem) (length l.exclusions)
+    && links_fit (length l.bonds) (length l.angles) (length l.per_angle) (length l.exclusions)
 
 -- "3 for a mark other than 0 or 1"
 abbrev pub is_mark : ℕ → Bool
@@ -119,7 +119,7 @@ links_left marks l =
       lengths = beside_left marks 2 l.bonds 1 l.lengths;
       ks = beside_left marks 2 l.bonds 1 l.ks;
       angles = names_left marks 3 l.angles;
-      per_angle_lem = beside_left marks 3 l.angles 2 l.per_angle_lem;
+      per_angle = beside_left marks 3 l.angles 2 l.per_angle;
       exclusions = names_left marks 2 l.exclusions;
     }
 
@@ -138,7 +138,7 @@ left_of n marks l =
       lengths = beside_many marks 2 l.bonds 1 l.lengths;
       ks = beside_many marks 2 l.bonds 1 l.ks;
       angles = names_many marks 3 l.angles;
-      per_angle = beside_many marks 3 l.angles 2 l.per_angle_lem;
+      per_angle = beside_many marks 3 l.angles 2 l.per_angle;
       exclusions = names_many marks 2 l.exclusions;
     }
 

@@ -52,7 +52,7 @@ pub record LinksKept (marks : List ℕ) (l after : Links) : Type 0 where
   pub lengths : BesideKept marks 2 l.bonds 1 l.lengths after.lengths
   pub ks : BesideKept marks 2 l.bonds 1 l.ks after.ks
   pub angles : NamesKept marks 3 l.angles after.angles
-  pub per_angle_lem : BesideKept marks 3 l.angles 2 l.per_angle_lem after.per_angle_lem
+  pub per_angle : BesideKept marks 3 l.angles 2 l.per_angle after.per_angle
   pub exclusions : NamesKept marks 2 l.exclusions after.exclusions
 
 -- after an answered strike
@@ -78,7 +78,7 @@ pub record PullsStay (marks : List ℕ) (a : LentAtoms) (l : Links) : Type 0 whe
   pub lj : (image : Vec3 → Image) (look : ℕ → Mixed) (t : Lj) (i j : ℕ) → survives marks i ≡ true → survives marks j ≡ true → lj_pair image look t (atoms_left marks a).species (atoms_left marks a).positions (new_number marks i, new_number marks j) ≡ lj_pair image look t a.species a.positions (i, j)
   pub coulomb : (image : Vec3 → Image) (ke cutoff : Float) (i j : ℕ) → survives marks i ≡ true → survives marks j ≡ true → coulomb_pair image ke cutoff (atoms_left marks a).charges (atoms_left marks a).positions (new_number marks i, new_number marks j) ≡ coulomb_pair image ke cutoff a.charges a.positions (i, j)
   pub bond : (image : Vec3 → Image) (t : Bond) (b i j : ℕ) → b < length l.bonds / 2 → row_survives marks 2 l.bonds b ≡ true → survives marks i ≡ true → survives marks j ≡ true → bond_pair image t (take (beside_many marks 2 l.bonds 1 l.lengths) (links_left marks l).lengths) (take (beside_many marks 2 l.bonds 1 l.ks) (links_left marks l).ks) (atoms_left marks a).positions (how_many (row_survives marks 2 l.bonds) (up_to b)) (new_number marks i, new_number marks j) ≡ bond_pair image t l.lengths l.ks a.positions b (i, j)
-  pub angle : (image : Vec3 → Image) (t : Angle) (r : ℕ) (c : Corner) → r < length l.angles / 3 → row_survives marks 3 l.angles r ≡ true → survives marks c.first ≡ true → survives marks c.apex ≡ true → survives marks c.last ≡ true → angle_bend image t (take (2 * beside_many marks 3 l.angles 2 l.per_angle_lem) (links_left marks l).per_angle_lem) (atoms_left marks a).positions (how_many (row_survives marks 3 l.angles) (up_to r)) (record { first = new_number marks c.first; apex = new_number marks c.apex; last = new_number marks c.last }) ≡ angle_bend image t l.per_angle_lem a.positions r c
+  pub angle : (image : Vec3 → Image) (t : Angle) (r : ℕ) (c : Corner) → r < length l.angles / 3 → row_survives marks 3 l.angles r ≡ true → survives marks c.first ≡ true → survives marks c.apex ≡ true → survives marks c.last ≡ true → angle_bend image t (take (2 * beside_many marks 3 l.angles 2 l.per_angle) (links_left marks l).per_angle) (atoms_left marks a).positions (how_many (row_survives marks 3 l.angles) (up_to r)) (record { first = new_number marks c.first; apex = new_number marks c.apex; last = new_number marks c.last }) ≡ angle_bend image t l.per_angle a.positions r c
 
 abbrev pub StrikePulls : List ℕ → LentAtoms → Links → Type 0
 StrikePulls marks a l = strike_asked marks a l ≡ Answered → PullsStay marks a l
@@ -98,7 +98,7 @@ pub record Unmoved (marks : List ℕ) (a : LentAtoms) (l : Links) : Type 0 where
   pub lengths : (e : ℕ) → get_or (links_left marks l).lengths e nan ≡ get_or l.lengths e nan
   pub ks : (e : ℕ) → get_or (links_left marks l).ks e nan ≡ get_or l.ks e nan
   pub angles : (e : ℕ) → get_or (links_left marks l).angles e 0 ≡ get_or l.angles e 0
-  pub per_angle_lem : (e : ℕ) → get_or (links_left marks l).per_angle_lem e nan ≡ get_or l.per_angle_lem e nan
+  pub per_angle : (e : ℕ) → get_or (links_left marks l).per_angle e nan ≡ get_or l.per_angle e nan
 
 abbrev pub NothingMoves : List ℕ → LentAtoms → Links → Type 0
 NothingMoves marks a l = strike_asked marks a l ≡ Answered → every (eqb 0) marks ≡ true → Unmoved marks a l

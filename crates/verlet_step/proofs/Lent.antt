@@ -45,7 +45,7 @@ module _ (s : State) (cell : Cell) (xs : List Float) (table pairs refs items : �
 pub record Passed (limit : Float) (t : Thermostat) (m : Motion) : Type 0 where
   pub fits :
       motion_fits (length m.job.given.positions) (length m.velocities) (length m.masses)
-      && terms_fit (tables_fit (length m.job.terms.tables.own_ids) (length m.job.terms.tables.own_params) (length m.job.terms.tables.ids) (length m.job.terms.tables.params)) (length m.job.terms.species) (length m.job.terms.charges) (length m.job.terms.bonds) (length m.job.terms.angles) (length m.job.terms.per_angle_lem) (length m.job.given.positions) (length m.job.forces)
+      && terms_fit (tables_fit (length m.job.terms.tables.own_ids) (length m.job.terms.tables.own_params) (length m.job.terms.tables.ids) (length m.job.terms.tables.params)) (length m.job.terms.species) (length m.job.terms.charges) (length m.job.terms.bonds) (length m.job.terms.angles) (length m.job.terms.per_angle) (length m.job.given.positions) (length m.job.forces)
       ≡ true
   pub lengths : lengths_bad (length m.job.given.positions) (length m.job.given.exclusions) (length m.job.given.references) (length m.job.given.items) ≡ false
   pub few : ltb 16384 (atoms_of m.job.given.positions) ≡ false
@@ -53,7 +53,7 @@ pub record Passed (limit : Float) (t : Thermostat) (m : Motion) : Type 0 where
   pub ranges : ranges_ok m.job.given.state m.job.given.cell m.job.given.positions ≡ true
   pub numbers :
       motion_ok limit m.dt t m.masses m.velocities m.job.forces m.potential
-      && numbers_ok m.job.terms.lj m.job.terms.coulomb m.job.terms.bond m.job.terms.angle m.job.terms.units m.job.terms.tables.own_params m.job.terms.tables.params m.job.terms.charges m.job.terms.lengths m.job.terms.ks m.job.terms.per_angle_lem
+      && numbers_ok m.job.terms.lj m.job.terms.coulomb m.job.terms.bond m.job.terms.angle m.job.terms.units m.job.terms.tables.own_params m.job.terms.tables.params m.job.terms.charges m.job.terms.lengths m.job.terms.ks m.job.terms.per_angle
       ≡ true
   pub kept : kept_asked m.job.given.state (atoms_of m.job.given.positions) m.job.given.pairs m.job.given.references ≡ Answered
   pub names : names_asked (atoms_of m.job.given.positions) m.job.terms.bonds m.job.terms.angles m.job.given.exclusions m.job.terms.tables.own_ids m.job.terms.tables.ids ≡ Answered

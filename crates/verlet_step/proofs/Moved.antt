@@ -47,14 +47,14 @@ second : (a u b c d e f : Bool) → a && u && b && c && d && e && f ≡ true →
 second a u b c d e f h =
     (and_both a u (and_both (a && u) b (and_both (a && u && b) c (and_both (a && u && b && c) d (and_both (a && u && b && c && d) e (and_both (a && u && b && c && d && e) f h).0).0).0).0).0).1
 
-units_told : (t : Terms) → numbers_ok t.lj t.coulomb t.bond t.angle t.units t.tables.own_params t.tables.params t.charges t.lengths t.ks t.per_angle_lem ≡ true → units_in_range t.units ≡ true
+units_told : (t : Terms) → numbers_ok t.lj t.coulomb t.bond t.angle t.units t.tables.own_params t.tables.params t.charges t.lengths t.ks t.per_angle ≡ true → units_in_range t.units ≡ true
 unfolding numbers_ok
 units_told t h =
-    second (lj_ok t.lj && coulomb_ok t.coulomb && bond_ok t.bond && angle_ok t.angle) (units_in_range t.units) (rows_in_range t.tables.own_params t.tables.params) (every charge t.charges) (every Limits.coordinate t.lengths) (every Limits.coordinate t.ks) (per_angle_in_range t.per_angle_lem) h
+    second (lj_ok t.lj && coulomb_ok t.coulomb && bond_ok t.bond && angle_ok t.angle) (units_in_range t.units) (rows_in_range t.tables.own_params t.tables.params) (every charge t.charges) (every Limits.coordinate t.lengths) (every Limits.coordinate t.ks) (per_angle_in_range t.per_angle) h
 
 module _ (limit : Float) (t : Thermostat) (m : Motion) (a : Passed limit t m) where
   asked_numbers : (motion_ok limit m.dt t m.masses m.velocities m.job.forces m.potential ≡ true)
-      × (numbers_ok m.job.terms.lj m.job.terms.coulomb m.job.terms.bond m.job.terms.angle m.job.terms.units m.job.terms.tables.own_params m.job.terms.tables.params m.job.terms.charges m.job.terms.lengths m.job.terms.ks m.job.terms.per_angle_lem ≡ true)
+      × (numbers_ok m.job.terms.lj m.job.terms.coulomb m.job.terms.bond m.job.terms.angle m.job.terms.units m.job.terms.tables.own_params m.job.terms.tables.params m.job.terms.charges m.job.terms.lengths m.job.terms.ks m.job.terms.per_angle ≡ true)
   asked_numbers = and_both _ _ a.numbers
 
   asked_motion : (time_step m.dt ≡ true) × (thermostat_in_range t ≡ true) × (every mass m.masses ≡ true) × (every (within limit) m.velocities ≡ true) × (every plain m.job.forces ≡ true) × (plain m.potential ≡ true)

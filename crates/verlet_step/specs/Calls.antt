@@ -32,9 +32,9 @@ abbrev pub motion : (dt : Float) → Job → (masses : List Float) → (potentia
 motion dt j masses potential velocities = record { dt = dt; job = j; masses = masses; potential = potential; velocities = velocities }
 
 -- that of a call, from what it is handed
-abbrev pub motion_of : Setting → (dt : Float) → State → (potential : Float) → (tab : Tables) (species : List ℕ) (charges : List Float) (bonds : List ℕ) (lengths ks : List Float) (angles : List ℕ) (per_angle_lem masses : List Float) (exclusions : List ℕ) (positions velocities : List Float) (pairs : List ℕ) (references : List Float) (starts items : List ℕ) (forces : List Float) → Motion
-motion_of setting dt s potential tab species charges bonds lengths ks angles per_angle_lem masses exclusions positions velocities pairs references starts items forces =
-    motion dt (job_of setting s tab species charges bonds lengths ks angles per_angle_lem positions exclusions pairs references starts items forces) masses potential velocities
+abbrev pub motion_of : Setting → (dt : Float) → State → (potential : Float) → (tab : Tables) (species : List ℕ) (charges : List Float) (bonds : List ℕ) (lengths ks : List Float) (angles : List ℕ) (per_angle masses : List Float) (exclusions : List ℕ) (positions velocities : List Float) (pairs : List ℕ) (references : List Float) (starts items : List ℕ) (forces : List Float) → Motion
+motion_of setting dt s potential tab species charges bonds lengths ks angles per_angle masses exclusions positions velocities pairs references starts items forces =
+    motion dt (job_of setting s tab species charges bonds lengths ks angles per_angle positions exclusions pairs references starts items forces) masses potential velocities
 
 abbrev pub units_of : Motion → Units
 units_of m = m.job.terms.units
