@@ -6,7 +6,7 @@
 mod floats;
 mod frames;
 mod half;
-mod lists;
+mod pair_lists;
 mod parts;
 mod refused;
 mod rooms;
@@ -15,7 +15,7 @@ mod speeds;
 
 fn main() {
     frames::all();
-    lists::all();
+    pair_lists::all();
     speeds::all();
     refused::all();
     half::all();
