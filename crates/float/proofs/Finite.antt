@@ -27,7 +27,7 @@ fields_are x p =
     let b = to_bits binary64 x in
     ap (λ (z : ℕ). of_fields binary64 (leb (2 ^ 63) b) z (b % 2 ^ 52)) (sym (field b 11 52)) ∙ sym (of_bits_is b) ∙ of_bits-to_bits binary64 x p
 
-low_is : (s : Bool) (t : ℕ) → of_fields binary64 s 0 t ≡ odd 53 s t 0 1074
+pub low_is : (s : Bool) (t : ℕ) → of_fields binary64 s 0 t ≡ odd 53 s t 0 1074
 unfolding of_fields
 low_is s t = refl
 
@@ -118,7 +118,7 @@ module _ (x : Float) (p : T (positive x)) (g : T (fits binary64 x)) where
       one_less f h = omega arith
 
 -- the leading digit: 0 where the field is 0, else 1
-pub Lead : ℕ → ℕ → Type 0
+unfoldable pub Lead : ℕ → ℕ → Type 0
 Lead f l = ((f ≡ 0) × (l ≡ 0)) ⊎ ((f ≡ 0 → ⊥) × (l ≡ 1))
 
 pub lead_of : (f l : ℕ) → l ≡ cond (eqb f 0) 0 1 → Lead f l

@@ -13,3 +13,4 @@ pub mod Normal
 pub mod Finite
 pub mod RootNearest
 pub mod Theorems
+pub mod Remainder

@@ -4,3 +4,4 @@ pub mod Estimate
 pub mod Literals
 pub mod Steps
 pub mod Theorems
+pub mod Remainder

@@ -10,6 +10,7 @@ ghost use Rattle.float.specs.Estimate.{estimate_of};
 ghost use Rattle.float.specs.Steps.{sign_of, half_up, Within, Digits, Evened, EvenOf, RootBits};
 
 mod quick;
+mod rest;
 mod roots;
 
 pub fn abs(x: f64) -> f64
@@ -54,7 +55,7 @@ pub fn clamp(x: f64, lo: f64, hi: f64) -> f64
 pub fn rem_euclid(x: f64, y: f64) -> f64
     ensures { result ≡ rem_euclid_of x y }
 {
-    let r = x % y;
+    let r = rest::remainder(x, y);
     if r < 0.0 { r + abs(y) } else { r }
 }
 
