@@ -45,8 +45,6 @@ fn archive() {
     }
     println!("cargo::rustc-link-search=native={}", folder.display());
     println!("cargo::rustc-link-lib=static=field");
-    // fmod
-    println!("cargo::rustc-link-lib=m");
 }
 
 /// Writes OUT_DIR/units.rs and hands back its text.

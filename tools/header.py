@@ -26,8 +26,8 @@ TOP = """\
  *   - points to so many elements, in one object, that can be read, and written unless the pointer is to const, while the call runs;
  *   - is of elements that hold values (rooms too: clear them once), which no other thread writes, or reads where the call writes, while the call runs;
  *   - if it is not to const, shares no element with any other pointer of the call.
- * The library keeps no pointer, takes no memory of its own but the stack (half a megabyte in tyn_evaluate, tyn_step and tyn_finish) and asks fmod, memcpy
- * and memset of the C library (link with -lm), nothing else.
+ * The library keeps no pointer, takes no memory of its own but the stack (half a megabyte in tyn_evaluate, tyn_step and tyn_finish) and asks memcpy
+ * and memset of the C library, nothing else.
  *
  * Three floats an atom (x, y, z), two numbers a pair, bond or exclusion, three an angle. At most 16384 atoms. docs/DECISIONS.md and the scope paper have the ranges. */
 """
