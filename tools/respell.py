@@ -6,7 +6,8 @@ usage: python3 tools/respell.py [--dry]     at the top of the repository, once, 
 A name that this repository declares in specs/ or proofs/ (a definition, a lemma, a field or a case in small letters) and that has
 a capital or a dash inside is written in small letters with `_`: absOf is abs_of, max-same is max_same. Types, facts and modules
 keep their capitals. Names of the library, names that Rattle makes (what stands in a Proof.antt alone) and names in src/ stay.
-Where two names would fall together in a file, the one with the dash keeps it. A name with a middle dot loses it: the module `X·cases` becomes XCases, and `Found·outcome` found_outcome.
+Where two names would fall together in a file, one of them, the lemma where there is one, gets `_lem`: box-less beside boxLess is box_less_lem.
+A name with a middle dot loses it: the module `X·cases` becomes XCases, and `Found·outcome` found_outcome.
 """
 
 import collections
