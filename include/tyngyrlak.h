@@ -88,7 +88,7 @@ typedef struct {
     uint32_t value;
 } tyn_yes_no;
 
-/* Three rows of three floats, where they stand beside an answer: no enum holds an array. */
+/* Three rows of three floats. */
 typedef struct {
     double x[3];
     double y[3];

@@ -304,7 +304,7 @@ class Function:
 
 
 # what is seen of an answer, and the law of answer/proofs/Only.antt that this tells the answer
-SEEN = {"seen_done": "done_only", "seen_number": "number_only", "seen_yes_no": "yes_no_only", "seen_whole": "whole_only"}
+SEEN = {"seen": "seen_only"}
 
 
 def seen_laws(said):

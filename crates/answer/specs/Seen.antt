@@ -1,15 +1,7 @@
 -- What an answer shows: the number and place that 01's table gives to each refusal, and the value of an answered call. Definitions only.
-use Rattle.std.specs.Prelude.{ℕ, Bool, Float}
+use Rattle.std.specs.Prelude.{ℕ, Result, Ok, Err}
 use Rattle.answer.specs.declared.Refusal.{Refusal}
 use Rattle.answer.specs.declared.Refusal.TheVariants.{Lengths, TooMany, Range, Drifted, NotThere, Order, HouseOrder, Claims, Cells, Room, Malformed, Again, Absent}
-use Rattle.answer.specs.declared.Done as Done
-use Rattle.answer.specs.declared.Done.TheVariants as DoneCases
-use Rattle.answer.specs.declared.Number as Number
-use Rattle.answer.specs.declared.Number.TheVariants as NumberCases
-use Rattle.answer.specs.declared.YesNo as YesNo
-use Rattle.answer.specs.declared.YesNo.TheVariants as YesNoCases
-use Rattle.answer.specs.declared.Whole as Whole
-use Rattle.answer.specs.declared.Whole.TheVariants as WholeCases
 
 -- 01, "Refusal numbers", the column "No."
 abbrev pub number_of : Refusal → ℕ
@@ -55,18 +47,6 @@ pub data Seen (A : Type 0) : Type 0 where
 abbrev pub refused_by : {A : Type 0} → Refusal → Seen A
 refused_by r = refused (number_of r) (place_of r)
 
-abbrev pub seen_done : Done.Done → Seen (Unit {0})
-seen_done DoneCases.Answered = answered tt
-seen_done (DoneCases.Refused r) = refused_by r
-
-abbrev pub seen_number : Number.Number → Seen Float
-seen_number (NumberCases.Answered x) = answered x
-seen_number (NumberCases.Refused r) = refused_by r
-
-abbrev pub seen_yes_no : YesNo.YesNo → Seen Bool
-seen_yes_no (YesNoCases.Answered b) = answered b
-seen_yes_no (YesNoCases.Refused r) = refused_by r
-
-abbrev pub seen_whole : Whole.Whole → Seen ℕ
-seen_whole (WholeCases.Answered n) = answered n
-seen_whole (WholeCases.Refused r) = refused_by r
+abbrev pub seen : {A : Type 0} → Result A Refusal → Seen A
+seen (Ok x) = answered x
+seen (Err r) = refused_by r

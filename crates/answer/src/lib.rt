@@ -1,5 +1,5 @@
-// The refusals of the scope paper, and the plain answers of the public calls. specs/Seen.antt says which number, place and
-// value of the paper each case stands for, and every contract goes by that.
+// The refusals of the scope paper. A public call answers `Result<_, Refusal>`; specs/Seen.antt says which number and place of the paper each
+// case stands for, and every contract goes by that.
 #![tactic(auto)]
 
 ghost use Rattle.std.specs.Prelude.{◌≡◌};
@@ -79,31 +79,4 @@ impl Refusal {
             Refusal::Cells => 0,
         }
     }
-}
-
-// Answered with nothing beside what is lent, or refused.
-#[derive(Clone, Copy)]
-pub enum Done {
-    Answered,
-    Refused(Refusal),
-}
-
-// A float.
-#[derive(Drop)]
-pub enum Number {
-    Answered(f64),
-    Refused(Refusal),
-}
-
-#[derive(Drop)]
-pub enum YesNo {
-    Answered(bool),
-    Refused(Refusal),
-}
-
-// A whole number.
-#[derive(Drop)]
-pub enum Whole {
-    Answered(u64),
-    Refused(Refusal),
 }

@@ -1,4 +1,5 @@
 -- One axis: touching is being one step of -1, 0 or 1 apart, and the step is the only one. Assumes nothing.
+use Rattle.std.specs.Prelude.{Option, None, Some}
 use mathlib.Core.Path.{◌≡◌, refl, sym, ap, ◌∙◌, subst}
 use mathlib.Core.Logic.{◌⊎◌, inl, inr, ⊎_elim}
 use mathlib.Core.Bool.{Bool, true, false, cond, ◌&&◌, false≢true}
@@ -9,7 +10,6 @@ use borrow.Author.Tests.{eqb-true, lt-ltb, le-ltb, eq-eqb}
 use lib.Dec.{eqb, ltb}
 use lib.IntN.{ℤ, pos, negsuc}
 use Rattle.bins.specs.declared.Axis.{Axis}
-use Rattle.bins.specs.declared.Bin.TheVariants.{Is, Off}
 use Rattle.bins.specs.Axis.{Good, touch, rem_euclid, bin_within, stepped, follows}
 use Rattle.lists.proofs.Cases.{below_or, or_cases, or_left, or_right, and_both, both_and}
 
@@ -96,102 +96,102 @@ only_step ax g a b on stay p q = absurd (off ax g a b p q)
 only_step ax g a b on on p q = refl
 
 -- ---- where a step leads
-pub off_is : (b : ℕ) → Off ≡ Is b → ⊥
+pub off_is : (b : ℕ) → None ≡ Some b → ⊥
 off_is b e = let z : ◌≡◌ {A = ℕ} 0 1 = cc in omega arith
 
 abbrev axis : ℕ → Bool → Axis
 axis n r = record { size = n; round = r }
 
-either : (t : Bool) → cond t Off Off ≡ Off
+either : (t : Bool) → ◌≡◌ {A = Option ℕ} (cond t None None) None
 either true = refl
 either false = refl
 
 module _ (n a : ℕ) where
-  on_in : (r : Bool) → a + 1 < n → stepped (axis n r) a (pos 1) ≡ Is (a + 1)
+  on_in : (r : Bool) → a + 1 < n → stepped (axis n r) a (pos 1) ≡ Some (a + 1)
   unfolding stepped rem_euclid bin_within
-  on_in true h = rw (lt-ltb a n (omega arith)) (ap Is (mod-eq_of_lt h))
+  on_in true h = rw (lt-ltb a n (omega arith)) (ap Some (mod-eq_of_lt h))
   on_in false h = rw (lt-ltb a n (omega arith), lt-ltb (a + 1) n h) refl
 
-  on_last : a + 1 ≡ n → stepped (axis n true) a (pos 1) ≡ Is 0
+  on_last : a + 1 ≡ n → stepped (axis n true) a (pos 1) ≡ Some 0
   unfolding stepped rem_euclid
-  on_last e = rw (lt-ltb a n (omega arith)) (ap Is (ap (λ (k : ℕ). k % n) e ∙ mod_self n))
+  on_last e = rw (lt-ltb a n (omega arith)) (ap Some (ap (λ (k : ℕ). k % n) e ∙ mod_self n))
 
-  on_out : n ≤ a + 1 → stepped (axis n false) a (pos 1) ≡ Off
+  on_out : n ≤ a + 1 → stepped (axis n false) a (pos 1) ≡ None
   unfolding stepped bin_within
   on_out h = rw (le-ltb (a + 1) n h) (either (ltb a n))
 
-  stay_in : (r : Bool) → a < n → stepped (axis n r) a (pos 0) ≡ Is a
+  stay_in : (r : Bool) → a < n → stepped (axis n r) a (pos 0) ≡ Some a
   unfolding stepped rem_euclid bin_within
-  stay_in true h = rw (lt-ltb a n h) (ap Is (rw (add-zero a) (mod-eq_of_lt h)))
+  stay_in true h = rw (lt-ltb a n h) (ap Some (rw (add-zero a) (mod-eq_of_lt h)))
   stay_in false h = rw (lt-ltb a n h) (rw (add-zero a) (rw (lt-ltb a n h) refl))
 
-  back_in : (r : Bool) → 1 ≤ a → a < n → stepped (axis n r) a (negsuc 0) ≡ Is (a - 1)
+  back_in : (r : Bool) → 1 ≤ a → a < n → stepped (axis n r) a (negsuc 0) ≡ Some (a - 1)
   unfolding stepped rem_euclid bin_within
-  back_in true p h = rw (lt-ltb a n h) (rw (le-ltb a 1 p) (ap Is (mod-eq_of_lt (omega arith))))
+  back_in true p h = rw (lt-ltb a n h) (rw (le-ltb a 1 p) (ap Some (mod-eq_of_lt (omega arith))))
   back_in false p h = rw (lt-ltb a n h) (rw (le-ltb a 1 p) (rw (lt-ltb (a - 1) n (omega arith)) refl))
 
-back_first : (n a : ℕ) → a < n → a ≡ 0 → stepped (axis n true) a (negsuc 0) ≡ Is (n - 1)
+back_first : (n a : ℕ) → a < n → a ≡ 0 → stepped (axis n true) a (negsuc 0) ≡ Some (n - 1)
 unfolding stepped rem_euclid
-back_first n a h e = rw (lt-ltb a n h) (rw e (ap Is (omega (arith, zero-mod n))))
+back_first n a h e = rw (lt-ltb a n h) (rw e (ap Some (omega (arith, zero-mod n))))
 
-back_out : (n a : ℕ) → a ≡ 0 → stepped (axis n false) a (negsuc 0) ≡ Off
+back_out : (n a : ℕ) → a ≡ 0 → stepped (axis n false) a (negsuc 0) ≡ None
 unfolding stepped bin_within
 back_out n a e = rw e (either (ltb 0 n))
 
 -- a step leads to b exactly where `stepped` says so
-pub stepped_Leads : (ax : Axis) (d : Dir) (a b : ℕ) → a < ax.size → stepped ax a (sign d) ≡ Is b → Leads ax d a b
+pub stepped_Leads : (ax : Axis) (d : Dir) (a b : ℕ) → a < ax.size → stepped ax a (sign d) ≡ Some b → Leads ax d a b
 stepped_Leads ax d a b h e = go ax.size ax.round d a b h e
   where
-    on_go : (n : ℕ) (r : Bool) (a b : ℕ) → a < n → (a + 1 < n) ⊎ (n ≤ a + 1) → stepped (axis n r) a (pos 1) ≡ Is b → After (axis n r) a b
+    on_go : (n : ℕ) (r : Bool) (a b : ℕ) → a < n → (a + 1 < n) ⊎ (n ≤ a + 1) → stepped (axis n r) a (pos 1) ≡ Some b → After (axis n r) a b
     on_go n r a b h (inl k) e = let f = on_in n a r k in inl (cc)
     on_go n true a b h (inr k) e = let f = on_last n a (omega arith) in inr (refl, omega arith, cc)
     on_go n false a b h (inr k) e = let f = on_out n a k in absurd (off_is b (sym f ∙ e))
 
-    back_go : (n : ℕ) (r : Bool) (a b : ℕ) → a < n → (0 < a) ⊎ (a ≤ 0) → stepped (axis n r) a (negsuc 0) ≡ Is b → After (axis n r) b a
+    back_go : (n : ℕ) (r : Bool) (a b : ℕ) → a < n → (0 < a) ⊎ (a ≤ 0) → stepped (axis n r) a (negsuc 0) ≡ Some b → After (axis n r) b a
     back_go n r a b h (inl k) e = let f = back_in n a r k h in let g : b ≡ a - 1 = cc in inl (omega arith)
     back_go n true a b h (inr k) e = let f = back_first n a h (omega arith) in let g : b ≡ n - 1 = cc in inr (refl, omega arith, omega arith)
     back_go n false a b h (inr k) e = absurd (off_is b (sym (back_out n a (omega arith)) ∙ e))
 
-    go : (n : ℕ) (r : Bool) (d : Dir) (a b : ℕ) → a < n → stepped (axis n r) a (sign d) ≡ Is b → Leads (axis n r) d a b
+    go : (n : ℕ) (r : Bool) (d : Dir) (a b : ℕ) → a < n → stepped (axis n r) a (sign d) ≡ Some b → Leads (axis n r) d a b
     go n r back a b h e = back_go n r a b h (below_or 0 a) e
     go n r stay a b h e = let f = stay_in n a r h in (cc)
     go n r on a b h e = on_go n r a b h (below_or (a + 1) n) e
 
-pub Leads-stepped : (ax : Axis) (d : Dir) (a b : ℕ) → a < ax.size → b < ax.size → Leads ax d a b → stepped ax a (sign d) ≡ Is b
+pub Leads-stepped : (ax : Axis) (d : Dir) (a b : ℕ) → a < ax.size → b < ax.size → Leads ax d a b → stepped ax a (sign d) ≡ Some b
 Leads-stepped ax d a b h k l = go ax.size ax.round d a b h k l
   where
-    go : (n : ℕ) (r : Bool) (d : Dir) (a b : ℕ) → a < n → b < n → Leads (axis n r) d a b → stepped (axis n r) a (sign d) ≡ Is b
-    go n r back a b h k (inl e) = back_in n a r (omega arith) h ∙ ap Is (omega arith)
-    go n true back a b h k (inr e) = back_first n a h e.2 ∙ ap Is (omega arith)
+    go : (n : ℕ) (r : Bool) (d : Dir) (a b : ℕ) → a < n → b < n → Leads (axis n r) d a b → stepped (axis n r) a (sign d) ≡ Some b
+    go n r back a b h k (inl e) = back_in n a r (omega arith) h ∙ ap Some (omega arith)
+    go n true back a b h k (inr e) = back_first n a h e.2 ∙ ap Some (omega arith)
     go n false back a b h k (inr e) = absurd (false≢true e.0)
-    go n r stay a b h k e = stay_in n a r h ∙ ap Is e
-    go n r on a b h k (inl e) = on_in n a r (omega arith) ∙ ap Is (sym e)
-    go n true on a b h k (inr e) = on_last n a e.1 ∙ ap Is (sym e.2)
+    go n r stay a b h k e = stay_in n a r h ∙ ap Some e
+    go n r on a b h k (inl e) = on_in n a r (omega arith) ∙ ap Some (sym e)
+    go n true on a b h k (inr e) = on_last n a e.1 ∙ ap Some (sym e.2)
     go n false on a b h k (inr e) = absurd (false≢true e.0)
 
 -- ---- the eight ways of a step, for the code
 module _ (a : Axis) (c : ℕ) where
-  pub step_stay : c < a.size → stepped a c (pos 0) ≡ Is c
+  pub step_stay : c < a.size → stepped a c (pos 0) ≡ Some c
   step_stay h = stay_in a.size c a.round h
 
-  pub step_on : c + 1 < a.size → stepped a c (pos 1) ≡ Is (c + 1)
+  pub step_on : c + 1 < a.size → stepped a c (pos 1) ≡ Some (c + 1)
   step_on h = on_in a.size c a.round h
 
-  pub step_on_last : c < a.size → a.size ≤ c + 1 → a.round ≡ true → stepped a c (pos 1) ≡ Is 0
-  step_on_last h k t = subst (λ (r : Bool). stepped (axis a.size r) c (pos 1) ≡ Is 0) (sym t) (on_last a.size c (omega arith))
+  pub step_on_last : c < a.size → a.size ≤ c + 1 → a.round ≡ true → stepped a c (pos 1) ≡ Some 0
+  step_on_last h k t = subst (λ (r : Bool). stepped (axis a.size r) c (pos 1) ≡ Some 0) (sym t) (on_last a.size c (omega arith))
 
-  pub step_on_off : a.size ≤ c + 1 → a.round ≡ false → stepped a c (pos 1) ≡ Off
-  step_on_off k t = subst (λ (r : Bool). stepped (axis a.size r) c (pos 1) ≡ Off) (sym t) (on_out a.size c k)
+  pub step_on_off : a.size ≤ c + 1 → a.round ≡ false → stepped a c (pos 1) ≡ None
+  step_on_off k t = subst (λ (r : Bool). stepped (axis a.size r) c (pos 1) ≡ None) (sym t) (on_out a.size c k)
 
-  pub step_back : 0 < c → c < a.size → stepped a c (negsuc 0) ≡ Is (c - 1)
+  pub step_back : 0 < c → c < a.size → stepped a c (negsuc 0) ≡ Some (c - 1)
   step_back k h = back_in a.size c a.round k h
 
-  pub step_back_first : c < a.size → c ≤ 0 → a.round ≡ true → stepped a c (negsuc 0) ≡ Is (a.size - 1)
-  step_back_first h k t = subst (λ (r : Bool). stepped (axis a.size r) c (negsuc 0) ≡ Is (a.size - 1)) (sym t) (back_first a.size c h (omega arith))
+  pub step_back_first : c < a.size → c ≤ 0 → a.round ≡ true → stepped a c (negsuc 0) ≡ Some (a.size - 1)
+  step_back_first h k t = subst (λ (r : Bool). stepped (axis a.size r) c (negsuc 0) ≡ Some (a.size - 1)) (sym t) (back_first a.size c h (omega arith))
 
-  pub step_back_off : c ≤ 0 → a.round ≡ false → stepped a c (negsuc 0) ≡ Off
-  step_back_off k t = subst (λ (r : Bool). stepped (axis a.size r) c (negsuc 0) ≡ Off) (sym t) (back_out a.size c (omega arith))
+  pub step_back_off : c ≤ 0 → a.round ≡ false → stepped a c (negsuc 0) ≡ None
+  step_back_off k t = subst (λ (r : Bool). stepped (axis a.size r) c (negsuc 0) ≡ None) (sym t) (back_out a.size c (omega arith))
 
-  pub step_none : a.size ≤ c → (d : ℤ) → stepped a c d ≡ Off
+  pub step_none : a.size ≤ c → (d : ℤ) → stepped a c d ≡ None
   unfolding stepped
   step_none h d = rw (le-ltb c a.size h) refl

@@ -1,4 +1,5 @@
 -- What the machine's tests of an i32 say of a step, which is -1, 0 or 1. Assumes nothing.
+use Rattle.std.specs.Prelude.{Option}
 use mathlib.Core.Path.{◌≡◌, refl, sym, ap, ◌∙◌, subst}
 use mathlib.Core.Logic.{◌⊎◌, inl, inr, ⊎_elim}
 use mathlib.Core.List.{List, []}
@@ -16,7 +17,6 @@ use lib.Signed.{lt_z}
 use mir.Syntax.{w32}
 use mir.Val.{to_z, of_z}
 use Rattle.bins.specs.declared.Axis.{Axis}
-use Rattle.bins.specs.declared.Bin.{Bin}
 use Rattle.bins.specs.Axis.{stepped}
 use Rattle.bins.specs.Stencil.{offset, half_stencil, UnitStep}
 use Rattle.bins.proofs.AxisLaws.{Dir, back, stay, on, sign}
@@ -84,5 +84,5 @@ passed s k e = ap (λ (t : ℤ). to_z w32 (of_z w32 t)) e ∙ same_i32 (offset s
 pub passed_small : (s k : ℕ) {r : ℤ} → r ≡ offset s k → UnitStep (to_z w32 (of_z w32 r))
 passed_small s k e = subst (λ (t : ℤ). UnitStep t) (sym (passed s k e)) (offset_small s k)
 
-pub step_is : (a : Axis) (c s k : ℕ) {r : ℤ} {b o : Bin} → r ≡ offset s k → b ≡ stepped a c (to_z w32 (of_z w32 r)) → b ≡ o → stepped a c (offset s k) ≡ o
+pub step_is : (a : Axis) (c s k : ℕ) {r : ℤ} {b o : Option ℕ} → r ≡ offset s k → b ≡ stepped a c (to_z w32 (of_z w32 r)) → b ≡ o → stepped a c (offset s k) ≡ o
 step_is a c s k e f g = ap (λ (t : ℤ). stepped a c t) (sym (passed s k e)) ∙ sym f ∙ g

@@ -1,5 +1,6 @@
 -- Three axes: a way is three steps, and has a number from 0 to 26 with digits 0, 1, 2 for -1, 0, 1; turning it round takes the number from 26.
 -- Row s of the half stencil is the way with the number 13 + s, so of a way and the way back one is a row, and both only at row 0. Assumes nothing.
+use Rattle.std.specs.Prelude.{None, Option, Some}
 use mathlib.Core.Path.{◌≡◌, refl, sym, ap, ◌∙◌, subst}
 use mathlib.Core.Logic.{◌⊎◌, inl, inr, ⊎_elim}
 use mathlib.Core.Bool.{Bool, true, false, cond, ◌&&◌}
@@ -12,9 +13,6 @@ use lib.IntN.{ℤ, pos, negsuc, ◌+ℤ◌}
 use Rattle.bins.specs.declared.Axis.{Axis}
 use Rattle.bins.specs.declared.Grid.{Grid}
 use Rattle.bins.specs.declared.Cell.{Cell}
-use Rattle.bins.specs.declared.Bin.{Bin}
-use Rattle.bins.specs.declared.Bin.TheVariants.{Is, Off}
-use Rattle.bins.specs.declared.Reached.TheVariants.{To, Nowhere}
 use Rattle.bins.specs.Axis.{stepped, rem_euclid, bin_within}
 use Rattle.bins.specs.Stencil.{GoodGrid, InGrid, Row, MetOnce, touching, half_stencil, offset, joined_bins, reached}
 use Rattle.lists.specs.Lists.{every, up_to, numbers}
@@ -159,22 +157,22 @@ way_is v w p q r = λ i. record { x = p i; y = q i; z = r i }
 pub cell_is : (a b : Cell) → a.x ≡ b.x → a.y ≡ b.y → a.z ≡ b.z → a ≡ b
 cell_is a b p q r = λ i. record { x = p i; y = q i; z = r i }
 
-pub nowhere_to : (c : Cell) → Nowhere ≡ To c → ⊥
+pub nowhere_to : (c : Cell) → None ≡ Some c → ⊥
 nowhere_to c e = let z : ◌≡◌ {A = ℕ} 0 1 = cc in omega arith
 
-pub to_inj : (a b : Cell) → To a ≡ To b → a ≡ b
+pub to_inj : (a b : Cell) → Some a ≡ Some b → a ≡ b
 to_inj a b e = cc
 
-joined_to : (p q r : Bin) (c : Cell) → joined_bins p q r ≡ To c → (p ≡ Is c.x) × (q ≡ Is c.y) × (r ≡ Is c.z)
+joined_to : (p q r : Option ℕ) (c : Cell) → joined_bins p q r ≡ Some c → (p ≡ Some c.x) × (q ≡ Some c.y) × (r ≡ Some c.z)
 unfolding joined_bins
-joined_to Off q r c e = absurd (nowhere_to c e)
-joined_to (Is a) Off r c e = absurd (nowhere_to c e)
-joined_to (Is a) (Is b) Off c e = absurd (nowhere_to c e)
-joined_to (Is a) (Is b) (Is d) c e =
+joined_to None q r c e = absurd (nowhere_to c e)
+joined_to (Some a) None r c e = absurd (nowhere_to c e)
+joined_to (Some a) (Some b) None c e = absurd (nowhere_to c e)
+joined_to (Some a) (Some b) (Some d) c e =
     let f = to_inj (record { x = a; y = b; z = d }) c e in
-    (ap (λ (t : Cell). Is t.x) f, ap (λ (t : Cell). Is t.y) f, ap (λ (t : Cell). Is t.z) f)
+    (ap (λ (t : Cell). Some t.x) f, ap (λ (t : Cell). Some t.y) f, ap (λ (t : Cell). Some t.z) f)
 
-to_joined : {p q r : Bin} (c : Cell) → p ≡ Is c.x → q ≡ Is c.y → r ≡ Is c.z → joined_bins p q r ≡ To c
+to_joined : {p q r : Option ℕ} (c : Cell) → p ≡ Some c.x → q ≡ Some c.y → r ≡ Some c.z → joined_bins p q r ≡ Some c
 unfolding joined_bins
 to_joined c e f h = rw (e, f, h) refl
 
@@ -206,7 +204,7 @@ module _ (g : Grid) where
       both_and _ _ (Leads-touch g.x _ _ w.x h.0)
       (both_and _ _ (Leads-touch g.y _ _ w.y h.1) (Leads-touch g.z _ _ w.z h.2))
 
-  pub reached_way : (a b : Cell) (s : ℕ) → InGrid g a → s < 14 → reached g a s ≡ To b → LeadsBy g (way s) a b
+  pub reached_way : (a b : Cell) (s : ℕ) → InGrid g a → s < 14 → reached g a s ≡ Some b → LeadsBy g (way s) a b
   unfolding reached LeadsBy
   reached_way a b s k h e =
       let r = right_row s h in
@@ -216,7 +214,7 @@ module _ (g : Grid) where
         stepped_Leads g.z (way s).z _ _ k.2 (rw r.on_z t.2),
       )
 
-  pub way_reached : (a b : Cell) (s : ℕ) → InGrid g a → InGrid g b → s < 14 → LeadsBy g (way s) a b → reached g a s ≡ To b
+  pub way_reached : (a b : Cell) (s : ℕ) → InGrid g a → InGrid g b → s < 14 → LeadsBy g (way s) a b → reached g a s ≡ Some b
   unfolding reached LeadsBy
   way_reached a b s k l h e =
       let r = right_row s h in
@@ -287,19 +285,19 @@ offset_dir s h = let r = right_row s h in (sym r.on_x, sym r.on_y, sym r.on_z)
 
 -- ---- for the code: what three steps make of a row
 module _ (g : Grid) (c : Cell) (s : ℕ) where
-  pub off_x : stepped g.x c.x (offset s 0) ≡ Off → Nowhere ≡ reached g c s
+  pub off_x : stepped g.x c.x (offset s 0) ≡ None → None ≡ reached g c s
   unfolding reached joined_bins
   off_x e = rw e refl
 
-  pub off_y : {x : ℕ} → stepped g.x c.x (offset s 0) ≡ Is x → stepped g.y c.y (offset s 1) ≡ Off → Nowhere ≡ reached g c s
+  pub off_y : {x : ℕ} → stepped g.x c.x (offset s 0) ≡ Some x → stepped g.y c.y (offset s 1) ≡ None → None ≡ reached g c s
   unfolding reached joined_bins
   off_y e f = rw (e, f) refl
 
-  pub off_z : {x y : ℕ} → stepped g.x c.x (offset s 0) ≡ Is x → stepped g.y c.y (offset s 1) ≡ Is y → stepped g.z c.z (offset s 2) ≡ Off → Nowhere ≡ reached g c s
+  pub off_z : {x y : ℕ} → stepped g.x c.x (offset s 0) ≡ Some x → stepped g.y c.y (offset s 1) ≡ Some y → stepped g.z c.z (offset s 2) ≡ None → None ≡ reached g c s
   unfolding reached joined_bins
   off_z e f h = rw (e, f, h) refl
 
-  pub to_cell : {x y z : ℕ} → stepped g.x c.x (offset s 0) ≡ Is x → stepped g.y c.y (offset s 1) ≡ Is y → stepped g.z c.z (offset s 2) ≡ Is z → To (record { x = x; y = y; z = z }) ≡ reached g c s
+  pub to_cell : {x y z : ℕ} → stepped g.x c.x (offset s 0) ≡ Some x → stepped g.y c.y (offset s 1) ≡ Some y → stepped g.z c.z (offset s 2) ≡ Some z → Some (record { x = x; y = y; z = z }) ≡ reached g c s
   unfolding reached joined_bins
   to_cell e f h = rw (e, f, h) refl
 
@@ -309,20 +307,20 @@ unfolding rem_euclid
 rem_less (pos k) n h = mod-lt k h
 rem_less (negsuc k) n h = omega arith
 
-within_less : (n : ℕ) (v : ℤ) (b : ℕ) → bin_within n v ≡ Is b → b < n
+within_less : (n : ℕ) (v : ℤ) (b : ℕ) → bin_within n v ≡ Some b → b < n
 unfolding bin_within
 within_less n (pos k) b e = go (ltb k n) refl e
   where
-    go : (t : Bool) → ltb k n ≡ t → cond t (Is k) Off ≡ Is b → b < n
+    go : (t : Bool) → ltb k n ≡ t → cond t (Some k) None ≡ Some b → b < n
     go true p q = let r : k ≡ b = cc in omega (arith, ltb-true k n p)
     go false p q = absurd (off_is b q)
 within_less n (negsuc k) b e = absurd (off_is b e)
 
-stepped_less : (a : Axis) (c : ℕ) (d : ℤ) (b : ℕ) → stepped a c d ≡ Is b → (c < a.size) × (b < a.size)
+stepped_less : (a : Axis) (c : ℕ) (d : ℤ) (b : ℕ) → stepped a c d ≡ Some b → (c < a.size) × (b < a.size)
 unfolding stepped
 stepped_less a c d b e = go (ltb c a.size) a.round refl e
   where
-    go : (t r : Bool) → ltb c a.size ≡ t → cond t (cond r (Is (rem_euclid (pos c +ℤ d) a.size)) (bin_within a.size (pos c +ℤ d))) Off ≡ Is b → (c < a.size) × (b < a.size)
+    go : (t r : Bool) → ltb c a.size ≡ t → cond t (cond r (Some (rem_euclid (pos c +ℤ d) a.size)) (bin_within a.size (pos c +ℤ d))) None ≡ Some b → (c < a.size) × (b < a.size)
     go false r p q = absurd (off_is b q)
     go true true p q =
         let h = ltb-true c a.size p in
@@ -331,7 +329,7 @@ stepped_less a c d b e = go (ltb c a.size) a.round refl e
     go true false p q = (ltb-true c a.size p, within_less a.size (pos c +ℤ d) b q)
 
 -- a row leads only from a cell of the grid, and only to one
-pub reached_from : (g : Grid) (a b : Cell) (s : ℕ) → reached g a s ≡ To b → InGrid g a × InGrid g b
+pub reached_from : (g : Grid) (a b : Cell) (s : ℕ) → reached g a s ≡ Some b → InGrid g a × InGrid g b
 unfolding reached
 reached_from g a b s e =
     let t = joined_to _ _ _ b e in

@@ -1,4 +1,5 @@
 -- The sweep over a grid's cells as loops make it: for both frames. Assumes nothing.
+use Rattle.std.specs.Prelude.{None, Option, Some}
 use Prim.Native.Nat.{ℕ, zero, suc, ◌+◌, ◌-◌, ◌≤◌, ◌<◌}
 use mathlib.Core.Path.{◌≡◌, refl, sym, ap, ap₂, ◌∙◌}
 use mathlib.Core.List.{List, []}
@@ -9,8 +10,6 @@ use Rattle.lists.proofs.Exactness.{mem_up_to}
 use Rattle.lists.proofs.Nested.{each_agree}
 use Rattle.bins.specs.declared.Cell.{Cell}
 use Rattle.bins.specs.declared.Grid.{Grid}
-use Rattle.bins.specs.declared.Reached.{Reached}
-use Rattle.bins.specs.declared.Reached.TheVariants.{To, Nowhere}
 use Rattle.bins.specs.Stencil.{InGrid, reached, home_of, cells}
 use Rattle.bins.specs.Traversal.{met, visit, cell_pairs, pairs_of}
 use Rattle.bins.specs.Listing.{Scene, Listing, list_of, Ready}
@@ -20,11 +19,11 @@ use Rattle.bins.proofs.TraversalLaws.{visit_nowhere, visit_home, visit_other}
 use Rattle.bins.proofs.Runs.{Run, run_each_begin, run_each, ready_each, run_each_end}
 
 -- ---- a row of the stencil, by what the code found
-module _ (g : Grid) (atoms : Cell → List ℕ) (home : Cell) (s : ℕ) {o : Reached} (e : o ≡ reached g home s) where
-  pub row_none : o ≡ Nowhere → visit g atoms home s ≡ []
+module _ (g : Grid) (atoms : Cell → List ℕ) (home : Cell) (s : ℕ) {o : Option Cell} (e : o ≡ reached g home s) where
+  pub row_none : o ≡ None → visit g atoms home s ≡ []
   row_none h = visit_nowhere g atoms home s (sym e ∙ h)
 
-  module _ {c : Cell} (h : o ≡ To c) where
+  module _ {c : Cell} (h : o ≡ Some c) where
     pub row_other : InGrid g c
     row_other = (reached_from g home c s (sym e ∙ h)).1
 
@@ -67,11 +66,11 @@ module _ {e : Scene} {s₀ s : Listing} {all : List (ℕ × ℕ)} (g : Grid) (at
 
 -- ---- the pairs depend on the atoms of the grid's own cells alone
 module _ (g : Grid) (a b : Cell → List ℕ) (same : (c : Cell) → InGrid g c → a c ≡ b c) where
-  met_agree : (home : Cell) → InGrid g home → (s : ℕ) (o : Reached) → reached g home s ≡ o → met a home s o ≡ met b home s o
+  met_agree : (home : Cell) → InGrid g home → (s : ℕ) (o : Option Cell) → reached g home s ≡ o → met a home s o ≡ met b home s o
   unfolding met
-  met_agree home h s Nowhere e = refl
-  met_agree home h zero (To other) e = ap inside (same home h)
-  met_agree home h (suc s) (To other) e = ap₂ across (same home h) (same other (reached_from g home other (suc s) e).1)
+  met_agree home h s None e = refl
+  met_agree home h zero (Some other) e = ap inside (same home h)
+  met_agree home h (suc s) (Some other) e = ap₂ across (same home h) (same other (reached_from g home other (suc s) e).1)
 
   cell_agree : (home : Cell) → InGrid g home → cell_pairs g a home ≡ cell_pairs g b home
   unfolding cell_pairs visit

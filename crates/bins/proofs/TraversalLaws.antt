@@ -1,4 +1,5 @@
 -- The traversal lists every two atoms whose cells touch, once. Assumes nothing.
+use Rattle.std.specs.Prelude.{None, Option, Some}
 use mathlib.Core.Path.{◌≡◌, refl, sym, ap, ◌∙◌, subst}
 use mathlib.Core.Logic.{◌⊎◌, inl, inr, ⊎_elim}
 use mathlib.Core.Bool.{Bool, true}
@@ -10,8 +11,6 @@ use borrow.Author.Tests.{eqb-true, eq-eqb}
 use lib.ListN.{length, get_or}
 use Rattle.bins.specs.declared.Grid.{Grid}
 use Rattle.bins.specs.declared.Cell.{Cell}
-use Rattle.bins.specs.declared.Reached.{Reached}
-use Rattle.bins.specs.declared.Reached.TheVariants.{To, Nowhere}
 use Rattle.lists.specs.Exact.{◌∈◌, Exactly}
 use Rattle.lists.specs.Lists.{up_to, keep, inside, across, all_pairs, Two}
 use Rattle.bins.specs.Stencil.{GoodGrid, InGrid, touching, same_cell, reached}
@@ -70,7 +69,7 @@ module _ (g : Grid) (good : GoodGrid g) (n : ℕ) (cell_of : ℕ → Cell) (plac
           let z = there_and_back g good c d s t ls lt u v in
           (e ∙ same_home g c d (subst (λ (r : ℕ). LeadsBy g (way r) c d) z.0 u) ∙ sym f, omega arith)
 
-  leads_reached : (h : Cell) (s i j : ℕ) → s < 14 → i < n → j < n → h ≡ cell_of i → LeadsBy g (way s) (cell_of i) (cell_of j) → reached g h s ≡ To (cell_of j)
+  leads_reached : (h : Cell) (s i j : ℕ) → s < 14 → i < n → j < n → h ≡ cell_of i → LeadsBy g (way s) (cell_of i) (cell_of j) → reached g h s ≡ Some (cell_of j)
   leads_reached h s i j l hi hj e w = rw e (way_reached g (cell_of i) (cell_of j) s (placed i hi) (placed j hj) l w)
 
   -- in the home cell
@@ -91,7 +90,7 @@ module _ (g : Grid) (good : GoodGrid g) (n : ℕ) (cell_of : ℕ → Cell) (plac
           (bin_mem n cell_of h (omega arith) (sym (u.0 ∙ same_home g _ _ u.1)), bin_mem n cell_of h m (sym u.0), l)
 
   -- between two cells
-  other_exactly : (h o : Cell) (s : ℕ) → InGrid g h → 0 < s → s < 14 → reached g h s ≡ To o → Exactly (Seen h s) (across (bin n cell_of h) (bin n cell_of o))
+  other_exactly : (h o : Cell) (s : ℕ) → InGrid g h → 0 < s → s < 14 → reached g h s ≡ Some o → Exactly (Seen h s) (across (bin n cell_of h) (bin n cell_of o))
   unfolding Seen
   other_exactly h o s k f l e =
       exactly_as (across (bin n cell_of h) (bin n cell_of o))
@@ -133,14 +132,14 @@ module _ (g : Grid) (good : GoodGrid g) (n : ℕ) (cell_of : ℕ → Cell) (plac
   unfolding visit Seen
   visit_exactly h s k l = go s l (reached g h s) refl
     where
-      nowhere : (s : ℕ) → s < 14 → reached g h s ≡ Nowhere → (p : ℕ × ℕ) → Seen h s p → ⊥
+      nowhere : (s : ℕ) → s < 14 → reached g h s ≡ None → (p : ℕ × ℕ) → Seen h s p → ⊥
       nowhere s l e p ((lt, m), inl u) = nowhere_to _ (sym e ∙ leads_reached h s p.0 p.1 l (omega arith) m u.0 u.1)
       nowhere s l e p ((lt, m), inr u) = nowhere_to _ (sym e ∙ leads_reached h s p.1 p.0 l m (omega arith) u.0 u.1)
 
-      go : (s : ℕ) → s < 14 → (o : Reached) → reached g h s ≡ o → Exactly (Seen h s) (met (bin n cell_of) h s o)
-      go s l Nowhere e = record { sound = λ p m. absurd (Memᴰ.not-nil m); complete = λ p w. absurd (nowhere s l e p w); once = tt }
-      go zero l (To o) e = home_exactly h
-      go (suc s) l (To o) e = other_exactly h o (suc s) k (omega arith) l e
+      go : (s : ℕ) → s < 14 → (o : Option Cell) → reached g h s ≡ o → Exactly (Seen h s) (met (bin n cell_of) h s o)
+      go s l None e = record { sound = λ p m. absurd (Memᴰ.not-nil m); complete = λ p w. absurd (nowhere s l e p w); once = tt }
+      go zero l (Some o) e = home_exactly h
+      go (suc s) l (Some o) e = other_exactly h o (suc s) k (omega arith) l e
 
   -- what the rows list from one home cell, then along z, y and x
   SeenRow : Cell → ℕ × ℕ → Type 0
@@ -211,16 +210,16 @@ module _ (g : Grid) (good : GoodGrid g) (n : ℕ) (cell_of : ℕ → Cell) (plac
 
 -- ---- for the code: what a visit is, case by case
 module _ (g : Grid) (atoms : Cell → List ℕ) (h : Cell) where
-  pub visit_nowhere : (s : ℕ) → reached g h s ≡ Nowhere → visit g atoms h s ≡ []
+  pub visit_nowhere : (s : ℕ) → reached g h s ≡ None → visit g atoms h s ≡ []
   unfolding visit
   visit_nowhere s e = rw e refl
 
-  pub visit_home : (s : ℕ) (o : Cell) → s ≡ 0 → reached g h s ≡ To o → visit g atoms h s ≡ inside (atoms h)
+  pub visit_home : (s : ℕ) (o : Cell) → s ≡ 0 → reached g h s ≡ Some o → visit g atoms h s ≡ inside (atoms h)
   unfolding visit
   visit_home zero o z e = rw e refl
   visit_home (suc s) o z e = absurd (omega arith)
 
-  pub visit_other : (s : ℕ) (o : Cell) → (s ≡ 0 → ⊥) → reached g h s ≡ To o → visit g atoms h s ≡ across (atoms h) (atoms o)
+  pub visit_other : (s : ℕ) (o : Cell) → (s ≡ 0 → ⊥) → reached g h s ≡ Some o → visit g atoms h s ≡ across (atoms h) (atoms o)
   unfolding visit
   visit_other zero o z e = absurd (z refl)
   visit_other (suc s) o z e = rw e refl

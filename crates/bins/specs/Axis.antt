@@ -1,8 +1,7 @@
 -- One axis of a grid of bins, for both frames: which bins touch, and where a step of -1, 0 or 1 leads. Definitions only.
+use Rattle.std.specs.Prelude.{None, Option, Some}
 use Rattle.std.specs.Prelude.{Bool, true, cond, ◌&&◌, ◌||◌, ◌≡◌, ℕ, ◌+◌, ◌-◌, ◌%◌, ◌≤◌, eqb, ltb, ℤ, pos, negsuc, ◌+ℤ◌}
 use Rattle.bins.specs.declared.Axis.{Axis}
-use Rattle.bins.specs.declared.Bin.{Bin}
-use Rattle.bins.specs.declared.Bin.TheVariants.{Is, Off}
 
 -- an axis with a bin, and with three of them where it is periodic
 abbrev pub Good : Axis → Type 0
@@ -23,15 +22,15 @@ rem_euclid (pos k) n = k % n
 rem_euclid (negsuc k) n = n - 1 - k % n
 
 -- v as a bin of an open axis, where it is one
-unfoldable pub bin_within : ℕ → ℤ → Bin
-bin_within n (pos k) = cond (ltb k n) (Is k) Off
-bin_within n (negsuc k) = Off
+unfoldable pub bin_within : ℕ → ℤ → Option ℕ
+bin_within n (pos k) = cond (ltb k n) (Some k) None
+bin_within n (negsuc k) = None
 
 -- the bin that the step d leads to from the bin c: neighbor.rs, `offset_index`, lines of one axis. None where it leaves an open axis, and none from
 -- what is no bin of the axis, of which the Rust has no case
-unfoldable pub stepped : Axis → ℕ → ℤ → Bin
+unfoldable pub stepped : Axis → ℕ → ℤ → Option ℕ
 unfolding rem_euclid bin_within
 stepped ax c d =
     cond (ltb c ax.size)
-    (cond ax.round (Is (rem_euclid (pos c +ℤ d) ax.size)) (bin_within ax.size (pos c +ℤ d)))
-    Off
+    (cond ax.round (Some (rem_euclid (pos c +ℤ d) ax.size)) (bin_within ax.size (pos c +ℤ d)))
+    None

@@ -1,11 +1,8 @@
 -- Three axes, cells, and the fourteen rows of the half stencil. Definitions only.
+use Rattle.std.specs.Prelude.{None, Option, Some}
 use Rattle.std.specs.Prelude.{Bool, true, cond, ◌&&◌, List, [], ◌∷◌, ℕ, ◌+◌, ◌*◌, ◌/◌, ◌%◌, ◌<◌, ◌≤◌, ◌≡◌, ◌⊎◌, eqb, ltb, ℤ, pos, negsuc, get_or}
 use Rattle.bins.specs.declared.Grid.{Grid}
 use Rattle.bins.specs.declared.Cell.{Cell}
-use Rattle.bins.specs.declared.Bin.{Bin}
-use Rattle.bins.specs.declared.Reached.{Reached}
-use Rattle.bins.specs.declared.Bin.TheVariants.{Is, Off}
-use Rattle.bins.specs.declared.Reached.TheVariants.{To, Nowhere}
 use Rattle.bins.specs.Axis.{Good, touch, stepped}
 
 -- the cell's place in the tables: neighbor.rs, `Grid::index`
@@ -62,14 +59,14 @@ unfoldable pub offset : ℕ → ℕ → ℤ
 unfolding half_stencil
 offset s k = get_or (get_or half_stencil s []) k (pos 0)
 
-unfoldable pub joined_bins : Bin → Bin → Bin → Reached
-joined_bins Off y z = Nowhere
-joined_bins (Is a) Off z = Nowhere
-joined_bins (Is a) (Is b) Off = Nowhere
-joined_bins (Is a) (Is b) (Is c) = To (record { x = a; y = b; z = c })
+unfoldable pub joined_bins : Option ℕ → Option ℕ → Option ℕ → Option Cell
+joined_bins None y z = None
+joined_bins (Some a) None z = None
+joined_bins (Some a) (Some b) None = None
+joined_bins (Some a) (Some b) (Some c) = Some (record { x = a; y = b; z = c })
 
 -- the cell that unit_row s leads to, or nowhere where the step leaves an open axis: neighbor.rs, `offset_index`
-unfoldable pub reached : Grid → Cell → ℕ → Reached
+unfoldable pub reached : Grid → Cell → ℕ → Option Cell
 unfolding stepped joined_bins offset
 reached g c s =
     joined_bins (stepped g.x c.x (offset s 0)) (stepped g.y c.y (offset s 1))
@@ -83,7 +80,7 @@ InGrid g c = (c.x < g.x.size) × (c.y < g.y.size) × (c.z < g.z.size)
 
 -- a unit_row after the first that leads from a to b
 abbrev pub Row : Grid → Cell → Cell → Type 0
-Row g a b = (s : ℕ) × (1 ≤ s) × (s < 14) × (reached g a s ≡ To b)
+Row g a b = (s : ℕ) × (1 ≤ s) × (s < 14) × (reached g a s ≡ Some b)
 
 -- Two cells touch exactly where they are one cell, or one unit_row leads from one of them to the other; and then only one does, and only one way.
 pub record MetOnce (g : Grid) (a b : Cell) : Type 0 where

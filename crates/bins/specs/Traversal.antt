@@ -1,10 +1,9 @@
 -- The traversal: home cells by x, y, z; the fourteen rows; the atoms of the bins. Definitions only.
+use Rattle.std.specs.Prelude.{None, Option, Some}
 use Rattle.std.specs.Prelude.{true, List, [], ◌≡◌, ℕ, zero, suc, ◌<◌}
 use Rattle.lists.specs.Lists.{up_to, each, keep, inside, across, Two}
 use Rattle.bins.specs.declared.Grid.{Grid}
 use Rattle.bins.specs.declared.Cell.{Cell}
-use Rattle.bins.specs.declared.Reached.{Reached}
-use Rattle.bins.specs.declared.Reached.TheVariants.{To, Nowhere}
 use Rattle.bins.specs.Stencil.{InGrid, same_cell, reached, touching}
 
 -- the atoms of a cell, rising
@@ -13,11 +12,11 @@ unfolding keep same_cell
 bin n cell_of c = keep (λ k. same_cell (cell_of k) c) (up_to n)
 
 -- what a home cell and the cell reached by row s list: row 0 is the home cell itself
-unfoldable pub met : (Cell → List ℕ) → Cell → ℕ → Reached → List (ℕ × ℕ)
+unfoldable pub met : (Cell → List ℕ) → Cell → ℕ → Option Cell → List (ℕ × ℕ)
 unfolding inside across
-met atoms home s Nowhere = []
-met atoms home zero (To other) = inside (atoms home)
-met atoms home (suc s) (To other) = across (atoms home) (atoms other)
+met atoms home s None = []
+met atoms home zero (Some other) = inside (atoms home)
+met atoms home (suc s) (Some other) = across (atoms home) (atoms other)
 
 -- what one row lists from one home cell
 unfoldable pub visit : Grid → (Cell → List ℕ) → Cell → ℕ → List (ℕ × ℕ)

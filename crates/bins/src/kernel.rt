@@ -5,7 +5,7 @@ ghost use Rattle.bins.specs.Listing.{pushed};
 ghost use Rattle.bins.specs.Stencil.{cells, flatten, home_of, offset, reached, UnitStep};
 
 pub use crate::sorting::sort;
-use crate::{Axis, Bin, Cell, Grid, Reached};
+use crate::{Axis, Cell, Grid};
 
 fn wide(x: u16) -> u64
     ensures { (result ≡ x) × (result < 65536) }
@@ -45,34 +45,34 @@ pub fn home_of(g: Grid, h: u64) -> Cell
 }
 
 // Where a step of -1, 0 or 1 leads, by the sign of the step: no signed arithmetic.
-fn step_on(a: Axis, c: u16, d: i32) -> Bin
+fn step_on(a: Axis, c: u16, d: i32) -> Option<u16>
     requires { UnitStep d }
     ensures { result ≡ stepped a c d }
 {
     let size = a.size;
     let round = a.round;
     if size <= c {
-        return Bin::Off;
+        return None;
     }
     if d == 0 {
-        return Bin::Is(c);
+        return Some(c);
     }
     if d < 0 {
         if 0 < c {
-            return Bin::Is(c - 1);
+            return Some(c - 1);
         }
         if round {
-            return Bin::Is(size - 1);
+            return Some(size - 1);
         }
-        return Bin::Off;
+        return None;
     }
     if c + 1 < size {
-        return Bin::Is(c + 1);
+        return Some(c + 1);
     }
     if round {
-        return Bin::Is(0);
+        return Some(0);
     }
-    Bin::Off
+    None
 }
 
 // The 13 forward half-stencil cell offsets plus the home cell `(0,0,0)`.
@@ -106,26 +106,14 @@ fn step_of(s: usize, k: usize) -> i32
     HALF_STENCIL[s][k]
 }
 
-// The cell reached by row s from a home cell, or `Nowhere` where the step leaves an aperiodic boundary.
-pub fn offset_index(g: Grid, c: Cell, s: usize) -> Reached
+// The cell reached by row s from a home cell, or none where the step leaves an aperiodic boundary.
+pub fn offset_index(g: Grid, c: Cell, s: usize) -> Option<Cell>
     ensures { result ≡ reached g c s }
 {
-    let gx = g.x;
-    let gy = g.y;
-    let gz = g.z;
-    let cx = c.x;
-    let cy = c.y;
-    let cz = c.z;
-    let Bin::Is(x) = step_on(gx, cx, step_of(s, 0)) else {
-        return Reached::Nowhere;
-    };
-    let Bin::Is(y) = step_on(gy, cy, step_of(s, 1)) else {
-        return Reached::Nowhere;
-    };
-    let Bin::Is(z) = step_on(gz, cz, step_of(s, 2)) else {
-        return Reached::Nowhere;
-    };
-    Reached::To(Cell { x, y, z })
+    let x = step_on(g.x, c.x, step_of(s, 0))?;
+    let y = step_on(g.y, c.y, step_of(s, 1))?;
+    let z = step_on(g.z, c.z, step_of(s, 2))?;
+    Some(Cell { x, y, z })
 }
 
 // The pair at its place, where there is room for it.

@@ -8,7 +8,7 @@ mod sorting;
 ghost use Rattle.std.specs.Prelude.{◌≡◌};
 ghost use Rattle.bins.specs.Sort.{cell_held, atoms_in, AtomsAskedSays};
 
-use answer::{Done, Refusal};
+use answer::Refusal;
 
 // One axis of a grid: how many bins it has, and whether it is periodic. A grid has at most 32,768 cells, so sixteen bits hold a size.
 #[derive(Clone, Copy)]
@@ -29,20 +29,6 @@ pub struct Cell {
     pub x: u16,
     pub y: u16,
     pub z: u16,
-}
-
-// Where a step on one axis leads: to a bin, or off an open axis.
-#[derive(Drop)]
-pub enum Bin {
-    Is(u16),
-    Off,
-}
-
-// Where a row of the stencil leads.
-#[derive(Drop)]
-pub enum Reached {
-    To(Cell),
-    Nowhere,
 }
 
 // How the pairs are to be found: all of them tried, by a grid, or not at all where it has too many cells.
@@ -86,11 +72,11 @@ pub fn atoms_in<'a>(cell: usize, starts: &[u32], items: &'a [u32]) -> &'a [u32]
 }
 
 // Refusal 1 where the cell's starts are not there, or fall, or end past the items.
-pub fn atoms_in_asked(cell: usize, starts: &[u32], items: &[u32]) -> Done
+pub fn atoms_in_asked(cell: usize, starts: &[u32], items: &[u32]) -> Result<(), Refusal>
     ensures { AtomsAskedSays cell starts.now items.now result }
 {
     if is_held(cell, starts, items) {
-        return Done::Answered;
+        return Ok(());
     }
-    Done::Refused(Refusal::Lengths)
+    Err(Refusal::Lengths)
 }

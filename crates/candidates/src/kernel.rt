@@ -74,10 +74,8 @@ pub fn rows_below(table: &[u32], n: usize) -> u64
     ensures { result ≡ rows_below n (rows table.now) }
 {
     let mut count: u64 = 0;
-    let mut k = 0;
-    while k < table.len() / 2 {
+    for k in 0..table.len() / 2 {
         count += one(is_there(n, table[2 * k], table[2 * k + 1]));
-        k += 1;
     }
     count
 }
@@ -87,10 +85,8 @@ pub fn rows_touching(g: Grid, places: &[u32], table: &[u32]) -> u64
     ensures { result ≡ rows_touching g (length places.now) (cell_from g places.now) (rows table.now) }
 {
     let mut count: u64 = 0;
-    let mut k = 0;
-    while k < table.len() / 2 {
+    for k in 0..table.len() / 2 {
         count += one(is_beside(g, places, table[2 * k], table[2 * k + 1]));
-        k += 1;
     }
     count
 }

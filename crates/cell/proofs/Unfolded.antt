@@ -1,4 +1,5 @@
 -- An image with counts is the source's expression of the difference and the counts (specs/Unfolded.antt). Assumes nothing.
+use Rattle.std.specs.Prelude.{None, Option, Some}
 use mathlib.Core.Path.{◌≡◌, refl, sym, ap, ◌∙◌}
 use mathlib.Core.Bool.{Bool, true, false, cond, ◌&&◌, false≢true}
 use lib.Dec.{T}
@@ -17,12 +18,11 @@ use Rattle.cell.specs.Calls.{when}
 use Rattle.cell.specs.Unfolded.{axis_less, fraction_less, box_less, fractions_less, less_of, Unfolds, MinImageUnfolds}
 use Rattle.cell.specs.declared.Vec3.{Vec3}
 use Rattle.cell.specs.declared.Lattice.{Lattice}
-use Rattle.cell.specs.declared.Cell.{Cell}
-use Rattle.cell.specs.declared.Cell.TheVariants.{Absent, Present}
 use Rattle.cell.specs.declared.Triple.{Triple}
 use Rattle.cell.specs.declared.Image.{Image}
-use Rattle.cell.specs.declared.Boxes.{Boxes}
-use Rattle.cell.specs.declared.Boxes.TheVariants.{Counted, NoFit, NoInverse}
+use Rattle.cell.specs.declared.Uncounted.{Uncounted}
+use Rattle.cell.specs.declared.Uncounted.TheVariants.{NoFit, NoInverse}
+use Rattle.std.specs.Prelude.{Result, Ok, Err}
 
 -- ---- one axis
 axis_less_lem : (p : Bool) (len x : Float) → fits_of (rounded_of p (x ⊘ len)) ≡ true → axis_of p len x ≡ axis_less p len x (to_signed 31 (rounded_of p (x ⊘ len)))
@@ -42,29 +42,29 @@ pub record Held (x y z : Float) (n : Triple) : Type 0 where
   pub fz : fits_of z ≡ true
   pub is : n ≡ triple x y z
 
-counted_inv : Boxes → Triple → Triple
-counted_inv (Counted m) n = m
-counted_inv NoFit n = n
-counted_inv NoInverse n = n
+counted_inv : Result Triple Uncounted → Triple → Triple
+counted_inv (Ok m) n = m
+counted_inv (Err NoFit) n = n
+counted_inv (Err NoInverse) n = n
 
-is_counted : Boxes → Bool
-is_counted (Counted m) = true
-is_counted NoFit = false
-is_counted NoInverse = false
+is_counted : Result Triple Uncounted → Bool
+is_counted (Ok m) = true
+is_counted (Err NoFit) = false
+is_counted (Err NoInverse) = false
 
-held : (x y z : Float) (n : Triple) → counted_of x y z ≡ Counted n → Held x y z n
+held : (x y z : Float) (n : Triple) → counted_of x y z ≡ Ok n → Held x y z n
 unfolding counted_of is_counted counted_inv
 held x y z n h = go (fits_of x && fits_of y && fits_of z) refl h
   where
-    go : (b : Bool) → (fits_of x && fits_of y && fits_of z) ≡ b → cond b (Counted (triple x y z)) NoFit ≡ Counted n → Held x y z n
+    go : (b : Bool) → (fits_of x && fits_of y && fits_of z) ≡ b → cond b (Ok (triple x y z)) (Err NoFit) ≡ Ok n → Held x y z n
     go false e g = absurd (false≢true (ap is_counted g))
     go true e g =
         let p = both_true (fits_of x && fits_of y) (fits_of z) e in
         let q = both_true (fits_of x) (fits_of y) p.0 in
-        record { fx = q.0; fy = q.1; fz = p.1; is = sym (ap (λ (b : Boxes). counted_inv b n) g) }
+        record { fx = q.0; fy = q.1; fz = p.1; is = sym (ap (λ (b : Result Triple Uncounted). counted_inv b n) g) }
 
 -- ---- the two ways
-box_less_lem : (l : Lattice) (d : Vec3) (n : Triple) → boxes_of l (quotients_of l d) ≡ Counted n → box_image_of l d ≡ box_less l d n
+box_less_lem : (l : Lattice) (d : Vec3) (n : Triple) → boxes_of l (quotients_of l d) ≡ Ok n → box_image_of l d ≡ box_less l d n
 unfolding box_image_of
 box_less_lem l d n h =
     let k = held _ _ _ n h in
@@ -75,7 +75,7 @@ box_less_lem l d n h =
     })
     ∙ ap (box_less l d) (sym k.is)
 
-fractions_less_lem : (l : Lattice) (s : Vec3) (n : Triple) → T (fits binary64 s.x) → T (fits binary64 s.y) → T (fits binary64 s.z) → boxes_of l s ≡ Counted n → round_fraction_of l s ≡ fractions_less l s n
+fractions_less_lem : (l : Lattice) (s : Vec3) (n : Triple) → T (fits binary64 s.x) → T (fits binary64 s.y) → T (fits binary64 s.z) → boxes_of l s ≡ Ok n → round_fraction_of l s ≡ fractions_less l s n
 unfolding round_fraction_of
 fractions_less_lem l s n fx fy fz h =
     let k = held _ _ _ n h in
@@ -98,22 +98,22 @@ fits_z : (l : Lattice) (d : Vec3) → T (fits binary64 (times_of (inverse_of l) 
 unfolding times_of
 fits_z l d = add-fits binary64 _ _
 
-general_less : (l : Lattice) (d : Vec3) (n : Triple) → cond (singular_of l) NoInverse (boxes_of l (times_of (inverse_of l) d)) ≡ Counted n
+general_less : (l : Lattice) (d : Vec3) (n : Triple) → cond (singular_of l) (Err NoInverse) (boxes_of l (times_of (inverse_of l) d)) ≡ Ok n
     → general_image_of l d ≡ times_of (matrix_of l) (fractions_less l (times_of (inverse_of l) d) n)
 unfolding general_image_of is_counted
 general_less l d n h = go (singular_of l) h
   where
-    go : (b : Bool) → cond b NoInverse (boxes_of l (times_of (inverse_of l) d)) ≡ Counted n
+    go : (b : Bool) → cond b (Err NoInverse) (boxes_of l (times_of (inverse_of l) d)) ≡ Ok n
         → cond b d (times_of (matrix_of l) (round_fraction_of l (times_of (inverse_of l) d))) ≡ times_of (matrix_of l) (fractions_less l (times_of (inverse_of l) d) n)
     go true g = absurd (false≢true (ap is_counted g))
     go false g = ap (times_of (matrix_of l)) (fractions_less_lem l (times_of (inverse_of l) d) n (fits_x l d) (fits_y l d) (fits_z l d) g)
 
-pub image_unfolds : (d : Vec3) (cell : Cell) → Unfolds d cell (image_of d cell)
+pub image_unfolds : (d : Vec3) (cell : Option Lattice) → Unfolds d cell (image_of d cell)
 unfolding image_of less_of lattice_image_of lattice_boxes_of
-image_unfolds d Absent n h = refl
-image_unfolds d (Present l) n h = go (skewed_of l) h
+image_unfolds d None n h = refl
+image_unfolds d (Some l) n h = go (skewed_of l) h
   where
-    go : (b : Bool) → cond b (cond (singular_of l) NoInverse (boxes_of l (times_of (inverse_of l) d))) (boxes_of l (quotients_of l d)) ≡ Counted n
+    go : (b : Bool) → cond b (cond (singular_of l) (Err NoInverse) (boxes_of l (times_of (inverse_of l) d))) (boxes_of l (quotients_of l d)) ≡ Ok n
         → cond b (general_image_of l d) (box_image_of l d) ≡ cond b (times_of (matrix_of l) (fractions_less l (times_of (inverse_of l) d) n)) (box_less l d n)
     go true g = general_less l d n g
     go false g = box_less_lem l d n g

@@ -18,7 +18,7 @@ use Rattle.float.proofs.Whole.{nearest_exact}
 use Rattle.float.specs.Def.{round_of, whole_of, negative}
 use Rattle.cell.specs.Boxes.{past_whole, fits_of, counted_of}
 use Rattle.cell.specs.Unfolded.{float_of}
-use Rattle.cell.specs.declared.Boxes.TheVariants.{Counted}
+use Rattle.std.specs.Prelude.{Result, Ok, Err}
 
 -- ---- the whole part of a number that fits is in the range
 -- a / d, compared as a * 1 against 2^31 * d
@@ -98,9 +98,9 @@ pub narrow_is : (x : Float) (r : ℤ) → fits_of x ≡ true → r ≡ to_signed
 narrow_is x r h e = back_32 x (to_z w64 (of_z w64 r)) (back_64 x r h e)
 
 pub counted_is : (x y z : Float) (r s t : ℤ) → r ≡ to_signed 31 x → s ≡ to_signed 31 y → t ≡ to_signed 31 z → (fits_of x && fits_of y && fits_of z) ≡ true
-    → Counted (record { x = to_z w32 (of_z w32 r); y = to_z w32 (of_z w32 s); z = to_z w32 (of_z w32 t) }) ≡ counted_of x y z
+    → Ok (record { x = to_z w32 (of_z w32 r); y = to_z w32 (of_z w32 s); z = to_z w32 (of_z w32 t) }) ≡ counted_of x y z
 unfolding counted_of
-counted_is x y z r s t ex ey ez h = rw h (ap Counted (λ i. record { x = back_32 x r ex i; y = back_32 y s ey i; z = back_32 z t ez i }))
+counted_is x y z r s t ex ey ez h = rw h (ap Ok (λ i. record { x = back_32 x r ex i; y = back_32 y s ey i; z = back_32 z t ez i }))
 
 -- ---- there and back
 whole_part : (m d n : ℕ) → 0 < d → m * 1 ≡ n * d → m / d ≡ n

@@ -4,8 +4,9 @@ use Rattle.std.specs.Float.Ieee.{neg, lt, le, to_signed}
 use Rattle.float.specs.Arith.{bits}
 use Rattle.float.specs.Def.{round_of}
 use Rattle.cell.specs.declared.Triple.{Triple}
-use Rattle.cell.specs.declared.Boxes.{Boxes}
-use Rattle.cell.specs.declared.Boxes.TheVariants.{Counted, NoFit}
+use Rattle.cell.specs.declared.Uncounted.{Uncounted}
+use Rattle.cell.specs.declared.Uncounted.TheVariants.{NoFit}
+use Rattle.std.specs.Prelude.{Result, Ok, Err}
 
 -- what the source rounds and takes off on a periodic axis, the quotient or the fraction q; 0 on an open one
 unfoldable pub rounded_of : Bool → Float → Float
@@ -22,9 +23,9 @@ fits_of r = le (neg past_whole) r && lt r past_whole
 abbrev pub triple : Float → Float → Float → Triple
 triple x y z = record { x = to_signed 31 x; y = to_signed 31 y; z = to_signed 31 z }
 
-unfoldable pub counted_of : Float → Float → Float → Boxes
-counted_of x y z = cond (fits_of x && fits_of y && fits_of z) (Counted (triple x y z)) NoFit
+unfoldable pub counted_of : Float → Float → Float → Result Triple Uncounted
+counted_of x y z = cond (fits_of x && fits_of y && fits_of z) (Ok (triple x y z)) (Err NoFit)
 
 -- "An open axis counts zero, so does a missing cell."
-abbrev pub no_boxes : Boxes
-no_boxes = Counted (record { x = pos 0; y = pos 0; z = pos 0 })
+abbrev pub no_boxes : Result Triple Uncounted
+no_boxes = Ok (record { x = pos 0; y = pos 0; z = pos 0 })

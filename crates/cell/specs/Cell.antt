@@ -1,4 +1,5 @@
 -- What cell.rs computes of a lattice and a vector, beside the matrix: one definition for each function, in the source's order, on every float. Definitions only.
+use Rattle.std.specs.Prelude.{None, Option, Some}
 use Rattle.std.specs.Prelude.{Float, Bool, true, false, cond, ◌||◌}
 use Rattle.std.specs.Float.{inf}
 use Rattle.std.specs.Float.Ieee.{lt, le}
@@ -10,11 +11,11 @@ use Rattle.cell.specs.Vec.{cross_of, norm_of}
 use Rattle.cell.specs.Matrix.{matrix_of, volume_of, singular_of, inverse_of, times_of}
 use Rattle.cell.specs.declared.Vec3.{Vec3}
 use Rattle.cell.specs.declared.Lattice.{Lattice}
-use Rattle.cell.specs.declared.Cell.{Cell}
-use Rattle.cell.specs.declared.Cell.TheVariants.{Absent, Present}
 use Rattle.cell.specs.declared.Image.{Image}
-use Rattle.cell.specs.declared.Boxes.{Boxes}
-use Rattle.cell.specs.declared.Boxes.TheVariants.{NoInverse}
+use Rattle.cell.specs.declared.Triple.{Triple}
+use Rattle.cell.specs.declared.Uncounted.{Uncounted}
+use Rattle.cell.specs.declared.Uncounted.TheVariants.{NoInverse}
+use Rattle.std.specs.Prelude.{Result, Ok, Err}
 use Rattle.cell.specs.Boxes.{rounded_of, counted_of, no_boxes}
 
 -- 1, and 1e-9
@@ -106,16 +107,16 @@ unfoldable pub lattice_image_of : Lattice → Vec3 → Vec3
 lattice_image_of l d = cond (skewed_of l) (general_image_of l d) (box_image_of l d)
 
 -- The counts (02, No. 2): of the fractions on the general way, or the word that there is no inverse; of the quotients in a box.
-abbrev pub boxes_of : Lattice → Vec3 → Boxes
+abbrev pub boxes_of : Lattice → Vec3 → Result Triple Uncounted
 boxes_of l q = counted_of (rounded_of l.px q.x) (rounded_of l.py q.y) (rounded_of l.pz q.z)
 
 abbrev pub quotients_of : Lattice → Vec3 → Vec3
 quotients_of l d = record { x = d.x ⊘ l.a.x; y = d.y ⊘ l.b.y; z = d.z ⊘ l.c.z }
 
-unfoldable pub lattice_boxes_of : Lattice → Vec3 → Boxes
-lattice_boxes_of l d = cond (skewed_of l) (cond (singular_of l) NoInverse (boxes_of l (times_of (inverse_of l) d))) (boxes_of l (quotients_of l d))
+unfoldable pub lattice_boxes_of : Lattice → Vec3 → Result Triple Uncounted
+lattice_boxes_of l d = cond (skewed_of l) (cond (singular_of l) (Err NoInverse) (boxes_of l (times_of (inverse_of l) d))) (boxes_of l (quotients_of l d))
 
 -- `min_image` (195-216), and the boxes that it took off
-unfoldable pub image_of : Vec3 → Cell → Image
-image_of d Absent = record { diff = d; counts = no_boxes }
-image_of d (Present l) = record { diff = lattice_image_of l d; counts = lattice_boxes_of l d }
+unfoldable pub image_of : Vec3 → Option Lattice → Image
+image_of d None = record { diff = d; counts = no_boxes }
+image_of d (Some l) = record { diff = lattice_image_of l d; counts = lattice_boxes_of l d }

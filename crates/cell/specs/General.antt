@@ -11,8 +11,10 @@ use Rattle.cell.specs.Cell.{round_axis_of, box_image_of, skewed_of, boxes_of, qu
 use Rattle.cell.specs.declared.Vec3.{Vec3}
 use Rattle.cell.specs.declared.Lattice.{Lattice}
 use Rattle.cell.specs.declared.General.{General}
-use Rattle.cell.specs.declared.Boxes.{Boxes}
-use Rattle.cell.specs.declared.Boxes.TheVariants.{NoInverse}
+use Rattle.cell.specs.declared.Triple.{Triple}
+use Rattle.cell.specs.declared.Uncounted.{Uncounted}
+use Rattle.cell.specs.declared.Uncounted.TheVariants.{NoInverse}
+use Rattle.std.specs.Prelude.{Result, Ok, Err}
 use Rattle.cell.specs.Boxes.{no_boxes}
 
 -- the larger of m and v by one comparison, and of m and the magnitude of v by two
@@ -63,8 +65,8 @@ unfoldable pub image_by : Lattice → General → Vec3 → Vec3
 image_by l g d = cond g.skewed (general_by l g d) (box_image_of l d)
 
 -- The counts by them. The numbers of no cell at all say so: the other two flags are then those of a lattice without an inverse.
-unfoldable pub boxes_by : Lattice → General → Vec3 → Boxes
+unfoldable pub boxes_by : Lattice → General → Vec3 → Result Triple Uncounted
 boxes_by l g d =
     cond g.skewed
-    (cond g.absent no_boxes (cond g.singular NoInverse (boxes_of l (record { x = dot_of g.ix d; y = dot_of g.iy d; z = dot_of g.iz d }))))
+    (cond g.absent no_boxes (cond g.singular (Err NoInverse) (boxes_of l (record { x = dot_of g.ix d; y = dot_of g.iy d; z = dot_of g.iz d }))))
     (boxes_of l (quotients_of l d))

@@ -6,7 +6,7 @@ ghost use Rattle.cell.specs.Boxes.{rounded_of, fits_of, counted_of, no_boxes};
 ghost use Rattle.cell.specs.Cell.{lattice_boxes_of};
 ghost use Rattle.cell.specs.General.{boxes_by};
 
-use crate::{Boxes, General, Lattice, Triple, Vec3, kernel, vectors};
+use crate::{General, Lattice, Triple, Uncounted, Vec3, kernel, vectors};
 
 // What is rounded is the quotient, or the fraction on the general way.
 fn rounded(periodic: bool, q: f64) -> f64
@@ -29,27 +29,27 @@ fn whole(r: f64) -> i32
     float::to_i64(r) as i32
 }
 
-fn counted(x: f64, y: f64, z: f64) -> Boxes
+fn counted(x: f64, y: f64, z: f64) -> Result<Triple, Uncounted>
     ensures { result ≡ counted_of x y z }
 {
     if fits(x) & fits(y) & fits(z) {
-        return Boxes::Counted(Triple {
+        return Ok(Triple {
             x: whole(x),
             y: whole(y),
             z: whole(z),
         });
     }
-    Boxes::NoFit
+    Err(Uncounted::NoFit)
 }
 
-pub fn none() -> Boxes
+pub fn none() -> Result<Triple, Uncounted>
     ensures { result ≡ no_boxes }
 {
-    Boxes::Counted(Triple { x: 0, y: 0, z: 0 })
+    Ok(Triple { x: 0, y: 0, z: 0 })
 }
 
 // By the numbers of the general way; with `general_of(l)` they are the lattice's.
-pub fn boxes_by(l: Lattice, g: General, d: Vec3) -> Boxes
+pub fn boxes_by(l: Lattice, g: General, d: Vec3) -> Result<Triple, Uncounted>
     ensures { result ≡ boxes_by l g d }
 {
     if g.skewed {
@@ -57,7 +57,7 @@ pub fn boxes_by(l: Lattice, g: General, d: Vec3) -> Boxes
             return none();
         }
         if g.singular {
-            return Boxes::NoInverse;
+            return Err(Uncounted::NoInverse);
         }
         let x = vectors::dot(g.ix, d);
         let y = vectors::dot(g.iy, d);
@@ -71,7 +71,7 @@ pub fn boxes_by(l: Lattice, g: General, d: Vec3) -> Boxes
     )
 }
 
-pub(crate) fn lattice_boxes(l: Lattice, d: Vec3) -> Boxes
+pub(crate) fn lattice_boxes(l: Lattice, d: Vec3) -> Result<Triple, Uncounted>
     ensures { result ≡ lattice_boxes_of l d }
 {
     boxes_by(l, kernel::general_of(l), d)

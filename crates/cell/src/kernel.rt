@@ -4,7 +4,7 @@ ghost use Rattle.std.specs.Prelude.{◌≡◌};
 ghost use Rattle.cell.specs.Cell.{orthorhombic_of, cubic_of, off_diagonal_of, is_orthorhombic_of, to_fractional_of, to_cartesian_of, wrap_axis_of, wrap_fraction_of, wrap_of, width_of, perp_widths_of, round_axis_of, general_image_of, skewed_of, lattice_image_of, image_of};
 ghost use Rattle.cell.specs.General.{box_by, rounded_by, row_vec, general_of, general_by, image_by};
 
-use crate::{Cell, General, Image, Lattice, Vec3, counting, matrices, vectors};
+use crate::{General, Image, Lattice, Vec3, counting, matrices, vectors};
 
 pub fn orthorhombic(lx: f64, ly: f64, lz: f64) -> Lattice
     ensures { result ≡ orthorhombic_of lx ly lz }
@@ -281,15 +281,15 @@ fn lattice_image(l: Lattice, d: Vec3) -> Vec3
 }
 
 // The minimum image of a difference in a cell, or the difference itself without one.
-pub fn min_image(d: Vec3, cell: Cell) -> Image
+pub fn min_image(d: Vec3, cell: Option<Lattice>) -> Image
     ensures { result ≡ image_of d cell }
 {
     match cell {
-        Cell::Absent => Image {
+        None => Image {
             diff: d,
             counts: counting::none(),
         },
-        Cell::Present(l) => Image {
+        Some(l) => Image {
             diff: lattice_image(l, d),
             counts: counting::lattice_boxes(l, d),
         },

@@ -4,7 +4,7 @@
 
 ghost use Rattle.cell.specs.Calls.{OrthorhombicSays, CubicSays, IsOrthorhombicSays, MatrixSays, VolumeSays, InverseSays, ToFractionalSays, ToCartesianSays, WrapSays, PerpWidthsSays, MinImageSays};
 
-use answer::{Done, Number, Refusal, YesNo};
+use answer::Refusal;
 
 pub mod counting;
 pub mod kernel;
@@ -31,12 +31,6 @@ pub struct Lattice {
     pub pz: bool,
 }
 
-#[derive(Clone, Copy)]
-pub enum Cell {
-    Absent,
-    Present(Lattice),
-}
-
 // How many boxes were taken off, on each axis.
 #[derive(Drop)]
 pub struct Triple {
@@ -45,10 +39,9 @@ pub struct Triple {
     pub z: i32,
 }
 
-// The same where there are such numbers: not where one is no i32, and not on the general way without an inverse.
-#[derive(Drop)]
-pub enum Boxes {
-    Counted(Triple),
+// Why there are no such numbers: one is no i32, or the general way has no inverse.
+#[derive(Clone, Copy)]
+pub enum Uncounted {
     NoFit,
     NoInverse,
 }
@@ -57,7 +50,7 @@ pub enum Boxes {
 #[derive(Drop)]
 pub struct Image {
     pub diff: Vec3,
-    pub counts: Boxes,
+    pub counts: Result<Triple, Uncounted>,
 }
 
 // What the general way of the minimum image wants to know of a lattice: whether it is taken, whether there is an inverse, and the
@@ -72,7 +65,7 @@ pub struct General {
     pub iz: Vec3,
 }
 
-// Three rows of three floats, where they stand beside an answer: no enum holds an array.
+// Three rows of three floats.
 #[repr(C)]
 #[derive(Drop)]
 pub struct Rows {
@@ -81,155 +74,109 @@ pub struct Rows {
     pub z: [f64; 3],
 }
 
-#[derive(Drop)]
-pub enum Vector {
-    Answered(Vec3),
-    Refused(Refusal),
-}
-
-#[derive(Drop)]
-pub enum LatticeAnswer {
-    Answered(Lattice),
-    Refused(Refusal),
-}
-
-#[derive(Drop)]
-pub enum ImageAnswer {
-    Answered(Image),
-    Refused(Refusal),
-}
-
-// The rows are zeros where the call is refused.
-#[derive(Drop)]
-pub struct RowsAnswer {
-    pub done: Done,
-    pub rows: Rows,
-}
-
-// The rows are zeros where there is no inverse, and where the call is refused.
-#[derive(Drop)]
-pub struct InverseAnswer {
-    pub found: YesNo,
-    pub rows: Rows,
-}
-
-pub fn orthorhombic(lx: f64, ly: f64, lz: f64) -> LatticeAnswer
+pub fn orthorhombic(lx: f64, ly: f64, lz: f64) -> Result<Lattice, Refusal>
     ensures { OrthorhombicSays lx ly lz result }
 {
     if ranges::is_within(ranged::ENTRY, lx)
         & ranges::is_within(ranged::ENTRY, ly)
         & ranges::is_within(ranged::ENTRY, lz)
     {
-        return LatticeAnswer::Answered(kernel::orthorhombic(lx, ly, lz));
+        return Ok(kernel::orthorhombic(lx, ly, lz));
     }
-    LatticeAnswer::Refused(Refusal::Range)
+    Err(Refusal::Range)
 }
 
-pub fn cubic(l: f64) -> LatticeAnswer
+pub fn cubic(l: f64) -> Result<Lattice, Refusal>
     ensures { CubicSays l result }
 {
     if ranges::is_within(ranged::ENTRY, l) {
-        return LatticeAnswer::Answered(kernel::cubic(l));
+        return Ok(kernel::cubic(l));
     }
-    LatticeAnswer::Refused(Refusal::Range)
+    Err(Refusal::Range)
 }
 
-pub fn is_orthorhombic(l: Lattice) -> YesNo
+pub fn is_orthorhombic(l: Lattice) -> Result<bool, Refusal>
     ensures { IsOrthorhombicSays l result }
 {
     if ranged::lattice_in_range(l) {
-        return YesNo::Answered(kernel::is_orthorhombic(l));
+        return Ok(kernel::is_orthorhombic(l));
     }
-    YesNo::Refused(Refusal::Range)
+    Err(Refusal::Range)
 }
 
-pub fn matrix(l: Lattice) -> RowsAnswer
+pub fn matrix(l: Lattice) -> Result<Rows, Refusal>
     ensures { MatrixSays l result }
 {
     if ranged::lattice_in_range(l) {
-        return RowsAnswer {
-            done: Done::Answered,
-            rows: matrices::rows_of(matrices::matrix(l)),
-        };
+        return Ok(matrices::rows_of(matrices::matrix(l)));
     }
-    RowsAnswer {
-        done: Done::Refused(Refusal::Range),
-        rows: matrices::zero_rows(),
-    }
+    Err(Refusal::Range)
 }
 
-pub fn volume(l: Lattice) -> Number
+pub fn volume(l: Lattice) -> Result<f64, Refusal>
     ensures { VolumeSays l result }
 {
     if ranged::lattice_in_range(l) {
-        return Number::Answered(matrices::volume(l));
+        return Ok(matrices::volume(l));
     }
-    Number::Refused(Refusal::Range)
+    Err(Refusal::Range)
 }
 
-pub fn inverse(l: Lattice) -> InverseAnswer
+// `None` where the lattice has no inverse.
+pub fn inverse(l: Lattice) -> Result<Option<Rows>, Refusal>
     ensures { InverseSays l result }
 {
     if ranged::lattice_in_range(l) {
         if matrices::singular(l) {
-            return InverseAnswer {
-                found: YesNo::Answered(false),
-                rows: matrices::zero_rows(),
-            };
+            return Ok(None);
         }
-        return InverseAnswer {
-            found: YesNo::Answered(true),
-            rows: matrices::rows_of(matrices::inverse(l)),
-        };
+        return Ok(Some(matrices::rows_of(matrices::inverse(l))));
     }
-    InverseAnswer {
-        found: YesNo::Refused(Refusal::Range),
-        rows: matrices::zero_rows(),
-    }
+    Err(Refusal::Range)
 }
 
-pub fn to_fractional(l: Lattice, r: Vec3) -> Vector
+pub fn to_fractional(l: Lattice, r: Vec3) -> Result<Vec3, Refusal>
     ensures { ToFractionalSays l r result }
 {
     if ranged::lattice_in_range(l) & ranged::vec_within(ranged::ENTRY, r) {
-        return Vector::Answered(kernel::to_fractional(l, r));
+        return Ok(kernel::to_fractional(l, r));
     }
-    Vector::Refused(Refusal::Range)
+    Err(Refusal::Range)
 }
 
-pub fn to_cartesian(l: Lattice, s: Vec3) -> Vector
+pub fn to_cartesian(l: Lattice, s: Vec3) -> Result<Vec3, Refusal>
     ensures { ToCartesianSays l s result }
 {
     if ranged::lattice_in_range(l) & ranged::vec_within(ranged::OTHER, s) {
-        return Vector::Answered(kernel::to_cartesian(l, s));
+        return Ok(kernel::to_cartesian(l, s));
     }
-    Vector::Refused(Refusal::Range)
+    Err(Refusal::Range)
 }
 
-pub fn wrap(l: Lattice, r: Vec3) -> Vector
+pub fn wrap(l: Lattice, r: Vec3) -> Result<Vec3, Refusal>
     ensures { WrapSays l r result }
 {
     if ranged::lattice_in_range(l) & ranged::vec_within(ranged::ENTRY, r) {
-        return Vector::Answered(kernel::wrap(l, r));
+        return Ok(kernel::wrap(l, r));
     }
-    Vector::Refused(Refusal::Range)
+    Err(Refusal::Range)
 }
 
-pub fn perp_widths(l: Lattice) -> Vector
+pub fn perp_widths(l: Lattice) -> Result<Vec3, Refusal>
     ensures { PerpWidthsSays l result }
 {
     if ranged::lattice_in_range(l) {
-        return Vector::Answered(kernel::perp_widths(l));
+        return Ok(kernel::perp_widths(l));
     }
-    Vector::Refused(Refusal::Range)
+    Err(Refusal::Range)
 }
 
 // The minimum image of a difference.
-pub fn min_image(d: Vec3, cell: Cell) -> ImageAnswer
+pub fn min_image(d: Vec3, cell: Option<Lattice>) -> Result<Image, Refusal>
     ensures { MinImageSays d cell result }
 {
     if ranged::vec_within(ranged::OTHER, d) & ranged::cell_in_range(cell) {
-        return ImageAnswer::Answered(kernel::min_image(d, cell));
+        return Ok(kernel::min_image(d, cell));
     }
-    ImageAnswer::Refused(Refusal::Range)
+    Err(Refusal::Range)
 }

@@ -2,7 +2,7 @@
 ghost use Rattle.std.specs.Prelude.{◌≡◌};
 ghost use Rattle.cell.specs.Ranged.{vec_within, lattice_in_range, cell_in_range};
 
-use crate::{Cell, Lattice, Vec3};
+use crate::{Lattice, Vec3};
 
 // 2^20, for coordinates and cell entries, and 2^500, for every other float.
 pub const ENTRY: f64 = 1048576.0;
@@ -21,11 +21,11 @@ pub fn lattice_in_range(l: Lattice) -> bool
     vec_within(ENTRY, l.a) & vec_within(ENTRY, l.b) & vec_within(ENTRY, l.c)
 }
 
-pub fn cell_in_range(cell: Cell) -> bool
+pub fn cell_in_range(cell: Option<Lattice>) -> bool
     ensures { result ≡ cell_in_range cell }
 {
     match cell {
-        Cell::Absent => true,
-        Cell::Present(l) => lattice_in_range(l),
+        None => true,
+        Some(l) => lattice_in_range(l),
     }
 }

@@ -1,4 +1,5 @@
 -- The minimum image by a cell's prepared facts is the minimum image in the cell (`prepared-image`), and the short way is what `diffIn` says (`short-way`). Assumes nothing.
+use Rattle.std.specs.Prelude.{None, Option, Some}
 use mathlib.Core.Path.{◌≡◌, refl, ap, ◌∙◌}
 use mathlib.Core.Bool.{Bool, true, false, not, cond, ◌&&◌}
 use lib.Ieee.{Float, nan, inf, fin, lt, of_bits}
@@ -15,8 +16,6 @@ use Rattle.cell.specs.General.{general_of, general_by, image_by, boxes_by}
 use Rattle.cell.proofs.Way.{image_by_lem, boxes_by_lem}
 use Rattle.cell.specs.declared.Vec3.{Vec3}
 use Rattle.cell.specs.declared.Lattice.{Lattice}
-use Rattle.cell.specs.declared.Cell.{Cell}
-use Rattle.cell.specs.declared.Cell.TheVariants.{Absent, Present}
 use Rattle.cell.specs.declared.Image.{Image}
 use Rattle.cell_prepared.specs.declared.Prepared.{Prepared}
 use Rattle.cell_prepared.specs.Facts.{huge, is_box, lengths, short_of, prepare_of, short_axis, is_short, short_image, diff_in, image_in}
@@ -78,13 +77,13 @@ lattice_law : (l : Lattice) (d : Vec3) → cond (is_short (short_of l) d) (short
 unfolding short_of
 lattice_law l d = by_short l d (is_box l) refl
 
-pub prepared_image : (cell : Cell) (d : Vec3) → image_in (prepare_of cell) d ≡ image_of d cell
+pub prepared_image : (cell : Option Lattice) (d : Vec3) → image_in (prepare_of cell) d ≡ image_of d cell
 unfolding prepare_of diff_in image_in image_of image_by general_by boxes_by
-prepared_image Absent d = rw (never_short d)
-prepared_image (Present l) d = λ i. record { diff = lattice_law l d i; counts = boxes_by_lem l d i }
+prepared_image None d = rw (never_short d)
+prepared_image (Some l) d = λ i. record { diff = lattice_law l d i; counts = boxes_by_lem l d i }
 
 -- as functions: what is made of the images of many differences may be read either way
-pub prepared_all : (cell : Cell) → ◌≡◌ {A = Vec3 → Image} (λ d. image_in (prepare_of cell) d) (λ d. image_of d cell)
+pub prepared_all : (cell : Option Lattice) → ◌≡◌ {A = Vec3 → Image} (λ d. image_in (prepare_of cell) d) (λ d. image_of d cell)
 prepared_all cell = λ i d. prepared_image cell d i
 
 -- ---- the short way, as the code has it: a is the magnitude of x, r the answer of `near`

@@ -1,5 +1,6 @@
 -- A cell's facts, asked once for many differences, and the minimum image by them. Nobody has to believe that it is the source's: proofs/Law.antt shows that
 -- `imageIn (prepare_of cell) d` is `image_of d cell`. Definitions only.
+use Rattle.std.specs.Prelude.{None, Option, Some}
 use Rattle.std.specs.Prelude.{◌≡◌, T, Float, Bool, true, false, not, cond, ◌&&◌}
 use Rattle.std.specs.Float.{binary64, inf}
 use Rattle.std.specs.Float.Ieee.{fits, lt}
@@ -11,8 +12,6 @@ use Rattle.cell.specs.Cell.{cubic_of, skewed_of}
 use Rattle.cell.specs.General.{general_of, image_by, boxes_by}
 use Rattle.cell.specs.declared.Vec3.{Vec3}
 use Rattle.cell.specs.declared.Lattice.{Lattice}
-use Rattle.cell.specs.declared.Cell.{Cell}
-use Rattle.cell.specs.declared.Cell.TheVariants.{Absent, Present}
 use Rattle.cell.specs.declared.Image.{Image}
 use Rattle.cell_prepared.specs.declared.Prepared.{Prepared}
 
@@ -31,14 +30,14 @@ lengths l = record { x = l.a.x; y = l.b.y; z = l.c.z }
 unfoldable pub short_of : Lattice → Vec3
 short_of l = cond (is_box l) (lengths l) zero_vec
 
-unfoldable pub prepare_of : Cell → Prepared
-prepare_of Absent =
+unfoldable pub prepare_of : Option Lattice → Prepared
+prepare_of None =
     record {
       short = zero_vec;
       lattice = cubic_of (bits 0);
       general = record { skewed = true; singular = true; absent = true; ix = zero_vec; iy = zero_vec; iz = zero_vec };
     }
-prepare_of (Present l) = record { short = short_of l; lattice = l; general = general_of l }
+prepare_of (Some l) = record { short = short_of l; lattice = l; general = general_of l }
 
 -- one axis: the formula; of an infinite length, which no prepared cell has, what the short way gives
 unfoldable pub short_axis : Float → Float → Float

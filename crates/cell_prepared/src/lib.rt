@@ -5,7 +5,7 @@
 ghost use Rattle.std.specs.Prelude.{◌≡◌, true};
 ghost use Rattle.cell_prepared.specs.Facts.{short_of, prepare_of, is_short, short_image, diff_in, image_in, InnerSays, SettledSays};
 
-use cell::{Cell, General, Image, Lattice, Vec3, counting, kernel, vectors};
+use cell::{General, Image, Lattice, Vec3, counting, kernel, vectors};
 
 // A cell's facts (specs/Facts.antt).
 #[derive(Clone, Copy)]
@@ -31,11 +31,11 @@ fn short_of(l: Lattice) -> Vec3
 }
 
 // Without a cell the difference stays, as in a lattice with no inverse, but the counts are zeros.
-pub fn prepare(cell: Cell) -> Prepared
+pub fn prepare(cell: Option<Lattice>) -> Prepared
     ensures { result ≡ prepare_of cell }
 {
     match cell {
-        Cell::Absent => Prepared {
+        None => Prepared {
             short: vectors::zero(),
             lattice: kernel::cubic(0.0),
             general: General {
@@ -47,7 +47,7 @@ pub fn prepare(cell: Cell) -> Prepared
                 iz: vectors::zero(),
             },
         },
-        Cell::Present(l) => Prepared {
+        Some(l) => Prepared {
             short: short_of(l),
             lattice: l,
             general: kernel::general_of(l),

@@ -1,4 +1,6 @@
 -- The lines of clumps, one after the other; how long they are; that `label` refuses no list of a sheet. Assumes nothing.
+use Rattle.std.specs.Prelude.{Ok, Result}
+use Rattle.answer.specs.declared.Refusal.{Refusal}
 use Prim.Native.Nat.{ℕ, suc, ◌+◌, ◌*◌, ◌%◌, ◌≤◌, ◌<◌}
 use mathlib.Core.Path.{◌≡◌, refl, sym, ap, ◌∙◌}
 use mathlib.Core.Bool.{Bool, true, false, cond}
@@ -8,8 +10,6 @@ use lib.ListN.{length, get_or, take, drop, length-append, length-map}
 use lib.Seq.{sets, length-take-le}
 use lib.Dec.{eqb}
 use borrow.Author.Tests.{eq-eqb, ne_eqb, lt-ltb, le-ltb}
-use Rattle.answer.specs.declared.Done.TheVariants.{Answered}
-use Rattle.answer.specs.declared.Whole.{Whole}
 use Rattle.lists.specs.Lists.{rows, up_to, each, keep, how_many}
 use Rattle.lists.proofs.Cases.{by_test}
 use Rattle.lists.proofs.Exactness.{length_keep, length_up_to}
@@ -107,12 +107,12 @@ module _ (atoms count : ℕ) (pairs labels : List ℕ) (w : RowsAmong atoms coun
             (λ p m. let t = w.two p m in simp (lt-ltb p.0 atoms (omega (arith, t.0, t.1)), lt-ltb p.1 atoms t.1)),
       )
 
-  asked : label_asked atoms part labels ≡ Answered
+  asked : label_asked atoms part labels ≡ Ok tt
   unfolding label_asked
   asked =
       simp (even, le-ltb 16384 atoms (omega (arith, w.few)), le-ltb (absent_of atoms (rows part)) (length (rows part)) there)
 
-  pub label_is : (r : Whole) (labels' : List ℕ) → LabelSays atoms part labels r labels' → labels' ≡ labels_of atoms (rows part)
+  pub label_is : (r : Result ℕ Refusal) (labels' : List ℕ) → LabelSays atoms part labels r labels' → labels' ≡ labels_of atoms (rows part)
   unfolding label_of label_after
   label_is r labels' says = ap (λ (o : Outcome). o.labels) (says ∙ ap (label_after atoms (rows part) labels) asked)
 

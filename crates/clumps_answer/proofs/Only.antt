@@ -1,14 +1,15 @@
 -- For each input one answer and one memory: no second pair of these fits what `solve_clumps` promises. Assumes nothing.
+use Rattle.std.specs.Prelude.{Result}
+use Rattle.answer.specs.declared.Refusal.{Refusal}
 use Prim.Native.Nat.{ℕ}
 use mathlib.Core.Path.{◌≡◌, sym, ap, ◌∙◌}
 use mathlib.Core.List.{List}
-use Rattle.answer.specs.Seen.{seen_whole}
-use Rattle.answer.specs.declared.Whole.{Whole}
-use Rattle.answer.proofs.Only.{whole_only}
+use Rattle.answer.specs.Seen.{seen}
+use Rattle.answer.proofs.Only.{seen_only}
 use Rattle.clumps_answer.specs.Clumps.{Outcome, solve_clumps_of, SolveClumpsSays}
 
-told : (r t : Whole) (u v : List ℕ) (o : Outcome) → record { shown = seen_whole r; out = u } ≡ o → record { shown = seen_whole t; out = v } ≡ o → (r ≡ t) × (u ≡ v)
-told r t u v o p q = (whole_only r t (ap (λ (x : Outcome). x.shown) (p ∙ sym q)), ap (λ (x : Outcome). x.out) (p ∙ sym q))
+told : (r t : Result ℕ Refusal) (u v : List ℕ) (o : Outcome) → record { shown = seen r; out = u } ≡ o → record { shown = seen t; out = v } ≡ o → (r ≡ t) × (u ≡ v)
+told r t u v o p q = (seen_only r t (ap (λ (x : Outcome). x.shown) (p ∙ sym q)), ap (λ (x : Outcome). x.out) (p ∙ sym q))
 
-pub solve_clumps_only : (s out : List ℕ) (r t : Whole) (u v : List ℕ) → SolveClumpsSays s out r u → SolveClumpsSays s out t v → (r ≡ t) × (u ≡ v)
+pub solve_clumps_only : (s out : List ℕ) (r t : Result ℕ Refusal) (u v : List ℕ) → SolveClumpsSays s out r u → SolveClumpsSays s out t v → (r ≡ t) × (u ≡ v)
 solve_clumps_only s out r t u v p q = told r t u v (solve_clumps_of s out) p q

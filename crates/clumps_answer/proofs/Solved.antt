@@ -1,20 +1,19 @@
 -- `solve_clumps` by its cases, from what `list` promises: the text, its length, and what is printed. Assumes nothing.
+use Rattle.std.specs.Prelude.{Ok, Result}
+use Rattle.answer.specs.declared.Refusal.{Refusal}
+use Rattle.sheet_answer.specs.declared.SheetList.{SheetList}
 use Prim.Native.Nat.{ℕ, ◌+◌, ◌*◌, ◌≤◌, ◌<◌}
 use mathlib.Core.Path.{◌≡◌, refl, sym, ap, ◌∙◌}
-use mathlib.Core.Bool.{Bool}
 use mathlib.Core.List.{List, ◌++◌}
 use native.Mathlib.Omega.{arith}
 use lib.ListN.{length, take, drop, replicate}
 use lib.Seq.{sets, sets-eq, take_at, length-sets}
 use borrow.Author.Tests.{lt-ltb, le-ltb}
-use Rattle.answer.specs.Seen.{Seen, answered, refused, refused_by}
-use Rattle.answer.specs.declared.Whole.TheVariants as wholes
+use Rattle.answer.specs.Seen.{Seen, answered, refused, refused_by, seen}
 use Rattle.answer.specs.declared.Refusal.TheVariants.{Lengths}
 use Rattle.lists.specs.Lists.{rows}
 use Rattle.sheet_printed.proofs.Parts.{length_refusal}
-use Rattle.sheet_answer.specs.declared.SheetList.{SheetList}
-use Rattle.sheet_answer.specs.declared.SheetList.TheVariants.{Answered}
-use Rattle.sheet_answer.specs.List.{SheetCounts, seen_list, ListOutcome, sheet_list_of, ListSays, ListFits}
+use Rattle.sheet_answer.specs.List.{ListOutcome, sheet_list_of, ListSays, ListFits}
 use Rattle.clumps_label.specs.Label.{labels_of}
 use Rattle.clumps_label.proofs.Labels.{clumped}
 use Rattle.clumps_answer.specs.Clumps.{clump_rows, clumps_text, clumps_printed, solve_clumps_of, SolveClumpsSays, SolveClumpsFits}
@@ -34,17 +33,17 @@ front xs room n e h =
     ap (λ (l : List ℕ). take n l) s ∙ take_at xs (drop (0 + length xs) room) n e
 
 -- what `list` promises of a sheet
-module _ (s : List ℕ) (x : SheetList) (ps : List ℕ) (says : ListSays s (replicate 16384 0) x ps) (fit : ListFits x ps) where
-  pub within : (n p c : ℕ) (f : Bool) → x ≡ Answered n p c f → RowsAmong n p ps
-  within n p c f e =
-      let w = fit (record { atoms = n; built = record { pairs = p; checks = c; fallback = f } }) (ap seen_list e) in
+module _ (s : List ℕ) (x : Result SheetList Refusal) (ps : List ℕ) (says : ListSays s (replicate 16384 0) x ps) (fit : ListFits x ps) where
+  pub within : (c : SheetList) → x ≡ Ok c → RowsAmong c.atoms c.built.pairs ps
+  within c e =
+      let w = fit c (ap seen e) in
       record { few = w.few; room = w.room; two = w.two }
 
-  text_is : clumps_text (seen_list x) ps ≡ clumps_printed s
+  text_is : clumps_text (seen x) ps ≡ clumps_printed s
   unfolding clumps_printed
   text_is = ap (λ (o : ListOutcome). clumps_text o.shown o.pairs) says
 
-  most_by : (a : Seen SheetCounts) → seen_list x ≡ a → length (clumps_text a ps) ≤ 11264
+  most_by : (a : Seen SheetList) → seen x ≡ a → length (clumps_text a ps) ≤ 11264
   unfolding clumps_text
   most_by (answered c) e =
       let l = rows (take (2 * c.built.pairs) ps) in
@@ -52,26 +51,26 @@ module _ (s : List ℕ) (x : SheetList) (ps : List ℕ) (says : ListSays s (repl
   most_by (refused n p) e = omega (arith, length_refusal n p)
 
   most : length (clumps_printed s) ≤ 11264
-  most = omega (arith, ap length text_is, most_by (seen_list x) refl)
+  most = omega (arith, ap length text_is, most_by (seen x) refl)
 
-  prints : (c : SheetCounts) → (sheet_list_of s (replicate 16384 0)).shown ≡ answered c → ClumpsOf s c
+  prints : (c : SheetList) → (sheet_list_of s (replicate 16384 0)).shown ≡ answered c → ClumpsOf s c
   unfolding clumps_printed clumps_text
   prints c e =
       let l = rows (take (2 * c.built.pairs) (sheet_list_of s (replicate 16384 0)).pairs) in
       let few = (fit c (ap (λ (o : ListOutcome). o.shown) says ∙ e)).few in
       record {
         clumps = clump_rows (labels_of c.atoms l);
-        text = ap (λ (a : Seen SheetCounts). clumps_text a (sheet_list_of s (replicate 16384 0)).pairs) e;
+        text = ap (λ (a : Seen SheetList). clumps_text a (sheet_list_of s (replicate 16384 0)).pairs) e;
         are = clumps_are c.atoms l;
         digits = few_digits c.atoms l few;
       }
 
   -- the text t of the list y is written, n bytes
-  pub solved : (y : SheetList) → x ≡ y → (out out' : List ℕ) (n : ℕ) → 11264 ≤ length out → n ≡ length (clumps_text (seen_list y) ps) → out' ≡ sets out 0 (clumps_text (seen_list y) ps)
-      → SolveClumpsSays s out (wholes.Answered n) out' × (SolveClumpsFits s (wholes.Answered n) out' × SolveClumpsPrints s (wholes.Answered n))
+  pub solved : (y : Result SheetList Refusal) → x ≡ y → (out out' : List ℕ) (n : ℕ) → 11264 ≤ length out → n ≡ length (clumps_text (seen y) ps) → out' ≡ sets out 0 (clumps_text (seen y) ps)
+      → SolveClumpsSays s out (Ok n) out' × (SolveClumpsFits s (Ok n) out' × SolveClumpsPrints s (Ok n))
   unfolding solve_clumps_of
   solved y e out out' n h p q =
-      let t : clumps_text (seen_list y) ps ≡ clumps_printed s = ap (λ (z : SheetList). clumps_text (seen_list z) ps) (sym e) ∙ text_is in
+      let t : clumps_text (seen y) ps ≡ clumps_printed s = ap (λ (z : Result SheetList Refusal). clumps_text (seen z) ps) (sym e) ∙ text_is in
       let size : n ≡ length (clumps_printed s) = p ∙ ap length t in
       let wrote : out' ≡ sets out 0 (clumps_printed s) = q ∙ ap (λ (l : List ℕ). sets out 0 l) t in
       let long : length out' ≡ length out = ap length wrote ∙ simp length-sets in (

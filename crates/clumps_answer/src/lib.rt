@@ -11,10 +11,9 @@ ghost use Rattle.clumps_answer.specs.Clumps.{clump_line, members_of, clump_rows,
 ghost use Rattle.clumps_answer.specs.Theorems.{SolveClumpsPrints};
 ghost use Rattle.clumps_answer.specs.Steps.{clump_line_at, RowsAmong};
 
-use answer::{Refusal, Whole};
+use answer::Refusal;
 use clumps_label::label;
 use hexadecimal::{put_byte, put2, put4};
-use sheet_answer::SheetList;
 use sheet_answer::kernel::list;
 use sheet_printed::put_refusal;
 
@@ -42,10 +41,8 @@ fn members(labels: &[u32], low: usize) -> usize
     ensures { result ≡ members_of labels.now low }
 {
     let mut n: usize = 0;
-    let mut i: usize = 0;
-    while i < labels.len() {
-        n += one(wide(labels[i]) == low);
-        i += 1;
+    for label in labels {
+        n += one(wide(*label) == low);
     }
     n
 }
@@ -81,21 +78,19 @@ fn put_clumps(labels: &[u32], out: &mut [u8]) -> usize
     ensures out_after { out.new ≡ sets out.old 0 (clump_lines (clump_rows labels.now)) }
 {
     let mut at: usize = 0;
-    let mut i: usize = 0;
-    while i < labels.len() {
+    for i in 0..labels.len() {
         at = put_at(labels, i, out, at);
-        i += 1;
     }
     at
 }
 
-// The labels of the listed atoms, into labels of their number.
+// The labels of the listed atoms, into labels of their number: nothing is refused here, and how many clumps there are is not asked.
 fn label_all(atoms: u32, pairs: &[u32], count: u32, labels: &mut [u32])
     requires { (length labels.old ≡ atoms) × RowsAmong atoms count pairs.now }
     ensures { labels.new ≡ labels_of atoms (rows (take (2 * count) pairs.now)) }
 {
     let m = 2 * wide(count);
-    label(atoms, &pairs[..m], labels);
+    let _ = label(atoms, &pairs[..m], labels);
 }
 
 // The clumps of a list, with room for labels.
@@ -120,29 +115,24 @@ fn put_list(atoms: u32, pairs: &[u32], count: u32, out: &mut [u8]) -> usize
 
 // The clumps of a sheet at the front of `out`, and how many bytes that is; a refused sheet's line as `solve` has it. 1: out is under 11,264 bytes,
 // which is 1,024 clumps.
-pub fn solve_clumps(input: &[u8], out: &mut [u8]) -> Whole
+pub fn solve_clumps(input: &[u8], out: &mut [u8]) -> Result<u64, Refusal>
     ensures says { SolveClumpsSays input.now out.old result out.new }
     ensures fits { SolveClumpsFits input.now result out.new }
     ensures clumps { SolveClumpsPrints input.now result }
 {
     if out.len() < 11264 {
-        return Whole::Refused(Refusal::Lengths);
+        return Err(Refusal::Lengths);
     }
     let mut pairs = [0u32; 16384];
     let list = list(input, &mut pairs);
     match list {
-        SheetList::Answered {
-            atoms,
-            pairs: count,
-            checks: _,
-            fallback: _,
-        } => {
-            let n = put_list(atoms, &pairs, count, out);
-            Whole::Answered(n as u64)
+        Ok(sheet) => {
+            let n = put_list(sheet.atoms, &pairs, sheet.built.pairs, out);
+            Ok(n as u64)
         }
-        SheetList::Refused(r) => {
+        Err(r) => {
             let n = refuse(r, out);
-            Whole::Answered(n as u64)
+            Ok(n as u64)
         }
     }
 }

@@ -5,7 +5,6 @@ ghost use Rattle.std.specs.Prelude.{◌≡◌, ◌≤◌, length, take};
 ghost use Rattle.std.proofs.lemmas.List.Edits.{sets};
 ghost use Rattle.clumps_answer.specs.Clumps.{clumps_printed, solve_clumps_of};
 
-use answer::Whole;
 use clumps_answer::solve_clumps;
 
 // The number of standard input.
@@ -19,11 +18,11 @@ pub fn print(sheet: &[u8], out: &mut [u8])
 {
     let answer = solve_clumps(sheet, out);
     match answer {
-        Whole::Answered(n) => {
+        Ok(n) => {
             let wrote = n as usize;
             io::write_all(STDOUT, &out[..wrote]);
         }
-        Whole::Refused(_) => {}
+        Err(_) => {}
     }
 }
 

@@ -1,4 +1,5 @@
 -- `label` by its cases, and what an answered call says of chains. Assumes nothing.
+use Rattle.std.specs.Prelude.{Err, Ok, Result}
 use Prim.Native.Nat.{ℕ, ◌%◌, ◌≤◌, ◌<◌}
 use mathlib.Core.Path.{◌≡◌, sym, ap, subst, ◌∙◌}
 use mathlib.Core.Bool.{Bool, true, false, not}
@@ -7,10 +8,7 @@ use native.Mathlib.Omega.{arith}
 use lib.ListN.{length, get_or, length-map, get_or-map}
 use lib.Dec.{eqb}
 use borrow.Author.Tests.{lt-ltb, le-ltb, eqb-true, not-false}
-use Rattle.answer.specs.Seen.{answered, refused_by, seen_whole}
-use Rattle.answer.specs.declared.Done.{Done}
-use Rattle.answer.specs.declared.Done.TheVariants.{Answered, Refused}
-use Rattle.answer.specs.declared.Whole.{Whole}
+use Rattle.answer.specs.Seen.{answered, refused_by, seen}
 use Rattle.answer.specs.declared.Refusal.{Refusal}
 use Rattle.answer.specs.declared.Refusal.TheVariants.{Lengths, TooMany, NotThere}
 use Rattle.lists.specs.Exact.{◌∈◌}
@@ -28,13 +26,13 @@ use Rattle.clumps_label.proofs.Trees.{planted, all_settled}
 
 -- ---- the cases
 module _ (n : ℕ) (pairs labels : List ℕ) where
-  by_asked : (d : Done) → label_asked n pairs labels ≡ d → label_after n (rows pairs) labels d ≡ label_of n pairs labels
+  by_asked : (d : Result (Unit {0}) Refusal) → label_asked n pairs labels ≡ d → label_after n (rows pairs) labels d ≡ label_of n pairs labels
   unfolding label_of
   by_asked d e = ap (label_after n (rows pairs) labels) (sym e)
 
-  refused_by_lem : (x : Refusal) → label_asked n pairs labels ≡ Refused x → record { shown = refused_by x; labels = labels } ≡ label_of n pairs labels
+  refused_by_lem : (x : Refusal) → label_asked n pairs labels ≡ Err x → record { shown = refused_by x; labels = labels } ≡ label_of n pairs labels
   unfolding label_after
-  refused_by_lem x e = by_asked (Refused x) e
+  refused_by_lem x e = by_asked (Err x) e
 
   pub off : lengths_off n pairs labels ≡ true → record { shown = refused_by Lengths; labels = labels } ≡ label_of n pairs labels
   unfolding label_asked
@@ -57,7 +55,7 @@ module _ (n : ℕ) (pairs labels : List ℕ) where
 
     pub labels_are : n ≤ 16384 → length (rows pairs) ≤ absent_of n (rows pairs) → record { shown = answered (clumps_of n (rows pairs)); labels = labels_of n (rows pairs) } ≡ label_of n pairs labels
     unfolding label_asked label_after
-    labels_are h a = by_asked Answered (simp (e, le-ltb 16384 n h, le-ltb (absent_of n (rows pairs)) (length (rows pairs)) a))
+    labels_are h a = by_asked (Ok tt) (simp (e, le-ltb 16384 n h, le-ltb (absent_of n (rows pairs)) (length (rows pairs)) a))
 
 -- the three passes, one after the other
 module _ (n : ℕ) (l : List (ℕ × ℕ)) (q : List ℕ) (count : ℕ) (q' : List ℕ) (m : Moved (λ f. foldl linked f l) (up_to n) q) (s : Settled q (length q) count q') where
@@ -109,15 +107,15 @@ labelled n l =
           (λ i m. ap (λ (k : ℕ). eqb k i) (sym (label_at n l i (mem_up_to n m))));
     }
 
-clumps_by : (n : ℕ) (l : List (ℕ × ℕ)) (labels : List ℕ) (d : Done) (r : Whole) (labels' : List ℕ) → record { shown = seen_whole r; labels = labels' } ≡ label_after n l labels d → (k : ℕ) → seen_whole r ≡ answered k → Labelled n l k labels'
+clumps_by : (n : ℕ) (l : List (ℕ × ℕ)) (labels : List ℕ) (d : Result (Unit {0}) Refusal) (r : Result ℕ Refusal) (labels' : List ℕ) → record { shown = seen r; labels = labels' } ≡ label_after n l labels d → (k : ℕ) → seen r ≡ answered k → Labelled n l k labels'
 unfolding label_after
-clumps_by n l labels (Refused x) r labels' says k a =
+clumps_by n l labels (Err x) r labels' says k a =
     let h : answered k ≡ refused_by x = sym a ∙ ap (λ (o : Outcome). o.shown) says in impossible (cc)
-clumps_by n l labels Answered r labels' says k a =
+clumps_by n l labels (Ok tt) r labels' says k a =
     let h : answered k ≡ answered (clumps_of n l) = sym a ∙ ap (λ (o : Outcome). o.shown) says in
     let e : k ≡ clumps_of n l = cc in
     rw (e, ap (λ (o : Outcome). o.labels) says) (labelled n l)
 
-pub label_clumps : (count : ℕ) (pairs labels : List ℕ) (r : Whole) (labels' : List ℕ) → LabelSays count pairs labels r labels' → LabelClumps count pairs r labels'
+pub label_clumps : (count : ℕ) (pairs labels : List ℕ) (r : Result ℕ Refusal) (labels' : List ℕ) → LabelSays count pairs labels r labels' → LabelClumps count pairs r labels'
 unfolding label_of
 label_clumps count pairs labels r labels' says = clumps_by count (rows pairs) labels (label_asked count pairs labels) r labels' says

@@ -1,10 +1,9 @@
 -- What `label` answers, and what it leaves in the labels: one outcome from the entry values alone. Definitions only.
+use Rattle.std.specs.Prelude.{Err, Ok, Result}
+use Rattle.answer.specs.declared.Refusal.{Refusal}
 use Rattle.std.specs.Prelude.{ℕ, ◌%◌, min, max, ◌≡◌, Bool, cond, not, ◌||◌, length, eqb, ltb}
 use mathlib.Core.List.{List, map, foldl}
-use Rattle.answer.specs.Seen.{Seen, answered, refused_by, seen_whole}
-use Rattle.answer.specs.declared.Done.{Done}
-use Rattle.answer.specs.declared.Done.TheVariants.{Answered, Refused}
-use Rattle.answer.specs.declared.Whole.{Whole}
+use Rattle.answer.specs.Seen.{Seen, answered, refused_by, seen}
 use Rattle.answer.specs.declared.Refusal.TheVariants.{Lengths, TooMany, NotThere}
 use Rattle.lists.specs.Atoms.{most_atoms}
 use Rattle.lists.specs.Lists.{rows, up_to, how_many}
@@ -39,19 +38,19 @@ unfoldable pub lengths_off : ℕ → List ℕ → List ℕ → Bool
 lengths_off count pairs labels = not (eqb (length pairs % 2) 0) || not (eqb (length labels) count)
 
 -- "Refusals: 1 for lent lengths, 2 past 16,384 atoms, 4 for a pair's atom, place its row"
-unfoldable pub label_asked : ℕ → List ℕ → List ℕ → Done
+unfoldable pub label_asked : ℕ → List ℕ → List ℕ → Result (Unit {0}) Refusal
 label_asked count pairs labels =
-    cond (lengths_off count pairs labels) (Refused Lengths)
-    (cond (ltb most_atoms count) (Refused (TooMany count))
-    (cond (ltb (absent_of count (rows pairs)) (length (rows pairs))) (Refused (NotThere (absent_of count (rows pairs)))) Answered))
+    cond (lengths_off count pairs labels) (Err Lengths)
+    (cond (ltb most_atoms count) (Err (TooMany count))
+    (cond (ltb (absent_of count (rows pairs)) (length (rows pairs))) (Err (NotThere (absent_of count (rows pairs)))) (Ok tt)))
 
 -- "labels untouched"
-unfoldable pub label_after : ℕ → List (ℕ × ℕ) → List ℕ → Done → Outcome
-label_after n l labels (Refused r) = record { shown = refused_by r; labels = labels }
-label_after n l labels Answered = record { shown = answered (clumps_of n l); labels = labels_of n l }
+unfoldable pub label_after : ℕ → List (ℕ × ℕ) → List ℕ → Result (Unit {0}) Refusal → Outcome
+label_after n l labels (Err r) = record { shown = refused_by r; labels = labels }
+label_after n l labels (Ok tt) = record { shown = answered (clumps_of n l); labels = labels_of n l }
 
 unfoldable pub label_of : ℕ → List ℕ → List ℕ → Outcome
 label_of count pairs labels = label_after count (rows pairs) labels (label_asked count pairs labels)
 
-abbrev pub LabelSays : ℕ → List ℕ → List ℕ → Whole → List ℕ → Type 0
-LabelSays count pairs labels r labels' = record { shown = seen_whole r; labels = labels' } ≡ label_of count pairs labels
+abbrev pub LabelSays : ℕ → List ℕ → List ℕ → Result ℕ Refusal → List ℕ → Type 0
+LabelSays count pairs labels r labels' = record { shown = seen r; labels = labels' } ≡ label_of count pairs labels

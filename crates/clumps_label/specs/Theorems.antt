@@ -1,8 +1,9 @@
 -- THEOREM (02, No. 13): "give each atom the lowest atom number it can reach through listed pairs. Two atoms get the same number exactly when a chain of
 -- listed pairs joins them." Of every list of rows, turned round, repeated or of an atom with itself. proofs/Chains.antt proves it. Definitions only.
+use Rattle.std.specs.Prelude.{Result}
+use Rattle.answer.specs.declared.Refusal.{Refusal}
 use Rattle.std.specs.Prelude.{ℕ, ◌≤◌, ◌<◌, ◌≡◌, List, length, get_or, eqb}
-use Rattle.answer.specs.Seen.{answered, seen_whole}
-use Rattle.answer.specs.declared.Whole.{Whole}
+use Rattle.answer.specs.Seen.{answered, seen}
 use Rattle.lists.specs.Exact.{◌∈◌}
 use Rattle.lists.specs.Lists.{rows, up_to, how_many}
 
@@ -27,5 +28,5 @@ pub record Labelled (count : ℕ) (l : List (ℕ × ℕ)) (clumps : ℕ) (labels
   pub clumped : Clumped count l labels
   pub many : clumps ≡ how_many (λ i. eqb (get_or labels i 0) i) (up_to count)
 
-abbrev pub LabelClumps : ℕ → List ℕ → Whole → List ℕ → Type 0
-LabelClumps count pairs r labels' = (k : ℕ) → seen_whole r ≡ answered k → Labelled count (rows pairs) k labels'
+abbrev pub LabelClumps : ℕ → List ℕ → Result ℕ Refusal → List ℕ → Type 0
+LabelClumps count pairs r labels' = (k : ℕ) → seen r ≡ answered k → Labelled count (rows pairs) k labels'

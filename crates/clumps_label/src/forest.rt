@@ -18,10 +18,8 @@ pub(crate) fn plant(p: &mut [u32])
     requires { length p.old ≤ 16384 }
     ensures { p.new ≡ up_to (length p.old) }
 {
-    let mut i: usize = 0;
-    while i < p.len() {
+    for i in 0..p.len() {
         p[i] = i as u32;
-        i += 1;
     }
 }
 
@@ -71,10 +69,8 @@ pub(crate) fn link_all(p: &mut [u32], pairs: &[u32])
     ensures { Moved (λ f. foldl linked f (rows pairs.now)) p.old p.new }
 {
     let m = pairs.len() / 2;
-    let mut k: usize = 0;
-    while k < m {
+    for k in 0..m {
         link(p, pairs[2 * k], pairs[2 * k + 1]);
-        k += 1;
     }
 }
 
@@ -100,10 +96,8 @@ pub(crate) fn settle(p: &mut [u32]) -> usize
     ensures { Settled p.old (length p.old) result p.new }
 {
     let mut count: usize = 0;
-    let mut i: usize = 0;
-    while i < p.len() {
+    for i in 0..p.len() {
         count += settle_at(p, i);
-        i += 1;
     }
     count
 }

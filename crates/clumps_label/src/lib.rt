@@ -6,7 +6,7 @@ mod forest;
 ghost use Rattle.std.specs.Prelude.{◌≡◌};
 ghost use Rattle.clumps_label.specs.Label.{lengths_off, LabelSays};
 
-use answer::{Refusal, Whole};
+use answer::Refusal;
 use ranges::rows::first_absent;
 
 // 1: half a row of pairs, or labels not as many as the atoms.
@@ -18,21 +18,21 @@ fn lengths_off(n: usize, pairs: &[u32], labels: &[u32]) -> bool
 
 // Labels of `count` atoms by a list of pairs, which may be turned round, repeated or of an atom with itself; how many clumps
 // there are. 1, 2, 4 leave the labels as they came.
-pub fn label(count: u32, pairs: &[u32], labels: &mut [u32]) -> Whole
+pub fn label(count: u32, pairs: &[u32], labels: &mut [u32]) -> Result<u64, Refusal>
     ensures { LabelSays count pairs.now labels.old result labels.new }
 {
     let n = count as usize;
     if lengths_off(n, pairs, labels) {
-        return Whole::Refused(Refusal::Lengths);
+        return Err(Refusal::Lengths);
     }
     if 16384 < n {
-        return Whole::Refused(Refusal::TooMany { atoms: n });
+        return Err(Refusal::TooMany { atoms: n });
     }
     let row = first_absent(pairs, n);
     if row < pairs.len() / 2 {
-        return Whole::Refused(Refusal::NotThere { row: row });
+        return Err(Refusal::NotThere { row: row });
     }
     crate::forest::plant(labels);
     crate::forest::link_all(labels, pairs);
-    Whole::Answered(crate::forest::settle(labels) as u64)
+    Ok(crate::forest::settle(labels) as u64)
 }

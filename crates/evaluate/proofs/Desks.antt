@@ -1,4 +1,7 @@
 -- What a row of a desk's own table changes of an evaluation; that it is gone when it is taken out; that an empty own table is none. Assumes nothing.
+use Rattle.std.specs.Prelude.{Err, None, Ok, Option, Result, Some}
+use Rattle.answer.specs.declared.Refusal.{Refusal}
+use Rattle.cell.specs.declared.Lattice.{Lattice}
 use mathlib.Core.Path.{◌≡◌, refl, sym, ap, ◌∙◌}
 use mathlib.Core.Bool.{false}
 use mathlib.Core.List.{List, [], ◌∷◌, ◌++◌}
@@ -8,16 +11,12 @@ use lib.ListN.{length}
 use Rattle.lists.specs.Exact.{◌∈◌}
 use Rattle.lists.specs.Lists.{first_where, rows}
 use Rattle.answer.specs.Seen.{Seen, answered, refused}
-use Rattle.answer.specs.declared.Done.{Done}
-use Rattle.cell.specs.declared.Cell.{Cell}
 use Rattle.potentials_pair.specs.declared.Lj.{Lj}
 use Rattle.potentials_pair.specs.declared.Mixed.{Mixed}
 use Rattle.potentials_pair.specs.Pull.{Total}
 use Rattle.potentials_pair.specs.Species.{Tables, tables, row_in, row_of, look_of}
 use Rattle.potentials_pair.specs.Desks.{with_row, Places}
 use Rattle.potentials_pair.proofs.Desks.{taken_out}
-use Rattle.potentials.specs.declared.LjTerm.{LjTerm}
-use Rattle.potentials.specs.declared.LjTerm.TheVariants as LjTermCases
 use Rattle.potentials.specs.Desks.{has_atom}
 use Rattle.potentials.proofs.Desks.{over_stays}
 use Rattle.neighbor.specs.declared.Question.TheVariants.{Outdated}
@@ -29,7 +28,7 @@ use Rattle.evaluate.specs.Calls.{Job, total_of, after_list, settled_by, after_as
 use Rattle.evaluate.specs.Desks.{with_tables, settled_pairs, house_look, EvaluateStays, EvaluateBack, EvaluateOne}
 
 -- what the terms after Lennard-Jones give: the tables do not enter it
-abbrev others : Terms → Cell → List Float → ℕ → List (ℕ × ℕ) → List Total
+abbrev others : Terms → Option Lattice → List Float → ℕ → List (ℕ × ℕ) → List Total
 others t cell xs room l =
     coulomb_gives t.coulomb t.units.ke_coulomb cell t.charges xs room l
     ++ (bond_gives t.bond cell t.bonds t.lengths t.ks xs room
@@ -61,20 +60,20 @@ module _ (f g : Tables → Lj → ℕ → Mixed) (t u : Tables) (j : Job) (room 
 
 -- ---- a row put into the own table
 module _ (k s : ℕ) (epsilon sigma : Float) (t : Tables) (h : Places k t) where
-  gives_stay : (term : LjTerm) (cell : Cell) (species : List ℕ) (xs : List Float) (room : ℕ) (l : List (ℕ × ℕ)) → ((p : ℕ × ℕ) → p ∈ l → has_atom s species p ≡ false)
+  gives_stay : (term : Option Lj) (cell : Option Lattice) (species : List ℕ) (xs : List Float) (room : ℕ) (l : List (ℕ × ℕ)) → ((p : ℕ × ℕ) → p ∈ l → has_atom s species p ≡ false)
       → lj_gives (look_of (with_row k s epsilon sigma t)) term cell species xs room l ≡ lj_gives (look_of t) term cell species xs room l
   unfolding lj_gives
-  gives_stay LjTermCases.Absent cell species xs room l none = refl
-  gives_stay (LjTermCases.Present lj) cell species xs room l none = ap (λ (x : Total). x ∷ []) (over_stays k s epsilon sigma t h lj cell species xs room l none)
+  gives_stay None cell species xs room l none = refl
+  gives_stay (Some lj) cell species xs room l none = ap (λ (x : Total). x ∷ []) (over_stays k s epsilon sigma t h lj cell species xs room l none)
 
 pub evaluate_stays : (k s : ℕ) (epsilon sigma : Float) (t : Tables) (j : Job) (r : Evaluated) (pairs : List ℕ) (references : List Float) (starts items : List ℕ) (forces : List Float)
     → EvaluateStays k s epsilon sigma t j r pairs references starts items forces
 unfolding evaluated_of after_asked
 evaluate_stays k s epsilon sigma t j r pairs references starts items forces h none a b e =
     e
-    ∙ ap (λ (d : Done). after_asked (with_tables (with_row k s epsilon sigma t) j) d) a
+    ∙ ap (λ (d : Result (Unit {0}) Refusal). after_asked (with_tables (with_row k s epsilon sigma t) j) d) a
     ∙ settled_same look_of look_of (with_row k s epsilon sigma t) t j (length j.forces) (gives_stay k s epsilon sigma t h j.terms.lj j.given.cell j.terms.species j.given.positions (length j.forces) (settled_pairs j) none)
-    ∙ sym (ap (λ (d : Done). after_asked (with_tables t j) d) b)
+    ∙ sym (ap (λ (d : Result (Unit {0}) Refusal). after_asked (with_tables t j) d) b)
 
 pub evaluate_back : (k s : ℕ) (epsilon sigma : Float) (t : Tables) (j : Job) (r : Evaluated) (pairs : List ℕ) (references : List Float) (starts items : List ℕ) (forces : List Float)
     → EvaluateBack k s epsilon sigma t j r pairs references starts items forces

@@ -3,7 +3,7 @@ use Prim.Native.Nat.{ℕ}
 use mathlib.Core.Path.{◌≡◌, sym, ap, ◌∙◌}
 use mathlib.Core.List.{List}
 use lib.Ieee.{Float}
-use Rattle.answer.proofs.Only.{done_only}
+use Rattle.answer.proofs.Only.{seen_only}
 use Rattle.evaluate.specs.declared.Evaluated.{Evaluated}
 use Rattle.evaluate.specs.Calls.{Job, Outcome, shown, EvaluateSays}
 
@@ -14,7 +14,7 @@ module _ (j : Job) (r r' : Evaluated) (pairs pairs' : List ℕ) (references refe
 
   answers : r ≡ r'
   answers =
-      let d = done_only r.done r'.done (ap (λ (o : Outcome). o.list.answer) same) in
+      let d = seen_only r.done r'.done (ap (λ (o : Outcome). o.list.answer) same) in
       λ i. record { done = d i; rebuilt = (same i).list.rebuilt; state = (same i).list.state; sum = (same i).total.sum }
 
   pub evaluate_only : (r ≡ r') × (pairs ≡ pairs') × (references ≡ references') × (starts ≡ starts') × (items ≡ items') × (forces ≡ forces')

@@ -1,4 +1,6 @@
 -- The evaluation by its ways: the list refused, or the terms over it; and that after the tests the kernel's lookup and scratch are the contract's. Assumes nothing.
+use Rattle.std.specs.Prelude.{Err, None, Ok, Option, Result, Some}
+use Rattle.cell.specs.declared.Lattice.{Lattice}
 use Prim.Native.Nat.{ℕ, ◌/◌, ◌%◌, ◌≤◌, min}
 use native.Mathlib.Omega.{arith}
 use mathlib.Core.Path.{◌≡◌, refl, sym, ap, ◌∙◌}
@@ -9,14 +11,11 @@ use lib.Ieee.{Float}
 use lib.ListN.{length, take}
 use lib.Seq.{length-take-le}
 use borrow.Author.Tests.{ltb-false, eqb-true, not-false}
-use Rattle.answer.specs.declared.Done.{Done}
-use Rattle.answer.specs.declared.Done.TheVariants.{Answered, Refused}
 use Rattle.answer.specs.declared.Refusal.{Refusal}
 use Rattle.answer.specs.declared.Refusal.TheVariants.{Lengths, Range}
-use Rattle.answer.specs.Seen.{Seen, answered, refused, seen_done}
+use Rattle.answer.specs.Seen.{Seen, answered, refused, seen}
 use Rattle.lists.specs.Lists.{rows}
 use Rattle.lists.proofs.Cases.{and_both, or_neither}
-use Rattle.cell.specs.declared.Cell.{Cell}
 use Rattle.virial.specs.declared.Sum.{Sum}
 use Rattle.virial.specs.Virial.{zero_sum}
 use Rattle.potentials_pair.specs.declared.Lj.{Lj}
@@ -24,8 +23,6 @@ use Rattle.potentials_pair.specs.declared.Mixed.{Mixed}
 use Rattle.potentials_pair.specs.Pull.{Total, held}
 use Rattle.potentials_pair.specs.Species.{Tables, look_by, look_of, rising}
 use Rattle.potentials_pair.proofs.Lookup.{looks_all}
-use Rattle.potentials.specs.declared.LjTerm.{LjTerm}
-use Rattle.potentials.specs.declared.LjTerm.TheVariants.{Absent, Present}
 use Rattle.potentials.specs.Terms.{lj_over}
 use Rattle.potentials.proofs.Outcomes.{order_told}
 use Rattle.neighbor.specs.declared.Question.TheVariants.{Outdated}
@@ -46,12 +43,12 @@ use Rattle.evaluate.specs.Steps.{scratch_length, settled_in, evaluated_from, tot
 pub part_of : (m : ℕ) {n : ℕ} (room : List Float) → n ≡ min m scratch_length → length room ≡ scratch_length → length (take n room) ≡ min m scratch_length
 part_of m {n} room e l = length-take-le n room (omega arith) ∙ e
 
-module _ (t : Terms) (cell : Cell) (xs : List Float) (pairs : List ℕ) (forces : List Float) {d : Done} (s : State) where
-  pub total_refused : {why : Refusal} → d ≡ Refused why → {z : Sum} → z ≡ zero_sum → held z forces ≡ total_after t cell xs pairs forces d s
+module _ (t : Terms) (cell : Option Lattice) (xs : List Float) (pairs : List ℕ) (forces : List Float) {d : Result (Unit {0}) Refusal} (s : State) where
+  pub total_refused : {why : Refusal} → d ≡ Err why → {z : Sum} → z ≡ zero_sum → held z forces ≡ total_after t cell xs pairs forces d s
   unfolding total_after
   total_refused h e = rw (h, e)
 
-  pub total_on : d ≡ Answered → {part : List ℕ} → part ≡ listed_of s pairs → {r : Total}
+  pub total_on : d ≡ Ok tt → {part : List ℕ} → part ≡ listed_of s pairs → {r : Total}
       → r ≡ merged_all (length forces) (contributions look_by t cell xs (min (length forces) scratch_length) (rows part)) → r ≡ total_after t cell xs pairs forces d s
   unfolding total_after
   total_on h p e = rw (h, ← p) e
@@ -63,11 +60,11 @@ after_made {r} {u} {sum} {forces} q e =
     (ap (λ (x : Sum). held x forces) s ∙ e, q ∙ ap (evaluated_from u) (sym s))
 
 module _ (j : Job) where
-  after_is : (d : Done) (o : Update.Outcome) → record { list = o; total = total_after j.terms j.given.cell j.given.positions o.pairs j.forces d o.state }
-      ≡ after_list look_by (min (length j.forces) scratch_length) j (seen_done d) o
+  after_is : (d : Result (Unit {0}) Refusal) (o : Update.Outcome) → record { list = o; total = total_after j.terms j.given.cell j.given.positions o.pairs j.forces d o.state }
+      ≡ after_list look_by (min (length j.forces) scratch_length) j (seen d) o
   unfolding total_after after_list total_of
-  after_is Answered o = refl
-  after_is (Refused r) o = refl
+  after_is (Ok tt) o = refl
+  after_is (Err r) o = refl
 
   pub settled_by_lem : {u : Updated} {pairs : List ℕ} {references : List Float} {starts items : List ℕ} → Update.shown u pairs references starts items ≡ update_of Outdated j.given
       → {r : Evaluated} {forces : List Float} → held r.sum forces ≡ total_after j.terms j.given.cell j.given.positions pairs j.forces u.done u.state
@@ -77,7 +74,7 @@ module _ (j : Job) where
       (λ k. record {
         list =
             record {
-              answer = seen_done (q k).done;
+              answer = seen (q k).done;
               rebuilt = (q k).rebuilt;
               state = (q k).state;
               pairs = pairs;
@@ -91,12 +88,12 @@ module _ (j : Job) where
       ∙ ap (λ (o : Update.Outcome). after_list look_by (min (length j.forces) scratch_length) j o.answer o) e
 
 -- ---- what passed tests show
-module _ (fits : Bool) (first : Done) (ok : Bool) (kept names : Done) (e : in_turn fits first ok kept names ≡ Answered) where
+module _ (fits : Bool) (first : Result (Unit {0}) Refusal) (ok : Bool) (kept names : Result (Unit {0}) Refusal) (e : in_turn fits first ok kept names ≡ Ok tt) where
   turn_fits : fits ≡ true
   unfolding in_turn
   turn_fits = passed fits Lengths (both_passed _ _ e).0
 
-  turn_first : first ≡ Answered
+  turn_first : first ≡ Ok tt
   unfolding in_turn
   turn_first = (both_passed first _ (both_passed _ _ e).1).0
 
@@ -104,11 +101,11 @@ module _ (fits : Bool) (first : Done) (ok : Bool) (kept names : Done) (e : in_tu
   unfolding in_turn
   turn_inside = passed ok Range (both_passed _ _ (both_passed first _ (both_passed _ _ e).1).1).0
 
-  turn_names : names ≡ Answered
+  turn_names : names ≡ Ok tt
   unfolding in_turn
   turn_names = (both_passed kept names (both_passed _ _ (both_passed first _ (both_passed _ _ e).1).1).1).1
 
-names_rising : (n : ℕ) (bonds angles table own_ids ids : List ℕ) → names_asked n bonds angles table own_ids ids ≡ Answered → (rising own_ids ≡ true) × (rising ids ≡ true)
+names_rising : (n : ℕ) (bonds angles table own_ids ids : List ℕ) → names_asked n bonds angles table own_ids ids ≡ Ok tt → (rising own_ids ≡ true) × (rising ids ≡ true)
 unfolding names_asked
 names_rising n bonds angles table own_ids ids e =
     order_told own_ids ids (both_passed (table_asked table) _ (both_passed (angles_named n angles) _ (both_passed (bond_rows_asked n bonds) _ e).1).1).1
@@ -118,7 +115,7 @@ unfolding terms_fit
 fit_forces tables species charges bonds angles per xs forces e =
     eqb-true forces xs (and_both (tables && eqb species (xs / 3) && eqb charges (xs / 3) && eqb (bonds % 2) 0 && eqb (angles % 3) 0 && eqb (per % 2) 0) (eqb forces xs) e).1
 
-first_room : (s : State) (cell : Cell) (xs : List Float) (table pairs refs items : ℕ) → first_of s cell xs table pairs refs items ≡ Answered → (length xs % 3 ≡ 0) × (length xs ≤ 49152)
+first_room : (s : State) (cell : Option Lattice) (xs : List Float) (table pairs refs items : ℕ) → first_of s cell xs table pairs refs items ≡ Ok tt → (length xs % 3 ≡ 0) × (length xs ≤ 49152)
 first_room s cell xs table pairs refs items e =
     let f = first_told s cell xs table pairs refs items e in
     let m : length xs / 3 ≤ 16384 = ltb-false 16384 (length xs / 3) f.1 in
@@ -127,7 +124,7 @@ first_room s cell xs table pairs refs items e =
     (z, omega arith)
 
 -- what an evaluation, or a step, that passed its tests may count on
-module _ (fits in_range : Bool) (t : Terms) (g : Given) (forces : ℕ) (e : job_asked fits in_range t g forces ≡ Answered) where
+module _ (fits in_range : Bool) (t : Terms) (g : Given) (forces : ℕ) (e : job_asked fits in_range t g forces ≡ Ok tt) where
   pub asked_rising : (rising t.tables.own_ids ≡ true) × (rising t.tables.ids ≡ true)
   unfolding job_asked
   asked_rising = names_rising _ _ _ _ _ _ (turn_names _ _ _ _ _ e)
@@ -154,11 +151,11 @@ module _ (fits in_range : Bool) (t : Terms) (g : Given) (forces : ℕ) (e : job_
   asked_inside = (and_both in_range _ (turn_inside _ _ _ _ _ e)).0
 
 -- ---- the lookup by halving is the one by membership
-lj_looked : (tab : Tables) → (rising tab.own_ids ≡ true) × (rising tab.ids ≡ true) → (t : LjTerm) (cell : Cell) (species : List ℕ) (xs : List Float) (room : ℕ) (l : List (ℕ × ℕ))
+lj_looked : (tab : Tables) → (rising tab.own_ids ≡ true) × (rising tab.ids ≡ true) → (t : Option Lj) (cell : Option Lattice) (species : List ℕ) (xs : List Float) (room : ℕ) (l : List (ℕ × ℕ))
     → lj_gives (look_by tab) t cell species xs room l ≡ lj_gives (look_of tab) t cell species xs room l
 unfolding lj_gives
-lj_looked tab h Absent cell species xs room l = refl
-lj_looked tab h (Present lj) cell species xs room l = ap (λ (look : ℕ → Mixed). lj_over look lj cell species xs room l ∷ []) (looks_all tab h.0 h.1 lj)
+lj_looked tab h None cell species xs room l = refl
+lj_looked tab h (Some lj) cell species xs room l = ap (λ (look : ℕ → Mixed). lj_over look lj cell species xs room l ∷ []) (looks_all tab h.0 h.1 lj)
 
 module _ (j : Job) (h : (rising j.terms.tables.own_ids ≡ true) × (rising j.terms.tables.ids ≡ true)) (room : ℕ) (o : Update.Outcome) where
   total_looked : total_of look_by room j o ≡ total_of look_of room j o
@@ -198,13 +195,13 @@ module _ (look : Tables → Lj → ℕ → Mixed) (room : ℕ) (j : Job) where
   settled_length = after_length _ _
 
 -- ---- the call
-module _ (j : Job) {d : Done} (is : d ≡ job_asked true true j.terms j.given (length j.forces)) where
-  pub evaluated_refused : {why : Refusal} → d ≡ Refused why → {r : Evaluated} → r ≡ record { done = Refused why; rebuilt = false; state = j.given.state; sum = zero_sum }
+module _ (j : Job) {d : Result (Unit {0}) Refusal} (is : d ≡ job_asked true true j.terms j.given (length j.forces)) where
+  pub evaluated_refused : {why : Refusal} → d ≡ Err why → {r : Evaluated} → r ≡ record { done = Err why; rebuilt = false; state = j.given.state; sum = zero_sum }
       → shown r j.given.pairs j.given.references j.given.starts j.given.items j.forces ≡ evaluated_of j
   unfolding evaluated_of after_asked
   evaluated_refused h q = rw (← is, h, q)
 
-  pub evaluated_on : d ≡ Answered → {o : Outcome} → o ≡ settled_in j → o ≡ evaluated_of j
+  pub evaluated_on : d ≡ Ok tt → {o : Outcome} → o ≡ settled_in j → o ≡ evaluated_of j
   unfolding evaluated_of after_asked
   evaluated_on h q =
       let a = sym is ∙ h in

@@ -1,22 +1,18 @@
 -- What is asked before an evaluation: refusals 1, 2, 6, 3, 4, 5, in this order, of everything lent, also of tables whose term is absent. Definitions only.
+use Rattle.std.specs.Prelude.{Err, None, Ok, Option, Result, Some}
+use Rattle.answer.specs.declared.Refusal.{Refusal}
+use Rattle.potentials.specs.declared.Bond.{Bond}
+use Rattle.potentials.specs.declared.coulomb.Coulomb.{Coulomb}
+use Rattle.potentials_angle.specs.declared.Angle.{Angle}
+use Rattle.potentials_pair.specs.declared.Lj.{Lj}
 use Rattle.std.specs.Prelude.{ℕ, ◌/◌, ◌%◌, Bool, true, cond, ◌&&◌, List, eqb, ltb, Float, length}
 use Rattle.lists.specs.Atoms.{atoms_of}
-use Rattle.answer.specs.declared.Done.{Done}
-use Rattle.answer.specs.declared.Done.TheVariants.{Answered, Refused}
 use Rattle.answer.specs.declared.Refusal.TheVariants.{Lengths, Range, NotThere}
 use Rattle.lists.specs.Lists.{every, rows}
 use Rattle.ranges.specs.Rows.{absent_of}
 use Rattle.virial.specs.declared.Units.{Units}
 use Rattle.virial.specs.Ranged.{units_in_range}
 use Rattle.potentials.specs.Calls.{tables_fit, order_asked}
-use Rattle.potentials.specs.declared.LjTerm as LjTerm
-use Rattle.potentials.specs.declared.LjTerm.TheVariants as LjTermCases
-use Rattle.potentials.specs.declared.CoulombTerm as CoulombTerm
-use Rattle.potentials.specs.declared.CoulombTerm.TheVariants as CoulombTermCases
-use Rattle.potentials.specs.declared.BondTerm as BondTerm
-use Rattle.potentials.specs.declared.BondTerm.TheVariants as BondTermCases
-use Rattle.potentials_angle.specs.declared.AngleTerm as AngleTerm
-use Rattle.potentials_angle.specs.declared.AngleTerm.TheVariants as AngleTermCases
 use Rattle.potentials_angle.specs.Ranged.{angle_in_range, per_angle_in_range}
 use Rattle.potentials_angle.specs.Rows.{missing_of}
 use Rattle.potentials.specs.Ranged.{coordinate, cutoff_ok, charge, rows_in_range, lj_in_range, bond_in_range}
@@ -31,47 +27,47 @@ terms_fit tables species charges bonds angles per_angle xs forces =
     && eqb forces xs
 
 -- 3 of the present terms' numbers
-unfoldable pub lj_ok : LjTerm.LjTerm → Bool
-lj_ok LjTermCases.Absent = true
-lj_ok (LjTermCases.Present lj) = lj_in_range lj
+unfoldable pub lj_ok : Option Lj → Bool
+lj_ok None = true
+lj_ok (Some lj) = lj_in_range lj
 
-unfoldable pub coulomb_ok : CoulombTerm.CoulombTerm → Bool
-coulomb_ok CoulombTermCases.Absent = true
-coulomb_ok (CoulombTermCases.Present cutoff) = cutoff_ok cutoff
+unfoldable pub coulomb_ok : Option Coulomb → Bool
+coulomb_ok None = true
+coulomb_ok (Some coulomb) = cutoff_ok coulomb.cutoff
 
-unfoldable pub bond_ok : BondTerm.BondTerm → Bool
-bond_ok BondTermCases.Absent = true
-bond_ok (BondTermCases.Present bond) = bond_in_range bond
+unfoldable pub bond_ok : Option Bond → Bool
+bond_ok None = true
+bond_ok (Some bond) = bond_in_range bond
 
-unfoldable pub angle_ok : AngleTerm.AngleTerm → Bool
-angle_ok AngleTermCases.Absent = true
-angle_ok (AngleTermCases.Present angle) = angle_in_range angle
+unfoldable pub angle_ok : Option Angle → Bool
+angle_ok None = true
+angle_ok (Some angle) = angle_in_range angle
 
 -- 3 of the terms and of their tables
-unfoldable pub numbers_ok : LjTerm.LjTerm → CoulombTerm.CoulombTerm → BondTerm.BondTerm → AngleTerm.AngleTerm → Units → (own_params params charges lengths ks per_angle : List Float) → Bool
+unfoldable pub numbers_ok : Option Lj → Option Coulomb → Option Bond → Option Angle → Units → (own_params params charges lengths ks per_angle : List Float) → Bool
 numbers_ok lj coulomb bond angle units own_params params charges lengths ks per_angle =
     lj_ok lj && coulomb_ok coulomb && bond_ok bond && angle_ok angle && units_in_range units
     && rows_in_range own_params params && every charge charges && every coordinate lengths && every coordinate ks && per_angle_in_range per_angle
 
 -- 4: "a pair, then a bond, names an atom not there"
-unfoldable pub bond_rows_asked : ℕ → List ℕ → Done
-bond_rows_asked n bonds = cond (ltb (absent_of n (rows bonds)) (length bonds / 2)) (Refused (NotThere (absent_of n (rows bonds)))) Answered
+unfoldable pub bond_rows_asked : ℕ → List ℕ → Result (Unit {0}) Refusal
+bond_rows_asked n bonds = cond (ltb (absent_of n (rows bonds)) (length bonds / 2)) (Err (NotThere (absent_of n (rows bonds)))) (Ok tt)
 
 -- 4 of an angle, "after bonds"
-unfoldable pub angles_named : ℕ → List ℕ → Done
-angles_named n angles = cond (ltb (missing_of n angles) (length angles / 3)) (Refused (NotThere (missing_of n angles))) Answered
+unfoldable pub angles_named : ℕ → List ℕ → Result (Unit {0}) Refusal
+angles_named n angles = cond (ltb (missing_of n angles) (length angles / 3)) (Err (NotThere (missing_of n angles))) (Ok tt)
 
 -- a bond's 4, then an angle's, then 5 of the exclusions, then 5 of the desk's own species, then of the house's
-unfoldable pub names_asked : ℕ → (bonds angles table own_ids ids : List ℕ) → Done
+unfoldable pub names_asked : ℕ → (bonds angles table own_ids ids : List ℕ) → Result (Unit {0}) Refusal
 names_asked n bonds angles table own_ids ids = first_refusal (bond_rows_asked n bonds) (first_refusal (angles_named n angles) (first_refusal (table_asked table) (order_asked own_ids ids)))
 
 -- one test after the other: 1, then the list's 1, 2, 6, 3, then 3, then 3 and 4 of the old list, then what is asked of names
-unfoldable pub in_turn : (fits : Bool) (first : Done) (in_range : Bool) (kept names : Done) → Done
+unfoldable pub in_turn : (fits : Bool) (first : Result (Unit {0}) Refusal) (in_range : Bool) (kept names : Result (Unit {0}) Refusal) → Result (Unit {0}) Refusal
 in_turn fits first in_range kept names =
-    first_refusal (cond fits Answered (Refused Lengths)) (first_refusal first (first_refusal (cond in_range Answered (Refused Range)) (first_refusal kept names)))
+    first_refusal (cond fits (Ok tt) (Err Lengths)) (first_refusal first (first_refusal (cond in_range (Ok tt) (Err Range)) (first_refusal kept names)))
 
 -- The tests. `fits` and `inRange` are what a step asks besides, at 1 and at 3; an evaluation asks nothing besides
-unfoldable pub job_asked : (fits in_range : Bool) → Terms → Given → (forces : ℕ) → Done
+unfoldable pub job_asked : (fits in_range : Bool) → Terms → Given → (forces : ℕ) → Result (Unit {0}) Refusal
 job_asked fits in_range t g forces =
     in_turn
     (fits && terms_fit (tables_fit (length t.tables.own_ids) (length t.tables.own_params) (length t.tables.ids) (length t.tables.params)) (length t.species) (length t.charges) (length t.bonds) (length t.angles) (length t.per_angle) (length g.positions) forces)

@@ -1,9 +1,9 @@
 -- What an evaluation answers and leaves in everything lent: one outcome, made from the entry values alone. Definitions only.
+use Rattle.std.specs.Prelude.{Err, None, Ok, Result, Some}
+use Rattle.answer.specs.declared.Refusal.{Refusal}
 use Rattle.std.specs.Prelude.{ℕ, ◌≡◌, Bool, true, false, List, Float, length}
 use Rattle.evaluate.specs.Asked.{job_asked}
-use Rattle.answer.specs.declared.Done.{Done}
-use Rattle.answer.specs.declared.Done.TheVariants as DoneCases
-use Rattle.answer.specs.Seen.{Seen, answered, refused, seen_done}
+use Rattle.answer.specs.Seen.{Seen, answered, refused, seen}
 use Rattle.lists.specs.Lists.{rows}
 use Rattle.virial.specs.Virial.{zero_sum}
 use Rattle.potentials_pair.specs.declared.Lj.{Lj}
@@ -35,7 +35,7 @@ job_of setting s tab species charges bonds lengths ks angles per_angle positions
     job (terms setting tab species charges bonds lengths ks angles per_angle) (given s setting.cell positions exclusions pairs references starts items) forces
 
 -- its tests, with what a step asks besides
-abbrev pub asked_of : (fits in_range : Bool) → Job → Done
+abbrev pub asked_of : (fits in_range : Bool) → Job → Result (Unit {0}) Refusal
 asked_of fits in_range j = job_asked fits in_range j.terms j.given (length j.forces)
 
 -- the list's outcome (answer, rebuilt, state, pairs, references, starts, items), and the sum with the forces
@@ -64,9 +64,9 @@ settled_by look room j = after_list look room j (update_of Outdated j.given).ans
 abbrev pub settled_of : Job → Outcome
 settled_of j = settled_by look_of (length j.forces) j
 
-unfoldable pub after_asked : Job → Done → Outcome
-after_asked j (DoneCases.Refused r) = without j (stays j.given r)
-after_asked j DoneCases.Answered = settled_of j
+unfoldable pub after_asked : Job → Result (Unit {0}) Refusal → Outcome
+after_asked j (Err r) = without j (stays j.given r)
+after_asked j (Ok tt) = settled_of j
 
 unfoldable pub evaluated_of : Job → Outcome
 evaluated_of j = after_asked j (asked_of true true j)
@@ -76,7 +76,7 @@ shown r pairs references starts items forces =
     record {
       list =
           record {
-            answer = seen_done r.done;
+            answer = seen r.done;
             rebuilt = r.rebuilt;
             state = r.state;
             pairs = pairs;
@@ -97,4 +97,4 @@ EvaluateLists j r pairs = r.rebuilt ≡ true → Listed j.given r.state pairs
 
 -- 02, No. 6, of an evaluation that kept the list: the cell is, bit for bit, the one that it was built in. It follows from what the call says (proofs/Box.antt).
 abbrev pub EvaluateKeeps : Job → Evaluated → Type 0
-EvaluateKeeps j r = r.done ≡ DoneCases.Answered → r.rebuilt ≡ false → SameBits j.given.state.built_in j.given.cell
+EvaluateKeeps j r = r.done ≡ Ok tt → r.rebuilt ≡ false → SameBits j.given.state.built_in j.given.cell

@@ -1,8 +1,8 @@
 -- THEOREMS (02, No. 7) about `evaluate`, whose Lennard-Jones term reads a desk's own table and the house's. proofs/Desks.antt proves each of every input. Definitions only.
+use Rattle.std.specs.Prelude.{Ok}
 use Rattle.std.specs.Prelude.{◌≡◌, true, false, List, [], ℕ, Float, length}
 use Rattle.lists.specs.Exact.{◌∈◌}
 use Rattle.lists.specs.Lists.{rows}
-use Rattle.answer.specs.declared.Done.TheVariants.{Answered}
 use Rattle.potentials_pair.specs.declared.Lj.{Lj}
 use Rattle.potentials_pair.specs.declared.Mixed.{Mixed}
 use Rattle.potentials_pair.specs.Species.{Tables, tables, row_in, numbers_in}
@@ -45,7 +45,7 @@ settled_pairs j = rows (listed_of (update_of Outdated j.given).state (update_of 
 abbrev pub EvaluateStays : ℕ → (s : ℕ) (epsilon sigma : Float) (t : Tables) → Job → Evaluated → (pairs : List ℕ) → (references : List Float) → (starts items : List ℕ) → (forces : List Float) → Type 0
 EvaluateStays k s epsilon sigma t j r pairs references starts items forces =
     Places k t → ((p : ℕ × ℕ) → p ∈ settled_pairs j → has_atom s j.terms.species p ≡ false)
-    → asked_of true true (with_tables (with_row k s epsilon sigma t) j) ≡ Answered → asked_of true true (with_tables t j) ≡ Answered
+    → asked_of true true (with_tables (with_row k s epsilon sigma t) j) ≡ Ok tt → asked_of true true (with_tables t j) ≡ Ok tt
     → EvaluateSays (with_tables (with_row k s epsilon sigma t) j) r pairs references starts items forces → EvaluateSays (with_tables t j) r pairs references starts items forces
 
 -- "taken out again"

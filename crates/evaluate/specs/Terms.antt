@@ -1,31 +1,27 @@
 -- The evaluator's terms (01, "Forces and steps": "each present result is merged in that order into zero"): what each gives, and the fold of that. Definitions only.
+use Rattle.std.specs.Prelude.{Err, None, Ok, Option, Some}
+use Rattle.cell.specs.declared.Lattice.{Lattice}
+use Rattle.potentials.specs.declared.Bond.{Bond}
+use Rattle.potentials.specs.declared.coulomb.Coulomb.{Coulomb}
+use Rattle.potentials_angle.specs.declared.Angle.{Angle}
 use mathlib.Core.List.{List, [], ◌∷◌, ◌++◌, foldl}
 use Rattle.std.specs.Prelude.{ℕ, Float}
-use Rattle.cell.specs.declared.Cell.{Cell}
 use Rattle.virial.specs.declared.Units.{Units}
 use Rattle.virial.specs.Virial.{merged_sum, merged_forces}
 use Rattle.potentials_pair.specs.declared.Lj.{Lj}
 use Rattle.potentials_pair.specs.declared.Mixed.{Mixed}
 use Rattle.potentials_pair.specs.Pull.{Total}
 use Rattle.potentials_pair.specs.Species.{Tables}
-use Rattle.potentials.specs.declared.LjTerm as LjTerm
-use Rattle.potentials.specs.declared.LjTerm.TheVariants as LjTermCases
-use Rattle.potentials.specs.declared.CoulombTerm as CoulombTerm
-use Rattle.potentials.specs.declared.CoulombTerm.TheVariants as CoulombTermCases
-use Rattle.potentials.specs.declared.BondTerm as BondTerm
-use Rattle.potentials.specs.declared.BondTerm.TheVariants as BondTermCases
-use Rattle.potentials_angle.specs.declared.AngleTerm as AngleTerm
-use Rattle.potentials_angle.specs.declared.AngleTerm.TheVariants as AngleTermCases
 use Rattle.potentials_angle.specs.Terms.{angles_over}
 use Rattle.potentials.specs.Terms.{zero_total, lj_over, coulomb_over, bonds_over}
 use Rattle.evaluate.specs.declared.Setting.{Setting}
 
 -- the terms, "either absent or present with its numbers", and the tables that they read; `lengths` is the Rust's per_bond, `ks` its per_bond_k
 pub record Terms : Type 0 where
-  pub lj : LjTerm.LjTerm
-  pub coulomb : CoulombTerm.CoulombTerm
-  pub bond : BondTerm.BondTerm
-  pub angle : AngleTerm.AngleTerm
+  pub lj : Option Lj
+  pub coulomb : Option Coulomb
+  pub bond : Option Bond
+  pub angle : Option Angle
   pub units : Units
   pub tables : Tables
   pub species : List ℕ
@@ -58,24 +54,24 @@ terms setting tab species charges bonds lengths ks angles per_angle =
 -- ---- what a term gives over pairs l: one contribution from zero, with so many floats, where it is present; none where it is absent
 
 -- `look` gives a species' epsilon and sigma
-unfoldable pub lj_gives : (look : Lj → ℕ → Mixed) → LjTerm.LjTerm → Cell → (species : List ℕ) → (xs : List Float) → (room : ℕ) → List (ℕ × ℕ) → List Total
-lj_gives look LjTermCases.Absent cell species xs room l = []
-lj_gives look (LjTermCases.Present lj) cell species xs room l = lj_over (look lj) lj cell species xs room l ∷ []
+unfoldable pub lj_gives : (look : Lj → ℕ → Mixed) → Option Lj → Option Lattice → (species : List ℕ) → (xs : List Float) → (room : ℕ) → List (ℕ × ℕ) → List Total
+lj_gives look None cell species xs room l = []
+lj_gives look (Some lj) cell species xs room l = lj_over (look lj) lj cell species xs room l ∷ []
 
-unfoldable pub coulomb_gives : CoulombTerm.CoulombTerm → (ke : Float) → Cell → (charges xs : List Float) → (room : ℕ) → List (ℕ × ℕ) → List Total
-coulomb_gives CoulombTermCases.Absent ke cell charges xs room l = []
-coulomb_gives (CoulombTermCases.Present cutoff) ke cell charges xs room l = coulomb_over ke cutoff cell charges xs room l ∷ []
+unfoldable pub coulomb_gives : Option Coulomb → (ke : Float) → Option Lattice → (charges xs : List Float) → (room : ℕ) → List (ℕ × ℕ) → List Total
+coulomb_gives None ke cell charges xs room l = []
+coulomb_gives (Some coulomb) ke cell charges xs room l = coulomb_over ke coulomb.cutoff cell charges xs room l ∷ []
 
-unfoldable pub bond_gives : BondTerm.BondTerm → Cell → (bonds : List ℕ) → (lengths ks xs : List Float) → (room : ℕ) → List Total
-bond_gives BondTermCases.Absent cell bonds lengths ks xs room = []
-bond_gives (BondTermCases.Present bond) cell bonds lengths ks xs room = bonds_over bond cell bonds lengths ks xs room ∷ []
+unfoldable pub bond_gives : Option Bond → Option Lattice → (bonds : List ℕ) → (lengths ks xs : List Float) → (room : ℕ) → List Total
+bond_gives None cell bonds lengths ks xs room = []
+bond_gives (Some bond) cell bonds lengths ks xs room = bonds_over bond cell bonds lengths ks xs room ∷ []
 
-unfoldable pub angle_gives : AngleTerm.AngleTerm → Cell → (angles : List ℕ) → (per_angle xs : List Float) → (room : ℕ) → List Total
-angle_gives AngleTermCases.Absent cell angles per_angle xs room = []
-angle_gives (AngleTermCases.Present angle) cell angles per_angle xs room = angles_over angle cell angles per_angle xs room ∷ []
+unfoldable pub angle_gives : Option Angle → Option Lattice → (angles : List ℕ) → (per_angle xs : List Float) → (room : ℕ) → List Total
+angle_gives None cell angles per_angle xs room = []
+angle_gives (Some angle) cell angles per_angle xs room = angles_over angle cell angles per_angle xs room ∷ []
 
 -- "The evaluator (added) runs Lennard-Jones, Coulomb, bonds"; 02, No. 1: angles "after bonds"
-unfoldable pub contributions : (look : Tables → Lj → ℕ → Mixed) → Terms → Cell → (xs : List Float) → (room : ℕ) → List (ℕ × ℕ) → List Total
+unfoldable pub contributions : (look : Tables → Lj → ℕ → Mixed) → Terms → Option Lattice → (xs : List Float) → (room : ℕ) → List (ℕ × ℕ) → List Total
 contributions look t cell xs room l =
     lj_gives (look t.tables) t.lj cell t.species xs room l
     ++ (coulomb_gives t.coulomb t.units.ke_coulomb cell t.charges xs room l

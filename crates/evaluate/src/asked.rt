@@ -7,10 +7,12 @@ ghost use Rattle.evaluate.specs.Asked.{terms_fit, lj_ok, coulomb_ok, bond_ok, an
 ghost use Rattle.evaluate.specs.Calls.{job_of, asked_of};
 
 use crate::Setting;
-use answer::{Done, Refusal};
+use answer::Refusal;
 use neighbor::State;
-use potentials::{BondTerm, CoulombTerm, LjTerm, ranged};
-use potentials_angle::AngleTerm;
+use potentials::coulomb::Coulomb;
+use potentials::{Bond, ranged};
+use potentials_angle::Angle;
+use potentials_pair::Lj;
 
 fn terms_fit(
     tables: bool,
@@ -33,39 +35,39 @@ fn terms_fit(
         & (forces == xs)
 }
 
-fn lj_ok(lj: LjTerm) -> bool
+fn lj_ok(lj: Option<Lj>) -> bool
     ensures { result ≡ lj_ok lj }
 {
     match lj {
-        LjTerm::Absent => true,
-        LjTerm::Present(t) => ranged::lj_in_range(t),
+        None => true,
+        Some(t) => ranged::lj_in_range(t),
     }
 }
 
-fn coulomb_ok(coulomb: CoulombTerm) -> bool
+fn coulomb_ok(coulomb: Option<Coulomb>) -> bool
     ensures { result ≡ coulomb_ok coulomb }
 {
     match coulomb {
-        CoulombTerm::Absent => true,
-        CoulombTerm::Present { cutoff } => ranged::cutoff_in_range(cutoff),
+        None => true,
+        Some(t) => ranged::cutoff_in_range(t.cutoff),
     }
 }
 
-fn bond_ok(bond: BondTerm) -> bool
+fn bond_ok(bond: Option<Bond>) -> bool
     ensures { result ≡ bond_ok bond }
 {
     match bond {
-        BondTerm::Absent => true,
-        BondTerm::Present(t) => ranged::bond_in_range(t),
+        None => true,
+        Some(t) => ranged::bond_in_range(t),
     }
 }
 
-fn angle_ok(angle: AngleTerm) -> bool
+fn angle_ok(angle: Option<Angle>) -> bool
     ensures { result ≡ angle_ok angle }
 {
     match angle {
-        AngleTerm::Absent => true,
-        AngleTerm::Present(t) => potentials_angle::ranged::angle_in_range(t),
+        None => true,
+        Some(t) => potentials_angle::ranged::angle_in_range(t),
     }
 }
 
@@ -98,25 +100,25 @@ fn numbers_ok(
 }
 
 // Refusal 4 of a bond.
-fn asked_bonds(n: usize, bonds: &[u32]) -> Done
+fn asked_bonds(n: usize, bonds: &[u32]) -> Result<(), Refusal>
     ensures { result ≡ bond_rows_asked n bonds.now }
 {
     let row = ranges::rows::first_absent(bonds, n);
     if row < bonds.len() / 2 {
-        return Done::Refused(Refusal::NotThere { row: row });
+        return Err(Refusal::NotThere { row: row });
     }
-    Done::Answered
+    Ok(())
 }
 
 // Refusal 4 of an angle.
-fn asked_angles(n: usize, angles: &[u32]) -> Done
+fn asked_angles(n: usize, angles: &[u32]) -> Result<(), Refusal>
     ensures { result ≡ angles_named n angles.now }
 {
     let row = potentials_angle::rows::first_missing(angles, n);
     if row < angles.len() / 3 {
-        return Done::Refused(Refusal::NotThere { row: row });
+        return Err(Refusal::NotThere { row: row });
     }
-    Done::Answered
+    Ok(())
 }
 
 // A bond's 4, an angle's; 5 of the exclusions, of the desk's own species, of the house's.
@@ -127,7 +129,7 @@ fn asked_names(
     table: &[u32],
     own_ids: &[u32],
     ids: &[u32],
-) -> Done
+) -> Result<(), Refusal>
     ensures { result ≡ names_asked n bonds.now angles.now table.now own_ids.now ids.now }
 {
     let a = asked_bonds(n, bonds);
@@ -137,16 +139,24 @@ fn asked_names(
     neighbor_asked::asked::names_in_turn(a, b, c, d)
 }
 
-fn in_turn(fits: bool, first: Done, ok: bool, kept: Done, names: Done) -> Done
+fn in_turn(
+    fits: bool,
+    first: Result<(), Refusal>,
+    ok: bool,
+    kept: Result<(), Refusal>,
+    names: Result<(), Refusal>,
+) -> Result<(), Refusal>
     ensures { result ≡ in_turn fits first ok kept names }
 {
     if !fits {
-        return Done::Refused(Refusal::Lengths);
+        return Err(Refusal::Lengths);
     }
+    first?;
     if !ok {
-        return neighbor_asked::asked::and_then(first, Done::Refused(Refusal::Range));
+        return Err(Refusal::Range);
     }
-    neighbor_asked::asked::and_then(first, neighbor_asked::asked::and_then(kept, names))
+    kept?;
+    names
 }
 
 // Refusals 1, 2, 6, 3, 4, 5. `fits` and `inside` are what a step asks besides at 1 and at 3.
@@ -173,7 +183,7 @@ pub fn asked(
     starts: &[u32],
     items: &[u32],
     forces: &[f64],
-) -> Done
+) -> Result<(), Refusal>
     ensures { result ≡ asked_of fits inside (job_of setting s (tables own_ids.now own_params.now ids.now params.now) species.now charges.now bonds.now lengths.now ks.now angles.now per_angle.now positions.now exclusions.now pairs.now references.now starts.now items.now forces.now) }
 {
     let cell = setting.cell;

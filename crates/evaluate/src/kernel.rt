@@ -7,7 +7,6 @@ ghost use Rattle.evaluate.specs.Calls.{job_of};
 ghost use Rattle.evaluate.specs.Steps.{scratch_length, terms_over, evaluated_from, AfterListSays, SettleSays};
 
 use crate::{Evaluated, Setting, merging};
-use answer::Done;
 use neighbor::{Question, State, Updated};
 use virial::Sum;
 
@@ -96,7 +95,7 @@ fn after_list(
     ensures { AfterListSays u (terms setting (tables own_ids.now own_params.now ids.now params.now) species.now charges.now bonds.now lengths.now ks.now angles.now per_angle.now) setting.cell xs.now pairs.now forces.old result forces.new }
 {
     let done = u.done;
-    if let Done::Refused(_) = done {
+    if let Err(_) = done {
         return with_sum(u, virial::kernel::zero());
     }
     let state = u.state;

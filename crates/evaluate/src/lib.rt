@@ -2,19 +2,20 @@
 // merged in this order. specs/Calls.antt says what it answers and leaves; `kernel` has the work and `asked` the tests, for the crates above.
 #![tactic(auto)]
 
-use answer::{Done, Refusal};
-use cell::Cell;
+use answer::Refusal;
+use cell::Lattice;
 use neighbor::State;
-use potentials::{BondTerm, CoulombTerm, LjTerm};
-use potentials_angle::AngleTerm;
+use potentials::Bond;
+use potentials::coulomb::Coulomb;
+use potentials_angle::Angle;
+use potentials_pair::Lj;
 use virial::{Sum, Units};
 
 pub mod asked;
 pub mod kernel;
 mod merging;
 
-ghost use Rattle.std.specs.Prelude.{◌≡◌, false};
-ghost use Rattle.answer.specs.declared.Done.TheVariants.{Refused};
+ghost use Rattle.std.specs.Prelude.{◌≡◌, false, Err};
 ghost use Rattle.virial.specs.Virial.{zero_sum};
 ghost use Rattle.potentials_pair.specs.Species.{tables};
 ghost use Rattle.evaluate.specs.Calls.{job_of, EvaluateSays, EvaluateLists};
@@ -22,19 +23,19 @@ ghost use Rattle.evaluate.specs.Calls.{job_of, EvaluateSays, EvaluateLists};
 // What an evaluation goes by besides its tables: the terms, each absent or present with its numbers, the units, and the cell.
 #[derive(Clone, Copy)]
 pub struct Setting {
-    pub lj: LjTerm,
-    pub coulomb: CoulombTerm,
-    pub bond: BondTerm,
-    pub angle: AngleTerm,
+    pub lj: Option<Lj>,
+    pub coulomb: Option<Coulomb>,
+    pub bond: Option<Bond>,
+    pub angle: Option<Angle>,
     pub units: Units,
-    pub cell: Cell,
+    pub cell: Option<Lattice>,
 }
 
 // Energy, forces and virial, or why not; whether the list was built anew; its state, which comes back in every case; and the sum, zero where refused. The
 // forces stand in what the caller lends.
 #[derive(Drop)]
 pub struct Evaluated {
-    pub done: Done,
+    pub done: Result<(), Refusal>,
     pub rebuilt: bool,
     pub state: State,
     pub sum: Sum,
@@ -42,10 +43,10 @@ pub struct Evaluated {
 
 // A refusal that leaves the state as it came.
 fn refused(s: State, why: Refusal) -> Evaluated
-    ensures { result ≡ record { done = Refused why; rebuilt = false; state = s; sum = zero_sum } }
+    ensures { result ≡ record { done = Err why; rebuilt = false; state = s; sum = zero_sum } }
 {
     Evaluated {
-        done: Done::Refused(why),
+        done: Err(why),
         rebuilt: false,
         state: s,
         sum: virial::kernel::zero(),
@@ -83,7 +84,7 @@ pub fn evaluate(
         true, true, setting, s, own_ids, own_params, ids, params, species, charges, bonds, lengths,
         ks, angles, per_angle, positions, exclusions, pairs, references, starts, items, forces,
     );
-    if let Done::Refused(why) = a {
+    if let Err(why) = a {
         return refused(s, why);
     }
     kernel::settle(

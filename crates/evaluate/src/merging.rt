@@ -10,9 +10,10 @@ ghost use Rattle.evaluate.specs.Terms.{terms, lj_gives, coulomb_gives, bond_give
 ghost use Rattle.evaluate.specs.Steps.{terms_over};
 
 use crate::Setting;
-use cell::Cell;
-use potentials::{BondTerm, CoulombTerm, LjTerm};
-use potentials_angle::AngleTerm;
+use cell::Lattice;
+use potentials::Bond;
+use potentials::coulomb::Coulomb;
+use potentials_angle::Angle;
 use potentials_pair::Lj;
 use virial::{Sum, Units};
 
@@ -28,8 +29,8 @@ fn with_lj(
     scratch: &mut [f64],
     forces: &mut [f64],
     sum: Sum,
-    lj: LjTerm,
-    cell: Cell,
+    lj: Option<Lj>,
+    cell: Option<Lattice>,
     own_ids: &[u32],
     own_params: &[f64],
     ids: &[u32],
@@ -40,7 +41,7 @@ fn with_lj(
 ) -> Sum
     ensures { held result forces.new ≡ merged_into (held sum forces.old) (lj_gives (look_by (tables own_ids.now own_params.now ids.now params.now)) lj cell species.now xs.now (length scratch.old) (rows pairs.now)) }
 {
-    let LjTerm::Present(t) = lj else {
+    let Some(t) = lj else {
         return sum;
     };
     let own = potentials::kernel::lj_pairs(
@@ -53,19 +54,27 @@ fn with_coulomb(
     scratch: &mut [f64],
     forces: &mut [f64],
     sum: Sum,
-    coulomb: CoulombTerm,
+    coulomb: Option<Coulomb>,
     units: Units,
-    cell: Cell,
+    cell: Option<Lattice>,
     charges: &[f64],
     xs: &[f64],
     pairs: &[u32],
 ) -> Sum
     ensures { held result forces.new ≡ merged_into (held sum forces.old) (coulomb_gives coulomb units.ke_coulomb cell charges.now xs.now (length scratch.old) (rows pairs.now)) }
 {
-    let CoulombTerm::Present { cutoff } = coulomb else {
+    let Some(direct) = coulomb else {
         return sum;
     };
-    let own = potentials::kernel::coulomb_pairs(units, cutoff, cell, charges, xs, pairs, scratch);
+    let own = potentials::kernel::coulomb_pairs(
+        units,
+        direct.cutoff,
+        cell,
+        charges,
+        xs,
+        pairs,
+        scratch,
+    );
     merge(sum, forces, own, scratch)
 }
 
@@ -73,10 +82,8 @@ fn with_coulomb(
 fn onto_zero(forces: &mut [f64])
     ensures { forces.new ≡ merged_forces (zero_forces (length forces.old)) forces.old }
 {
-    let mut k = 0;
-    while k < forces.len() {
+    for k in 0..forces.len() {
         forces[k] = 0.0 + forces[k];
-        k += 1;
     }
 }
 
@@ -88,7 +95,7 @@ fn at_once(
     lj: Lj,
     cutoff: f64,
     units: Units,
-    cell: Cell,
+    cell: Option<Lattice>,
     own_ids: &[u32],
     own_params: &[f64],
     ids: &[u32],
@@ -114,10 +121,10 @@ fn one_by_one(
     scratch: &mut [f64],
     forces: &mut [f64],
     sum: Sum,
-    lj: LjTerm,
-    coulomb: CoulombTerm,
+    lj: Option<Lj>,
+    coulomb: Option<Coulomb>,
     units: Units,
-    cell: Cell,
+    cell: Option<Lattice>,
     own_ids: &[u32],
     own_params: &[f64],
     ids: &[u32],
@@ -141,10 +148,10 @@ fn with_pairs(
     scratch: &mut [f64],
     forces: &mut [f64],
     sum: Sum,
-    lj: LjTerm,
-    coulomb: CoulombTerm,
+    lj: Option<Lj>,
+    coulomb: Option<Coulomb>,
     units: Units,
-    cell: Cell,
+    cell: Option<Lattice>,
     own_ids: &[u32],
     own_params: &[f64],
     ids: &[u32],
@@ -156,13 +163,13 @@ fn with_pairs(
 ) -> Sum
     ensures { held result forces.new ≡ merged_into (merged_into (held sum (zero_forces (length forces.old))) (lj_gives (look_by (tables own_ids.now own_params.now ids.now params.now)) lj cell species.now xs.now (length scratch.old) (rows pairs.now))) (coulomb_gives coulomb units.ke_coulomb cell charges.now xs.now (length scratch.old) (rows pairs.now)) }
 {
-    let LjTerm::Present(t) = lj else {
+    let Some(t) = lj else {
         return one_by_one(
             scratch, forces, sum, lj, coulomb, units, cell, own_ids, own_params, ids, params,
             species, charges, xs, pairs,
         );
     };
-    let CoulombTerm::Present { cutoff } = coulomb else {
+    let Some(direct) = coulomb else {
         return one_by_one(
             scratch, forces, sum, lj, coulomb, units, cell, own_ids, own_params, ids, params,
             species, charges, xs, pairs,
@@ -175,8 +182,21 @@ fn with_pairs(
         );
     }
     at_once(
-        scratch, forces, sum, t, cutoff, units, cell, own_ids, own_params, ids, params, species,
-        charges, xs, pairs,
+        scratch,
+        forces,
+        sum,
+        t,
+        direct.cutoff,
+        units,
+        cell,
+        own_ids,
+        own_params,
+        ids,
+        params,
+        species,
+        charges,
+        xs,
+        pairs,
     )
 }
 
@@ -184,8 +204,8 @@ fn with_bonds(
     scratch: &mut [f64],
     forces: &mut [f64],
     sum: Sum,
-    bond: BondTerm,
-    cell: Cell,
+    bond: Option<Bond>,
+    cell: Option<Lattice>,
     bonds: &[u32],
     lengths: &[f64],
     ks: &[f64],
@@ -193,7 +213,7 @@ fn with_bonds(
 ) -> Sum
     ensures { held result forces.new ≡ merged_into (held sum forces.old) (bond_gives bond cell bonds.now lengths.now ks.now xs.now (length scratch.old)) }
 {
-    let BondTerm::Present(t) = bond else {
+    let Some(t) = bond else {
         return sum;
     };
     let own = potentials::kernel::bonds_all(t, cell, bonds, lengths, ks, xs, scratch);
@@ -204,15 +224,15 @@ fn with_angles(
     scratch: &mut [f64],
     forces: &mut [f64],
     sum: Sum,
-    angle: AngleTerm,
-    cell: Cell,
+    angle: Option<Angle>,
+    cell: Option<Lattice>,
     angles: &[u32],
     per_angle: &[f64],
     xs: &[f64],
 ) -> Sum
     ensures { held result forces.new ≡ merged_into (held sum forces.old) (angle_gives angle cell angles.now per_angle.now xs.now (length scratch.old)) }
 {
-    let AngleTerm::Present(t) = angle else {
+    let Some(t) = angle else {
         return sum;
     };
     let own = potentials_angle::kernel::angles_all(t, cell, angles, per_angle, xs, scratch);

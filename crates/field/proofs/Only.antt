@@ -1,8 +1,9 @@
 -- For each export: no second struct and no second contents of everything lent fits its `ensures`. The call's own law shows it. Assumes nothing.
+use Rattle.std.specs.Prelude.{Result}
+use Rattle.answer.specs.declared.Refusal.{Refusal}
 use Prim.Native.Nat.{ℕ}
 use mathlib.Core.Path.{◌≡◌, refl, sym, ◌∙◌}
 use mathlib.Core.List.{List}
-use Rattle.answer.specs.declared.Done.{Done}
 use Rattle.potentials_pair.specs.Species.{Tables}
 use Rattle.cell.proofs.Only.{orthorhombic_only, cubic_only, is_orthorhombic_only, matrix_only, volume_only, inverse_only, to_fractional_only, to_cartesian_only, wrap_only, perp_widths_only, min_image_only}
 use Rattle.virial.proofs.Only.{zeros_only, merge_only, add_pair_force_only, virial_from_pair_only, scalar_virial_only, pressure_only, pressure_tensor_only, to_gpa_only}
@@ -192,8 +193,8 @@ use Rattle.field.specs.contracts.motion.tyn_finish as finish_contract
 use Rattle.field.proofs.motion.tyn_finish as finish
 
 -- a part that is told by its first element and its length
-part_only : {asked : Done → Type 0} {first : ℕ} {part table : List ℕ} {r s : FlatPart} → PartSays asked first part table r → PartSays asked first part table s
-    → ((a b : Done) → asked a → asked b → a ≡ b) → r ≡ s
+part_only : {asked : Result (Unit {0}) Refusal → Type 0} {first : ℕ} {part table : List ℕ} {r s : FlatPart} → PartSays asked first part table r → PartSays asked first part table s
+    → ((a b : Result (Unit {0}) Refusal) → asked a → asked b → a ≡ b) → r ≡ s
 part_only p q only =
     let d = shown_alone p.done q.done only in
     let n = p.begins ∙ sym q.begins in

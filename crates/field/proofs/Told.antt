@@ -1,4 +1,5 @@
 -- A part that is told by its first element and its length is the part. Assumes nothing.
+use Rattle.std.specs.Prelude.{Err, Ok, Result}
 use Prim.Native.Nat.{ℕ, zero, suc, ◌+◌, ◌*◌, ◌-◌, ◌/◌}
 use native.Mathlib.Omega.{arith}
 use mathlib.Core.Path.{◌≡◌, refl, sym, ap, ◌∙◌}
@@ -6,9 +7,7 @@ use mathlib.Core.Bool.{Bool, true, false, cond}
 use mathlib.Core.List.{List, [], ◌∷◌}
 use lib.Dec.{ltb}
 use lib.ListN.{length, get_or, take, drop}
-use Rattle.answer.specs.Seen.{Seen, answered, refused_by, seen_done}
-use Rattle.answer.specs.declared.Done.{Done}
-use Rattle.answer.specs.declared.Done.TheVariants.{Answered, Refused}
+use Rattle.answer.specs.Seen.{Seen, answered, refused_by, seen}
 use Rattle.answer.specs.declared.Refusal.{Refusal}
 use Rattle.answer.specs.declared.Refusal.TheVariants.{Lengths}
 use Rattle.bins.specs.Sort.{cell_held, part_of, atoms_in, atoms_asked}
@@ -47,7 +46,7 @@ unfolding atoms_in cell_start part_of
 atoms_told cell starts items = later_part (cell_held cell starts items) (get_or starts (cell + 1) 0 - get_or starts cell 0) (get_or starts cell 0) items
 
 -- what is handed out, as a start and a length
-pub says_part : {asked : Done → Type 0} {first k : ℕ} {part table xs : List ℕ} (a : Done) {d : FlatDone}
+pub says_part : {asked : Result (Unit {0}) Refusal → Type 0} {first k : ℕ} {part table xs : List ℕ} (a : Result (Unit {0}) Refusal) {d : FlatDone}
     → asked a → first ≡ k → xs ≡ part → take (length part) (drop first table) ≡ part → d ≡ flat_done a → PartSays asked first part table (record { done = d; start = k; length = length xs })
 says_part {first} {k} {part} {table} {xs} a s z e t h =
     record {
@@ -67,13 +66,13 @@ by_refusal true r p = let z : ◌≡◌ {A = ℕ} 0 1 = cc in absurd (omega arit
 
 module _ (cell : ℕ) (starts items : List ℕ) where
   -- whether the cell is held, from what the call beside the part answers
-  pub held_answered : (a : Done) → seen_done a ≡ atoms_asked cell starts items → a ≡ Answered → cell_held cell starts items ≡ true
+  pub held_answered : (a : Result (Unit {0}) Refusal) → seen a ≡ atoms_asked cell starts items → a ≡ Ok tt → cell_held cell starts items ≡ true
   unfolding atoms_asked
-  held_answered a e k = by_answer (cell_held cell starts items) (sym (ap seen_done k) ∙ e)
+  held_answered a e k = by_answer (cell_held cell starts items) (sym (ap seen k) ∙ e)
 
-  pub held_refused : (a : Done) (r : Refusal) → seen_done a ≡ atoms_asked cell starts items → a ≡ Refused r → cell_held cell starts items ≡ false
+  pub held_refused : (a : Result (Unit {0}) Refusal) (r : Refusal) → seen a ≡ atoms_asked cell starts items → a ≡ Err r → cell_held cell starts items ≡ false
   unfolding atoms_asked
-  held_refused a r e k = by_refusal (cell_held cell starts items) r (sym (ap seen_done k) ∙ e)
+  held_refused a r e k = by_refusal (cell_held cell starts items) r (sym (ap seen k) ∙ e)
 
   pub start_held : cell_held cell starts items ≡ true → cell_start cell starts items ≡ get_or starts cell 0
   unfolding cell_start

@@ -5,7 +5,7 @@ ghost use Rattle.field_structs.specs.Shown.{Shown};
 ghost use Rattle.field_structs.specs.Taken.{cell_of};
 ghost use Rattle.potentials_angle.specs.Calls.{AnglesAllSays, UniformAnglesSays};
 
-use field_structs::{FlatAngleAnswer, FlatCell, FlatSummed, angles, give, take};
+use field_structs::{FlatAngleAnswer, FlatCell, FlatSummed};
 use potentials_angle::Angle;
 
 // Angle numbers, the same for each angle. Refusal 3.
@@ -13,7 +13,7 @@ use potentials_angle::Angle;
 pub extern "C" fn tyn_uniform_angles(k: f64, rest: f64) -> FlatAngleAnswer
     ensures { Shown flat_angle_answer (UniformAnglesSays k rest) result }
 {
-    angles::angle_answer(potentials_angle::uniform_angles(k, rest))
+    potentials_angle::uniform_angles(k, rest).into()
 }
 
 // Cosine angles, three atoms a row, the apex second: forces overwritten, from zero. An angle past the end of per_angle, which has k and rest cosine a row,
@@ -29,12 +29,5 @@ pub extern "C" fn tyn_angles_all(
 ) -> FlatSummed
     ensures { Shown flat_summed (λ a. AnglesAllSays angle (cell_of cell) angles.now per_angle.now positions.now forces.old a forces.new) result }
 {
-    give::summed(potentials_angle::angles_all(
-        angle,
-        take::cell(cell),
-        angles,
-        per_angle,
-        positions,
-        forces,
-    ))
+    potentials_angle::angles_all(angle, cell.into(), angles, per_angle, positions, forces).into()
 }

@@ -4,7 +4,7 @@ ghost use Rattle.field_structs.specs.Shown.{Shown};
 ghost use Rattle.field_structs.specs.Taken.{cell_of, state_of};
 ghost use Rattle.neighbor.specs.Rebuild.{OutdatedSays};
 
-use field_structs::{FlatCell, FlatState, FlatYesNo, give, take};
+use field_structs::{FlatCell, FlatState, FlatYesNo};
 
 // Whether the list must be built anew for these positions in this cell: as `tyn_needs_rebuild` says, or the cell differs from the one that it was built in, in a bit
 // of its nine numbers, in a flag, or in being present. Refusals 1, 2, 6, 3.
@@ -17,5 +17,5 @@ pub extern "C" fn tyn_outdated(
 ) -> FlatYesNo
     ensures { Shown flat_yes_no (OutdatedSays (state_of s) (cell_of cell) positions.now references.now) result }
 {
-    give::yes_no(neighbor::outdated(take::state(s), take::cell(cell), positions, references))
+    neighbor::outdated(s.into(), cell.into(), positions, references).into()
 }

@@ -7,7 +7,7 @@ ghost use Rattle.field_structs.specs.Taken.{cell_of, lattice_of};
 use cell::Vec3;
 use field_structs::{
     FlatCell, FlatImageAnswer, FlatInverseAnswer, FlatLattice, FlatLatticeAnswer, FlatNumber,
-    FlatRowsAnswer, FlatVector, FlatYesNo, give, take,
+    FlatRowsAnswer, FlatVector, FlatYesNo,
 };
 
 // The lattice of a box with edges lx, ly, lz along the axes, periodic on all three. Refusal 3.
@@ -15,7 +15,7 @@ use field_structs::{
 pub extern "C" fn tyn_orthorhombic(lx: f64, ly: f64, lz: f64) -> FlatLatticeAnswer
     ensures { Shown flat_lattice_answer (OrthorhombicSays lx ly lz) result }
 {
-    give::lattice_answer(cell::orthorhombic(lx, ly, lz))
+    cell::orthorhombic(lx, ly, lz).into()
 }
 
 // The lattice of a cube with edge l, periodic on all three axes. Refusal 3.
@@ -23,7 +23,7 @@ pub extern "C" fn tyn_orthorhombic(lx: f64, ly: f64, lz: f64) -> FlatLatticeAnsw
 pub extern "C" fn tyn_cubic(l: f64) -> FlatLatticeAnswer
     ensures { Shown flat_lattice_answer (CubicSays l) result }
 {
-    give::lattice_answer(cell::cubic(l))
+    cell::cubic(l).into()
 }
 
 // Whether the off-diagonal magnitudes sum to less than 1e-9. Refusal 3.
@@ -31,7 +31,7 @@ pub extern "C" fn tyn_cubic(l: f64) -> FlatLatticeAnswer
 pub extern "C" fn tyn_is_orthorhombic(lattice: FlatLattice) -> FlatYesNo
     ensures { Shown flat_yes_no (IsOrthorhombicSays (lattice_of lattice)) result }
 {
-    give::yes_no(cell::is_orthorhombic(take::lattice(lattice)))
+    cell::is_orthorhombic(lattice.into()).into()
 }
 
 // The lattice vectors as the columns of three rows. Refusal 3.
@@ -39,7 +39,7 @@ pub extern "C" fn tyn_is_orthorhombic(lattice: FlatLattice) -> FlatYesNo
 pub extern "C" fn tyn_matrix(lattice: FlatLattice) -> FlatRowsAnswer
     ensures { Shown flat_rows (MatrixSays (lattice_of lattice)) result }
 {
-    give::rows(cell::matrix(take::lattice(lattice)))
+    cell::matrix(lattice.into()).into()
 }
 
 // The volume. Refusal 3.
@@ -47,7 +47,7 @@ pub extern "C" fn tyn_matrix(lattice: FlatLattice) -> FlatRowsAnswer
 pub extern "C" fn tyn_volume(lattice: FlatLattice) -> FlatNumber
     ensures { Shown flat_number (VolumeSays (lattice_of lattice)) result }
 {
-    give::number(cell::volume(take::lattice(lattice)))
+    cell::volume(lattice.into()).into()
 }
 
 // The inverse of the matrix, if there is one. Refusal 3.
@@ -55,7 +55,7 @@ pub extern "C" fn tyn_volume(lattice: FlatLattice) -> FlatNumber
 pub extern "C" fn tyn_inverse(lattice: FlatLattice) -> FlatInverseAnswer
     ensures { Shown flat_inverse (InverseSays (lattice_of lattice)) result }
 {
-    give::inverse(cell::inverse(take::lattice(lattice)))
+    cell::inverse(lattice.into()).into()
 }
 
 // Fractional coordinates of r. Refusal 3.
@@ -63,7 +63,7 @@ pub extern "C" fn tyn_inverse(lattice: FlatLattice) -> FlatInverseAnswer
 pub extern "C" fn tyn_to_fractional(lattice: FlatLattice, r: Vec3) -> FlatVector
     ensures { Shown flat_vector (ToFractionalSays (lattice_of lattice) r) result }
 {
-    give::vector(cell::to_fractional(take::lattice(lattice), r))
+    cell::to_fractional(lattice.into(), r).into()
 }
 
 // Cartesian coordinates of s. Refusal 3.
@@ -71,7 +71,7 @@ pub extern "C" fn tyn_to_fractional(lattice: FlatLattice, r: Vec3) -> FlatVector
 pub extern "C" fn tyn_to_cartesian(lattice: FlatLattice, s: Vec3) -> FlatVector
     ensures { Shown flat_vector (ToCartesianSays (lattice_of lattice) s) result }
 {
-    give::vector(cell::to_cartesian(take::lattice(lattice), s))
+    cell::to_cartesian(lattice.into(), s).into()
 }
 
 // r folded into the cell on its periodic axes. Refusal 3.
@@ -79,7 +79,7 @@ pub extern "C" fn tyn_to_cartesian(lattice: FlatLattice, s: Vec3) -> FlatVector
 pub extern "C" fn tyn_wrap(lattice: FlatLattice, r: Vec3) -> FlatVector
     ensures { Shown flat_vector (WrapSays (lattice_of lattice) r) result }
 {
-    give::vector(cell::wrap(take::lattice(lattice), r))
+    cell::wrap(lattice.into(), r).into()
 }
 
 // The widths between opposite faces. Refusal 3.
@@ -87,7 +87,7 @@ pub extern "C" fn tyn_wrap(lattice: FlatLattice, r: Vec3) -> FlatVector
 pub extern "C" fn tyn_perp_widths(lattice: FlatLattice) -> FlatVector
     ensures { Shown flat_vector (PerpWidthsSays (lattice_of lattice)) result }
 {
-    give::vector(cell::perp_widths(take::lattice(lattice)))
+    cell::perp_widths(lattice.into()).into()
 }
 
 // The minimum image of the difference d. Refusal 3.
@@ -95,5 +95,5 @@ pub extern "C" fn tyn_perp_widths(lattice: FlatLattice) -> FlatVector
 pub extern "C" fn tyn_min_image(d: Vec3, cell: FlatCell) -> FlatImageAnswer
     ensures { Shown flat_image (MinImageSays d (cell_of cell)) result }
 {
-    give::image(cell::min_image(d, take::cell(cell)))
+    cell::min_image(d, cell.into()).into()
 }

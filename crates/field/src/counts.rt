@@ -5,7 +5,7 @@ ghost use Rattle.field_structs.specs.Taken.{frame_of};
 ghost use Rattle.frame.specs.Build.{given};
 ghost use Rattle.shells.specs.Shells.{AddShellsSays, adding};
 
-use field_structs::{FlatBuilt, FlatFrame, give_counted, take};
+use field_structs::{FlatBuilt, FlatFrame};
 
 // The pairs of tyn_frame_build, each added to the total of its shell: its squared distance divided by width, the last shell open upward. Refusals 1, 2,
 // 3 (also a width of 0 or no totals), 5, 7, 8, 13 (a total would pass 2^64 - 1: the totals are as they came, the list is there).
@@ -22,8 +22,8 @@ pub extern "C" fn tyn_add_shells(
 ) -> FlatBuilt
     ensures { Shown flat_counted (λ a. AddShellsSays (adding (given (frame_of f) coordinates.now exclusions.now pairs.old starts.old items.old) width totals.old) a totals.new pairs.new starts.new items.new) result }
 {
-    give_counted::counted(shells::add_shells(
-        take::frame(f),
+    shells::add_shells(
+        f.into(),
         coordinates,
         exclusions,
         width,
@@ -31,5 +31,6 @@ pub extern "C" fn tyn_add_shells(
         pairs,
         starts,
         items,
-    ))
+    )
+    .into()
 }

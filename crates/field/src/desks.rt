@@ -3,7 +3,7 @@ ghost use Rattle.std.specs.Prelude.{◌≡◌};
 ghost use Rattle.potentials_pair.specs.Species.{tables};
 ghost use Rattle.field.specs.Rows.{RowSays, number_in, table_by};
 
-use field_structs::{FlatRow, give};
+use field_structs::{FlatDone, FlatRow};
 
 // Which table a row is a part of, by the lengths of the own table's row and of the row.
 fn table_of(own: usize, row: usize) -> u32
@@ -39,7 +39,7 @@ pub extern "C" fn tyn_species_row<'a>(
 ) -> FlatRow
     ensures { RowSays (tables own_ids.now own_params.now ids.now params.now) species result }
 {
-    let done = give::done(potentials_calls::species_row_asked(
+    let done = FlatDone::from(potentials_calls::species_row_asked(
         own_ids, own_params, ids, params, species,
     ));
     let own = potentials_calls::species_row(own_ids, own_params, &[], &[], species);

@@ -9,7 +9,7 @@ ghost use Rattle.std.specs.Prelude.{◌≡◌};
 
 use field_structs::{
     FlatBondAnswer, FlatCell, FlatEvaluated, FlatLj, FlatLjAnswer, FlatSetting, FlatState,
-    FlatSummed, give, take,
+    FlatSummed,
 };
 use potentials::Bond;
 use virial::Units;
@@ -19,7 +19,7 @@ use virial::Units;
 pub extern "C" fn tyn_monatomic(epsilon: f64, sigma: f64, cutoff: f64) -> FlatLjAnswer
     ensures { Shown flat_lj_answer (MonatomicSays epsilon sigma cutoff) result }
 {
-    give::lj_answer(potentials_calls::monatomic(epsilon, sigma, cutoff))
+    potentials_calls::monatomic(epsilon, sigma, cutoff).into()
 }
 
 // Lennard-Jones numbers of argon. No refusal.
@@ -27,7 +27,7 @@ pub extern "C" fn tyn_monatomic(epsilon: f64, sigma: f64, cutoff: f64) -> FlatLj
 pub extern "C" fn tyn_argon() -> FlatLj
     ensures { result ≡ flat_lj argon_of }
 {
-    give::lj(potentials_calls::argon())
+    potentials_calls::argon().into()
 }
 
 // Bond numbers, the same for each bond. Refusal 3.
@@ -35,7 +35,7 @@ pub extern "C" fn tyn_argon() -> FlatLj
 pub extern "C" fn tyn_uniform(k: f64, r0: f64) -> FlatBondAnswer
     ensures { Shown flat_bond_answer (UniformSays k r0) result }
 {
-    give::bond_answer(potentials_calls::uniform(k, r0))
+    potentials_calls::uniform(k, r0).into()
 }
 
 // Lennard-Jones over the listed pairs: forces overwritten, from zero. own_ids and ids are the species that own_params and params have epsilon
@@ -56,9 +56,9 @@ pub extern "C" fn tyn_lj_pairs(
 ) -> FlatSummed
     ensures { Shown flat_summed (λ a. LjPairsSays (lj_of lj) (cell_of cell) (tables own_ids.now own_params.now ids.now params.now) species.now positions.now pairs.now forces.old a forces.new) result }
 {
-    give::summed(potentials_calls::lj_pairs(
-        take::lj(lj),
-        take::cell(cell),
+    potentials_calls::lj_pairs(
+        lj.into(),
+        cell.into(),
         own_ids,
         own_params,
         ids,
@@ -67,7 +67,8 @@ pub extern "C" fn tyn_lj_pairs(
         positions,
         pairs,
         forces,
-    ))
+    )
+    .into()
 }
 
 // Lennard-Jones over every pair, i, then j, rising. Refusals 1, 2, 3, 5.
@@ -85,9 +86,9 @@ pub extern "C" fn tyn_lj_all(
 ) -> FlatSummed
     ensures { Shown flat_summed (λ a. LjAllSays (lj_of lj) (cell_of cell) (tables own_ids.now own_params.now ids.now params.now) species.now positions.now forces.old a forces.new) result }
 {
-    give::summed(potentials_calls::lj_all(
-        take::lj(lj),
-        take::cell(cell),
+    potentials_calls::lj_all(
+        lj.into(),
+        cell.into(),
         own_ids,
         own_params,
         ids,
@@ -95,7 +96,8 @@ pub extern "C" fn tyn_lj_all(
         species,
         positions,
         forces,
-    ))
+    )
+    .into()
 }
 
 // Coulomb over the listed pairs: forces overwritten, from zero. Refusals 1, 2, 3, 4.
@@ -111,15 +113,16 @@ pub extern "C" fn tyn_coulomb_pairs(
 ) -> FlatSummed
     ensures { Shown flat_summed (λ a. CoulombPairsSays units cutoff (cell_of cell) charges.now positions.now pairs.now forces.old a forces.new) result }
 {
-    give::summed(potentials_calls::coulomb_pairs(
+    potentials_calls::coulomb_pairs(
         units,
         cutoff,
-        take::cell(cell),
+        cell.into(),
         charges,
         positions,
         pairs,
         forces,
-    ))
+    )
+    .into()
 }
 
 // Coulomb over every pair, i, then j, rising. Refusals 1, 2, 3.
@@ -134,14 +137,7 @@ pub extern "C" fn tyn_coulomb_all(
 ) -> FlatSummed
     ensures { Shown flat_summed (λ a. CoulombAllSays units cutoff (cell_of cell) charges.now positions.now forces.old a forces.new) result }
 {
-    give::summed(potentials_calls::coulomb_all(
-        units,
-        cutoff,
-        take::cell(cell),
-        charges,
-        positions,
-        forces,
-    ))
+    potentials_calls::coulomb_all(units, cutoff, cell.into(), charges, positions, forces).into()
 }
 
 // Harmonic bonds, two atoms a row: forces overwritten, from zero. A bond past the end of lengths or ks takes bond's own number. Refusals 1, 2, 3, 4.
@@ -157,15 +153,7 @@ pub extern "C" fn tyn_bonds_all(
 ) -> FlatSummed
     ensures { Shown flat_summed (λ a. BondsAllSays bond (cell_of cell) bonds.now lengths.now ks.now positions.now forces.old a forces.new) result }
 {
-    give::summed(potentials_calls::bonds_all(
-        bond,
-        take::cell(cell),
-        bonds,
-        lengths,
-        ks,
-        positions,
-        forces,
-    ))
+    potentials_calls::bonds_all(bond, cell.into(), bonds, lengths, ks, positions, forces).into()
 }
 
 // The list brought up to date, then each present term, Lennard-Jones, Coulomb, bonds, angles, merged in this order into zero. Refusals 1, 2, 6, 3, 4, 5, 7, 8.
@@ -194,9 +182,9 @@ pub extern "C" fn tyn_evaluate(
 ) -> FlatEvaluated
     ensures { let j = job_of (setting_of setting) (state_of s) (tables own_ids.now own_params.now ids.now params.now) species.now charges.now bonds.now lengths.now ks.now angles.now per_angle.now positions.now exclusions.now pairs.old references.old starts.old items.old forces.old in Shown flat_evaluated (λ a. EvaluateSays j a pairs.new references.new starts.new items.new forces.new × EvaluateLists j a pairs.new) result }
 {
-    give::evaluated(evaluate::evaluate(
-        take::setting(setting),
-        take::state(s),
+    evaluate::evaluate(
+        setting.into(),
+        s.into(),
         own_ids,
         own_params,
         ids,
@@ -215,5 +203,6 @@ pub extern "C" fn tyn_evaluate(
         starts,
         items,
         forces,
-    ))
+    )
+    .into()
 }

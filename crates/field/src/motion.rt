@@ -5,7 +5,7 @@ ghost use Rattle.field_structs.specs.Shown.{Shown};
 ghost use Rattle.field_structs.specs.Taken.{pace_of, setting_of, state_of};
 ghost use Rattle.verlet_step.specs.Calls.{FinishSays, StepLists, StepSays, motion_of};
 
-use field_structs::{FlatPace, FlatSetting, FlatState, FlatStepped, give, take};
+use field_structs::{FlatPace, FlatSetting, FlatState, FlatStepped};
 
 // One step of velocity Verlet: half a kick and the drift, the evaluation, half a kick, the thermostat. forces and potential are those at the positions.
 // Where a 7 or 8 stopped it after the drift (stopped is 1), positions and velocities are drifted, forces and potential old: call tyn_finish with more
@@ -39,10 +39,10 @@ pub extern "C" fn tyn_step(
 ) -> FlatStepped
     ensures { let m = motion_of (setting_of setting) (pace_of pace).dt (state_of s) potential (tables own_ids.now own_params.now ids.now params.now) species.now charges.now bonds.now lengths.now ks.now angles.now per_angle.now masses.now exclusions.now positions.old velocities.old pairs.old references.old starts.old items.old forces.old in Shown flat_stepped (λ a. StepSays (pace_of pace).thermostat m a positions.new velocities.new pairs.new references.new starts.new items.new forces.new × StepLists m a positions.new pairs.new) result }
 {
-    give::stepped(verlet_step::step(
-        take::setting(setting),
-        take::pace(pace),
-        take::state(s),
+    verlet_step::step(
+        setting.into(),
+        pace.into(),
+        s.into(),
         potential,
         own_ids,
         own_params,
@@ -64,7 +64,8 @@ pub extern "C" fn tyn_step(
         starts,
         items,
         forces,
-    ))
+    )
+    .into()
 }
 
 // The rest of a step that a 7 or 8 stopped: the evaluation, the second half kick, the thermostat. Velocities to 2^500. Refusals 1, 2, 6, 3, 4, 5, 7, 8.
@@ -97,10 +98,10 @@ pub extern "C" fn tyn_finish(
 ) -> FlatStepped
     ensures { let m = motion_of (setting_of setting) (pace_of pace).dt (state_of s) potential (tables own_ids.now own_params.now ids.now params.now) species.now charges.now bonds.now lengths.now ks.now angles.now per_angle.now masses.now exclusions.now positions.now velocities.old pairs.old references.old starts.old items.old forces.old in Shown flat_stepped (λ a. FinishSays (pace_of pace).thermostat m a velocities.new pairs.new references.new starts.new items.new forces.new × StepLists m a positions.now pairs.new) result }
 {
-    give::stepped(verlet_step::finish(
-        take::setting(setting),
-        take::pace(pace),
-        take::state(s),
+    verlet_step::finish(
+        setting.into(),
+        pace.into(),
+        s.into(),
         potential,
         own_ids,
         own_params,
@@ -122,5 +123,6 @@ pub extern "C" fn tyn_finish(
         starts,
         items,
         forces,
-    ))
+    )
+    .into()
 }

@@ -7,16 +7,16 @@ ghost use Rattle.neighbor.specs.Update.{listed_of, ListedSays};
 ghost use Rattle.field_structs.specs.Taken.{state_of};
 ghost use Rattle.field.specs.Parts.{PartSays, cell_start};
 
-use answer::Done;
-use field_structs::{FlatPart, FlatState, give, take};
+use field_structs::{FlatDone, FlatPart, FlatState};
+use neighbor::State;
 
 // The listed pairs: the part of the lent pairs that the state counts. Refusal 6.
 #[unsafe(no_mangle)]
 pub extern "C" fn tyn_listed(s: FlatState, pairs: &[u32]) -> FlatPart
     ensures { PartSays (ListedSays (state_of s) pairs.now) 0 (listed_of (state_of s) pairs.now) pairs.now result }
 {
-    let state = take::state(s);
-    let done = give::done(neighbor::listed_asked(state, pairs));
+    let state = State::from(s);
+    let done = FlatDone::from(neighbor::listed_asked(state, pairs));
     let part = neighbor::listed(state, pairs);
     FlatPart {
         done,
@@ -30,7 +30,7 @@ pub extern "C" fn tyn_listed(s: FlatState, pairs: &[u32]) -> FlatPart
 pub extern "C" fn tyn_excluded_rows(count: u32, table: &[u32]) -> FlatPart
     ensures { PartSays (Exclusions.ExcludedRowsAskedSays count table.now) 0 (excluded_rows count table.now) table.now result }
 {
-    let done = give::done(exclusions::excluded_rows_asked(count, table));
+    let done = FlatDone::from(exclusions::excluded_rows_asked(count, table));
     let part = exclusions::excluded_rows(count, table);
     FlatPart {
         done,
@@ -45,9 +45,9 @@ pub extern "C" fn tyn_atoms_in(cell: usize, starts: &[u32], items: &[u32]) -> Fl
     ensures { PartSays (Bins.AtomsAskedSays cell starts.now items.now) (cell_start cell starts.now items.now) (atoms_in cell starts.now items.now) items.now result }
 {
     let asked = bins::atoms_in_asked(cell, starts, items);
-    let done = give::done(asked);
+    let done = FlatDone::from(asked);
     let part = bins::atoms_in(cell, starts, items);
-    if let Done::Refused(_) = asked {
+    if let Err(_) = asked {
         return FlatPart {
             done,
             start: 0,

@@ -9,7 +9,7 @@ ghost use Rattle.sheet_moved.specs.Moved.{ToOneSays, ToTwoSays};
 ghost use Rattle.sheet_rewritten.specs.Rewrite.{RewriteSays};
 ghost use Rattle.sheet_written.specs.Write.{WriteSays};
 
-use field_structs::{FlatFormed, FlatFrame, FlatWhole, give, give_forms, take};
+use field_structs::{FlatFormed, FlatFrame, FlatWhole};
 
 // The written form of a frame, its atoms and its exclusions at the front of out (43049 bytes are always enough); the value is its length. Refusals
 // 1, 2, 3, 5, 8.
@@ -22,7 +22,7 @@ pub extern "C" fn tyn_write(
 ) -> FlatWhole
     ensures { Shown flat_whole (λ a. WriteSays (frame_of f) coordinates.now exclusions.now out.old a out.new) result }
 {
-    give::whole(sheet_written::write(take::frame(f), coordinates, exclusions, out))
+    sheet_written::write(f.into(), coordinates, exclusions, out).into()
 }
 
 // The written form of a job sheet, or the line of its refusal, at the front of out (at least 43049 bytes); the value is its length. Refusal 1.
@@ -30,7 +30,7 @@ pub extern "C" fn tyn_write(
 pub extern "C" fn tyn_rewrite(input: &[u8], out: &mut [u8]) -> FlatWhole
     ensures { Shown flat_whole (λ a. RewriteSays input.now out.old a out.new) result }
 {
-    give::whole(sheet_rewritten::rewrite(input, out))
+    sheet_rewritten::rewrite(input, out).into()
 }
 
 // A job sheet of either form: as tyn_read, with a species for each atom (at least 1024 lent), 0 on a sheet of the first form, and with its rule, 1 there
@@ -44,7 +44,7 @@ pub extern "C" fn tyn_read_either(
 ) -> FlatFormed
     ensures { Shown flat_formed (λ a. EitherSays input.now coordinates.old species.old exclusions.old a coordinates.new species.new exclusions.new) result }
 {
-    give_forms::formed(sheet_either::read_either(input, coordinates, species, exclusions))
+    sheet_either::read_either(input, coordinates, species, exclusions).into()
 }
 
 // A job sheet of the first form in the second, rule 1, each species 0, at the front of out (51243 bytes are always enough); the value is its length.
@@ -53,7 +53,7 @@ pub extern "C" fn tyn_read_either(
 pub extern "C" fn tyn_to_two(input: &[u8], out: &mut [u8]) -> FlatWhole
     ensures { Shown flat_whole (λ a. ToTwoSays input.now out.old a out.new) result }
 {
-    give::whole(sheet_moved::to_two(input, out))
+    sheet_moved::to_two(input, out).into()
 }
 
 // A job sheet of the second form in the first, at the front of out (43049 bytes are always enough); the value is its length. Refusals: those of
@@ -62,7 +62,7 @@ pub extern "C" fn tyn_to_two(input: &[u8], out: &mut [u8]) -> FlatWhole
 pub extern "C" fn tyn_to_one(input: &[u8], out: &mut [u8]) -> FlatWhole
     ensures { Shown flat_moved (λ a. ToOneSays input.now out.old a out.new) result }
 {
-    give_forms::moved(sheet_moved::to_one(input, out))
+    sheet_moved::to_one(input, out).into()
 }
 
 // As tyn_solve, of a job sheet of either form. Refusal 1.
@@ -70,5 +70,5 @@ pub extern "C" fn tyn_to_one(input: &[u8], out: &mut [u8]) -> FlatWhole
 pub extern "C" fn tyn_solve_either(input: &[u8], out: &mut [u8]) -> FlatWhole
     ensures { Shown flat_whole (λ a. SolveEitherSays input.now out.old a out.new × EitherFits input.now a out.new) result }
 {
-    give::whole(sheet_answer::either::solve_either(input, out))
+    sheet_answer::either::solve_either(input, out).into()
 }

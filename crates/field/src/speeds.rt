@@ -3,7 +3,7 @@ ghost use Rattle.field_structs.specs.Flat.{flat_done, flat_number};
 ghost use Rattle.field_structs.specs.Shown.{Shown};
 ghost use Rattle.verlet.specs.Calls.{BerendsenSays, KineticEnergySays, TemperatureSays};
 
-use field_structs::{FlatDone, FlatNumber, give};
+use field_structs::{FlatDone, FlatNumber};
 use virial::Units;
 
 // The kinetic energy; velocities are three floats a mass. Refusals 1, 2, 3.
@@ -11,7 +11,7 @@ use virial::Units;
 pub extern "C" fn tyn_kinetic_energy(units: Units, velocities: &[f64], masses: &[f64]) -> FlatNumber
     ensures { Shown flat_number (KineticEnergySays units velocities.now masses.now) result }
 {
-    give::number(verlet::kinetic_energy(units, velocities, masses))
+    verlet::kinetic_energy(units, velocities, masses).into()
 }
 
 // The temperature by dof degrees of freedom. Refusals 1, 2, 3.
@@ -24,7 +24,7 @@ pub extern "C" fn tyn_temperature(
 ) -> FlatNumber
     ensures { Shown flat_number (TemperatureSays units dof velocities.now masses.now) result }
 {
-    give::number(verlet::temperature(units, dof, velocities, masses))
+    verlet::temperature(units, dof, velocities, masses).into()
 }
 
 // The velocities rescaled by Berendsen's thermostat. Refusals 1, 2, 3.
@@ -39,5 +39,5 @@ pub extern "C" fn tyn_berendsen(
 ) -> FlatDone
     ensures { Shown flat_done (λ a. BerendsenSays units dt target_k tau_fs masses.now velocities.old a velocities.new) result }
 {
-    give::done(verlet::berendsen(units, dt, target_k, tau_fs, masses, velocities))
+    verlet::berendsen(units, dt, target_k, tau_fs, masses, velocities).into()
 }

@@ -4,7 +4,7 @@ ghost use Rattle.field_structs.specs.Strikes.{flat_entered, flat_struck};
 ghost use Rattle.field_structs.specs.Taken.{state_of};
 ghost use Rattle.strike.specs.Calls.{PutSays, StrikeSays, atoms, links};
 
-use field_structs::{FlatEntered, FlatState, FlatStruck, strikes, take};
+use field_structs::{FlatEntered, FlatState, FlatStruck};
 use strike::NewAtom;
 
 // Strike the atoms whose mark is 1 (0 keeps one), with every bond, angle and exclusion that names one and the rows of lengths, ks and per_angle beside
@@ -28,9 +28,9 @@ pub extern "C" fn tyn_strike(
 ) -> FlatStruck
     ensures { Shown flat_struck (λ a. StrikeSays marks.now (state_of s) (atoms positions.old velocities.old masses.old charges.old species.old) (links bonds.old lengths.old ks.old angles.old per_angle.old exclusions.old) a (atoms positions.new velocities.new masses.new charges.new species.new) (links bonds.new lengths.new ks.new angles.new per_angle.new exclusions.new)) result }
 {
-    strikes::struck(strike::strike(
+    strike::strike(
         marks,
-        take::state(s),
+        s.into(),
         positions,
         velocities,
         masses,
@@ -42,7 +42,8 @@ pub extern "C" fn tyn_strike(
         angles,
         per_angle,
         exclusions,
-    ))
+    )
+    .into()
 }
 
 // One atom more after the first count, with all its numbers. The state has no pairs and no references then. Refusals 1 (also where the room is full), 2, 3;
@@ -60,14 +61,15 @@ pub extern "C" fn tyn_put(
 ) -> FlatEntered
     ensures { Shown flat_entered (λ a. PutSays count new (state_of s) (atoms positions.old velocities.old masses.old charges.old species.old) a (atoms positions.new velocities.new masses.new charges.new species.new)) result }
 {
-    strikes::entered(strike::put(
+    strike::put(
         count,
         new,
-        take::state(s),
+        s.into(),
         positions,
         velocities,
         masses,
         charges,
         species,
-    ))
+    )
+    .into()
 }

@@ -1,51 +1,29 @@
 -- The struct that stands for an answer: a refusal's number and place as 01's table has them, or 0 and 0 and the values; zeros where there is no value. Definitions only.
+use Rattle.std.specs.Prelude.{Err, None, Ok, Option, Result, Some}
+use Rattle.cell.specs.declared.Image.{Image}
+use Rattle.frame.specs.declared.Built.{Built}
+use Rattle.std.specs.Prelude.{Float}
+use Rattle.virial.specs.declared.Sum.{Sum}
 use Rattle.std.specs.Prelude.{ℤ, pos, ℕ, Bool, true, false}
 use Rattle.cell.specs.Vec.{zero_vec}
 use Rattle.float.specs.Arith.{bits}
 use Rattle.answer.specs.Seen.{number_of, place_of}
 use Rattle.answer.specs.declared.Refusal.{Refusal}
-use Rattle.answer.specs.declared.Done.{Done}
-use Rattle.answer.specs.declared.Done.TheVariants as DoneCases
-use Rattle.answer.specs.declared.Number.{Number}
-use Rattle.answer.specs.declared.Number.TheVariants as NumberCases
-use Rattle.answer.specs.declared.YesNo.{YesNo}
-use Rattle.answer.specs.declared.YesNo.TheVariants as YesNoCases
-use Rattle.answer.specs.declared.Whole.{Whole}
-use Rattle.answer.specs.declared.Whole.TheVariants as WholeCases
 use Rattle.cell.specs.declared.Lattice.{Lattice}
-use Rattle.cell.specs.declared.Cell.{Cell}
-use Rattle.cell.specs.declared.Cell.TheVariants as CellCases
-use Rattle.cell.specs.declared.Vector.{Vector}
-use Rattle.cell.specs.declared.Vector.TheVariants as VectorCases
-use Rattle.cell.specs.declared.LatticeAnswer.{LatticeAnswer}
-use Rattle.cell.specs.declared.LatticeAnswer.TheVariants as LatticeAnswerCases
 use Rattle.cell.specs.declared.Vec3.{Vec3}
-use Rattle.cell.specs.declared.Boxes.{Boxes}
-use Rattle.cell.specs.declared.Boxes.TheVariants as BoxesCases
-use Rattle.cell.specs.declared.ImageAnswer.{ImageAnswer}
-use Rattle.cell.specs.declared.ImageAnswer.TheVariants as ImageAnswerCases
-use Rattle.cell.specs.declared.RowsAnswer.{RowsAnswer}
-use Rattle.cell.specs.declared.InverseAnswer.{InverseAnswer}
+use Rattle.cell.specs.declared.Triple.{Triple}
+use Rattle.cell.specs.declared.Uncounted.{Uncounted}
+use Rattle.cell.specs.declared.Uncounted.TheVariants.{NoFit, NoInverse}
+use Rattle.cell.specs.declared.Rows.{Rows}
+use Rattle.cell.specs.Seen.{zero_rows}
 use Rattle.virial.specs.Virial.{zero_sum}
-use Rattle.virial.specs.declared.Summed.{Summed}
-use Rattle.virial.specs.declared.Summed.TheVariants as SummedCases
 use Rattle.neighbor.specs.declared.State.{State}
-use Rattle.neighbor.specs.declared.StateAnswer.{StateAnswer}
-use Rattle.neighbor.specs.declared.StateAnswer.TheVariants as StateAnswerCases
 use Rattle.neighbor.specs.declared.Updated.{Updated}
-use Rattle.frame.specs.declared.Built.{Built}
-use Rattle.frame.specs.declared.Built.TheVariants as BuiltCases
 use Rattle.sheet.specs.declared.Job.{Job}
-use Rattle.sheet.specs.declared.Sheet as sheet
-use Rattle.sheet.specs.declared.Sheet.TheVariants as SheetCases
 use Rattle.potentials_pair.specs.declared.Lj.{Lj}
 use Rattle.potentials_pair.specs.declared.Mixing.{Mixing}
 use Rattle.potentials_pair.specs.declared.Mixing.TheVariants.{HalfSum, Geometric}
 use Rattle.potentials.specs.declared.Bond.{Bond}
-use Rattle.potentials.specs.declared.LjAnswer.{LjAnswer}
-use Rattle.potentials.specs.declared.LjAnswer.TheVariants as LjAnswerCases
-use Rattle.potentials.specs.declared.BondAnswer.{BondAnswer}
-use Rattle.potentials.specs.declared.BondAnswer.TheVariants as BondAnswerCases
 use Rattle.evaluate.specs.declared.Evaluated.{Evaluated}
 use Rattle.verlet_step.specs.declared.Stepped.{Stepped}
 use Rattle.field_structs.specs.declared.FlatDone.{FlatDone}
@@ -85,29 +63,29 @@ well_done = record { number = 0; place = 0 }
 unfoldable pub flat_refusal : Refusal → FlatDone
 flat_refusal r = record { number = number_of r; place = place_of r }
 
-unfoldable pub flat_done : Done → FlatDone
-flat_done DoneCases.Answered = well_done
-flat_done (DoneCases.Refused r) = flat_refusal r
+unfoldable pub flat_done : Result (Unit {0}) Refusal → FlatDone
+flat_done (Ok tt) = well_done
+flat_done (Err r) = flat_refusal r
 
 -- ---- plain answers
 
-unfoldable pub flat_number : Number → FlatNumber
-flat_number (NumberCases.Answered x) = record { done = well_done; value = x }
-flat_number (NumberCases.Refused r) = record { done = flat_refusal r; value = bits 0 }
+unfoldable pub flat_number : Result Float Refusal → FlatNumber
+flat_number (Ok x) = record { done = well_done; value = x }
+flat_number (Err r) = record { done = flat_refusal r; value = bits 0 }
 
-unfoldable pub flat_yes_no : YesNo → FlatYesNo
-flat_yes_no (YesNoCases.Answered b) = record { done = well_done; value = flag b }
-flat_yes_no (YesNoCases.Refused r) = record { done = flat_refusal r; value = 0 }
+unfoldable pub flat_yes_no : Result Bool Refusal → FlatYesNo
+flat_yes_no (Ok b) = record { done = well_done; value = flag b }
+flat_yes_no (Err r) = record { done = flat_refusal r; value = 0 }
 
-unfoldable pub flat_whole : Whole → FlatWhole
-flat_whole (WholeCases.Answered n) = record { done = well_done; value = n }
-flat_whole (WholeCases.Refused r) = record { done = flat_refusal r; value = 0 }
+unfoldable pub flat_whole : Result ℕ Refusal → FlatWhole
+flat_whole (Ok n) = record { done = well_done; value = n }
+flat_whole (Err r) = record { done = flat_refusal r; value = 0 }
 
 -- ---- cell
 
-unfoldable pub flat_vector : Vector → FlatVector
-flat_vector (VectorCases.Answered v) = record { done = well_done; value = v }
-flat_vector (VectorCases.Refused r) = record { done = flat_refusal r; value = zero_vec }
+unfoldable pub flat_vector : Result Vec3 Refusal → FlatVector
+flat_vector (Ok v) = record { done = well_done; value = v }
+flat_vector (Err r) = record { done = flat_refusal r; value = zero_vec }
 
 unfoldable pub flat_lattice : Lattice → FlatLattice
 flat_lattice l = record { a = l.a; b = l.b; c = l.c; px = flag l.px; py = flag l.py; pz = flag l.pz }
@@ -116,38 +94,42 @@ abbrev pub zero_lattice : FlatLattice
 zero_lattice = record { a = zero_vec; b = zero_vec; c = zero_vec; px = 0; py = 0; pz = 0 }
 
 -- no cell: not present, and zeros
-unfoldable pub flat_cell : Cell → FlatCell
-flat_cell CellCases.Absent = record { present = 0; lattice = zero_lattice }
-flat_cell (CellCases.Present l) = record { present = 1; lattice = flat_lattice l }
+unfoldable pub flat_cell : Option Lattice → FlatCell
+flat_cell None = record { present = 0; lattice = zero_lattice }
+flat_cell (Some l) = record { present = 1; lattice = flat_lattice l }
 
-unfoldable pub flat_lattice_answer : LatticeAnswer → FlatLatticeAnswer
-flat_lattice_answer (LatticeAnswerCases.Answered l) = record { done = well_done; lattice = flat_lattice l }
-flat_lattice_answer (LatticeAnswerCases.Refused r) = record { done = flat_refusal r; lattice = zero_lattice }
+unfoldable pub flat_lattice_answer : Result Lattice Refusal → FlatLatticeAnswer
+flat_lattice_answer (Ok l) = record { done = well_done; lattice = flat_lattice l }
+flat_lattice_answer (Err r) = record { done = flat_refusal r; lattice = zero_lattice }
 
 -- an image with its counts (kind 0), or the word that there are none and zeros: one does not fit (1), no inverse (2)
 abbrev pub image_with : Vec3 → ℕ → ℤ → ℤ → ℤ → FlatImage
 image_with v kind x y z = record { diff = v; kind = kind; x = x; y = y; z = z }
 
-unfoldable pub with_boxes : Vec3 → Boxes → FlatImage
-with_boxes v (BoxesCases.Counted n) = image_with v 0 n.x n.y n.z
-with_boxes v BoxesCases.NoFit = image_with v 1 (pos 0) (pos 0) (pos 0)
-with_boxes v BoxesCases.NoInverse = image_with v 2 (pos 0) (pos 0) (pos 0)
+unfoldable pub with_boxes : Vec3 → Result Triple Uncounted → FlatImage
+with_boxes v (Ok n) = image_with v 0 n.x n.y n.z
+with_boxes v (Err NoFit) = image_with v 1 (pos 0) (pos 0) (pos 0)
+with_boxes v (Err NoInverse) = image_with v 2 (pos 0) (pos 0) (pos 0)
 
-unfoldable pub flat_image : ImageAnswer → FlatImageAnswer
-flat_image (ImageAnswerCases.Answered i) = record { done = well_done; image = with_boxes i.diff i.counts }
-flat_image (ImageAnswerCases.Refused r) = record { done = flat_refusal r; image = image_with zero_vec 0 (pos 0) (pos 0) (pos 0) }
+unfoldable pub flat_image : Result Image Refusal → FlatImageAnswer
+flat_image (Ok i) = record { done = well_done; image = with_boxes i.diff i.counts }
+flat_image (Err r) = record { done = flat_refusal r; image = image_with zero_vec 0 (pos 0) (pos 0) (pos 0) }
 
-unfoldable pub flat_rows : RowsAnswer → FlatRowsAnswer
-flat_rows a = record { done = flat_done a.done; rows = a.rows }
+-- zeros where there is no matrix, and where there is no inverse
+unfoldable pub flat_rows : Result Rows Refusal → FlatRowsAnswer
+flat_rows (Ok w) = record { done = well_done; rows = w }
+flat_rows (Err r) = record { done = flat_refusal r; rows = zero_rows }
 
-unfoldable pub flat_inverse : InverseAnswer → FlatInverseAnswer
-flat_inverse a = record { done = (flat_yes_no a.found).done; found = (flat_yes_no a.found).value; rows = a.rows }
+unfoldable pub flat_inverse : Result (Option Rows) Refusal → FlatInverseAnswer
+flat_inverse (Ok (Some w)) = record { done = well_done; found = 1; rows = w }
+flat_inverse (Ok None) = record { done = well_done; found = 0; rows = zero_rows }
+flat_inverse (Err r) = record { done = flat_refusal r; found = 0; rows = zero_rows }
 
 -- ---- virial
 
-unfoldable pub flat_summed : Summed → FlatSummed
-flat_summed (SummedCases.Answered s) = record { done = well_done; sum = s }
-flat_summed (SummedCases.Refused r) = record { done = flat_refusal r; sum = zero_sum }
+unfoldable pub flat_summed : Result Sum Refusal → FlatSummed
+flat_summed (Ok s) = record { done = well_done; sum = s }
+flat_summed (Err r) = record { done = flat_refusal r; sum = zero_sum }
 
 -- ---- the pair list. A state comes back in every case
 
@@ -177,18 +159,18 @@ zero_state =
       built_in = record { present = 0; lattice = zero_lattice };
     }
 
-unfoldable pub flat_state_answer : StateAnswer → FlatStateAnswer
-flat_state_answer (StateAnswerCases.Answered s) = record { done = well_done; state = flat_state s }
-flat_state_answer (StateAnswerCases.Refused r) = record { done = flat_refusal r; state = zero_state }
+unfoldable pub flat_state_answer : Result State Refusal → FlatStateAnswer
+flat_state_answer (Ok s) = record { done = well_done; state = flat_state s }
+flat_state_answer (Err r) = record { done = flat_refusal r; state = zero_state }
 
 unfoldable pub flat_updated : Updated → FlatUpdated
 flat_updated u = record { done = flat_done u.done; rebuilt = flag u.rebuilt; state = flat_state u.state }
 
 -- ---- the whole-number frame and the job sheet
 
-unfoldable pub flat_built : Built → FlatBuilt
-flat_built (BuiltCases.Answered pairs checks fallback) = record { done = well_done; pairs = pairs; checks = checks; fallback = flag fallback }
-flat_built (BuiltCases.Refused r) = record { done = flat_refusal r; pairs = 0; checks = 0; fallback = 0 }
+unfoldable pub flat_built : Result Built Refusal → FlatBuilt
+flat_built (Ok b) = record { done = well_done; pairs = b.pairs; checks = b.checks; fallback = flag b.fallback }
+flat_built (Err r) = record { done = flat_refusal r; pairs = 0; checks = 0; fallback = 0 }
 
 unfoldable pub flat_job : Job → FlatJob
 flat_job j =
@@ -207,9 +189,9 @@ flat_job j =
 abbrev pub zero_job : FlatJob
 zero_job = record { atoms = 0; ex = 0; ey = 0; ez = 0; px = 0; py = 0; pz = 0; radius = 0; count = 0 }
 
-unfoldable pub flat_sheet : sheet.Sheet → FlatSheet
-flat_sheet (SheetCases.Answered j) = record { done = well_done; job = flat_job j }
-flat_sheet (SheetCases.Refused r) = record { done = flat_refusal r; job = zero_job }
+unfoldable pub flat_sheet : Result Job Refusal → FlatSheet
+flat_sheet (Ok j) = record { done = well_done; job = flat_job j }
+flat_sheet (Err r) = record { done = flat_refusal r; job = zero_job }
 
 -- ---- terms
 
@@ -223,16 +205,16 @@ flat_lj lj = record { epsilon = lj.epsilon; sigma = lj.sigma; cutoff = lj.cutoff
 abbrev pub zero_lj : FlatLj
 zero_lj = record { epsilon = bits 0; sigma = bits 0; cutoff = bits 0; shift = 0; rule = 0 }
 
-unfoldable pub flat_lj_answer : LjAnswer → FlatLjAnswer
-flat_lj_answer (LjAnswerCases.Answered lj) = record { done = well_done; lj = flat_lj lj }
-flat_lj_answer (LjAnswerCases.Refused r) = record { done = flat_refusal r; lj = zero_lj }
+unfoldable pub flat_lj_answer : Result Lj Refusal → FlatLjAnswer
+flat_lj_answer (Ok lj) = record { done = well_done; lj = flat_lj lj }
+flat_lj_answer (Err r) = record { done = flat_refusal r; lj = zero_lj }
 
 abbrev pub zero_bond : Bond
 zero_bond = record { k = bits 0; r0 = bits 0 }
 
-unfoldable pub flat_bond_answer : BondAnswer → FlatBondAnswer
-flat_bond_answer (BondAnswerCases.Answered b) = record { done = well_done; bond = b }
-flat_bond_answer (BondAnswerCases.Refused r) = record { done = flat_refusal r; bond = zero_bond }
+unfoldable pub flat_bond_answer : Result Bond Refusal → FlatBondAnswer
+flat_bond_answer (Ok b) = record { done = well_done; bond = b }
+flat_bond_answer (Err r) = record { done = flat_refusal r; bond = zero_bond }
 
 unfoldable pub flat_evaluated : Evaluated → FlatEvaluated
 flat_evaluated e = record { done = flat_done e.done; rebuilt = flag e.rebuilt; state = flat_state e.state; sum = e.sum }

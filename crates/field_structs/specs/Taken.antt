@@ -1,25 +1,20 @@
 -- The argument that a struct from C stands for. Definitions only.
+use Rattle.std.specs.Prelude.{None, Option, Some}
+use Rattle.potentials.specs.declared.Bond.{Bond}
+use Rattle.potentials.specs.declared.coulomb.Coulomb.{Coulomb}
+use Rattle.potentials_angle.specs.declared.Angle.{Angle}
+use Rattle.verlet.specs.declared.Thermostat.{Thermostat}
 use Rattle.std.specs.Prelude.{ℕ, Bool, cond, not, ◌||◌, List, [], ◌∷◌, eqb, Float}
 use Rattle.std.specs.Float.Ieee.{neg}
 use Rattle.float.specs.Literals.{f1}
-use Rattle.cell.specs.declared.Cell.{Cell}
-use Rattle.cell.specs.declared.Cell.TheVariants as CellCases
 use Rattle.cell.specs.declared.Lattice.{Lattice}
 use Rattle.cell.specs.declared.Rows.{Rows}
 use Rattle.evaluate.specs.declared.Setting.{Setting}
 use Rattle.frame.specs.declared.Frame.{Frame}
 use Rattle.neighbor.specs.declared.State.{State}
-use Rattle.potentials.specs.declared.LjTerm.{LjTerm}
-use Rattle.potentials.specs.declared.LjTerm.TheVariants as LjTermCases
-use Rattle.potentials.specs.declared.CoulombTerm.{CoulombTerm}
-use Rattle.potentials.specs.declared.CoulombTerm.TheVariants as CoulombTermCases
-use Rattle.potentials.specs.declared.BondTerm.{BondTerm}
-use Rattle.potentials.specs.declared.BondTerm.TheVariants as BondTermCases
 use Rattle.potentials_pair.specs.declared.Lj.{Lj}
 use Rattle.potentials_pair.specs.declared.Mixing.{Mixing}
 use Rattle.potentials_pair.specs.declared.Mixing.TheVariants.{HalfSum, Geometric}
-use Rattle.verlet.specs.declared.Thermostat.{Thermostat}
-use Rattle.verlet.specs.declared.Thermostat.TheVariants as ThermostatCases
 use Rattle.verlet_step.specs.declared.Pace.{Pace}
 use Rattle.field_structs.specs.declared.FlatLattice.{FlatLattice}
 use Rattle.field_structs.specs.declared.FlatCell.{FlatCell}
@@ -27,8 +22,6 @@ use Rattle.field_structs.specs.declared.FlatState.{FlatState}
 use Rattle.field_structs.specs.declared.FlatLj.{FlatLj}
 use Rattle.field_structs.specs.declared.FlatLjTerm.{FlatLjTerm}
 use Rattle.field_structs.specs.declared.FlatCoulombTerm.{FlatCoulombTerm}
-use Rattle.potentials_angle.specs.declared.AngleTerm.{AngleTerm}
-use Rattle.potentials_angle.specs.declared.AngleTerm.TheVariants as AngleTermCases
 use Rattle.field_structs.specs.declared.FlatAngleTerm.{FlatAngleTerm}
 use Rattle.field_structs.specs.declared.FlatBondTerm.{FlatBondTerm}
 use Rattle.field_structs.specs.declared.FlatThermostat.{FlatThermostat}
@@ -43,8 +36,8 @@ is_set n = not (eqb n 0)
 unfoldable pub lattice_of : FlatLattice → Lattice
 lattice_of l = record { a = l.a; b = l.b; c = l.c; px = is_set l.px; py = is_set l.py; pz = is_set l.pz }
 
-unfoldable pub cell_of : FlatCell → Cell
-cell_of cell = cond (is_set cell.present) (CellCases.Present (lattice_of cell.lattice)) CellCases.Absent
+unfoldable pub cell_of : FlatCell → Option Lattice
+cell_of cell = cond (is_set cell.present) (Some (lattice_of cell.lattice)) None
 
 unfoldable pub state_of : FlatState → State
 state_of s =
@@ -70,20 +63,20 @@ unfoldable pub lj_of : FlatLj → Lj
 lj_of lj =
     record { epsilon = ruled_of lj.rule lj.epsilon; sigma = lj.sigma; cutoff = lj.cutoff; shift = is_set lj.shift; rule = mixing_of lj.rule }
 
-unfoldable pub lj_term_of : FlatLjTerm → LjTerm
-lj_term_of term = cond (is_set term.present) (LjTermCases.Present (lj_of term.lj)) LjTermCases.Absent
+unfoldable pub lj_term_of : FlatLjTerm → Option Lj
+lj_term_of term = cond (is_set term.present) (Some (lj_of term.lj)) None
 
-unfoldable pub coulomb_term_of : FlatCoulombTerm → CoulombTerm
-coulomb_term_of term = cond (is_set term.present) (CoulombTermCases.Present term.cutoff) CoulombTermCases.Absent
+unfoldable pub coulomb_term_of : FlatCoulombTerm → Option Coulomb
+coulomb_term_of term = cond (is_set term.present) (Some (record { cutoff = term.cutoff })) None
 
-unfoldable pub bond_term_of : FlatBondTerm → BondTerm
-bond_term_of term = cond (is_set term.present) (BondTermCases.Present term.bond) BondTermCases.Absent
+unfoldable pub bond_term_of : FlatBondTerm → Option Bond
+bond_term_of term = cond (is_set term.present) (Some term.bond) None
 
-unfoldable pub angle_term_of : FlatAngleTerm → AngleTerm
-angle_term_of term = cond (is_set term.present) (AngleTermCases.Present term.angle) AngleTermCases.Absent
+unfoldable pub angle_term_of : FlatAngleTerm → Option Angle
+angle_term_of term = cond (is_set term.present) (Some term.angle) None
 
-unfoldable pub thermostat_of : FlatThermostat → Thermostat
-thermostat_of t = cond (is_set t.present) (ThermostatCases.Present t.target_k t.tau_fs) ThermostatCases.Absent
+unfoldable pub thermostat_of : FlatThermostat → Option Thermostat
+thermostat_of t = cond (is_set t.present) (Some (record { target_k = t.target_k; tau_fs = t.tau_fs })) None
 
 unfoldable pub setting_of : FlatSetting → Setting
 setting_of s =

@@ -1,38 +1,32 @@
 // The structs of angles.
+#![tactic(auto, unfolding(crate::specs::Angles::flat_angle_answer, crate::specs::Taken::angle_term_of))]
+
 ghost use Rattle.std.specs.Prelude.{◌≡◌};
-ghost use Rattle.field_structs.specs.Angles.{zero_angle, flat_angle_answer};
+ghost use Rattle.field_structs.specs.Angles.{flat_angle_answer};
 ghost use Rattle.field_structs.specs.Taken.{angle_term_of};
 
-use crate::{FlatAngleAnswer, FlatAngleTerm, give};
-use potentials_angle::{Angle, AngleAnswer, AngleTerm};
+use crate::give::done_and_value;
+use crate::{FlatAngleAnswer, FlatAngleTerm};
+use answer::Refusal;
+use potentials_angle::Angle;
 
-fn zero_angle() -> Angle
-    ensures { result ≡ zero_angle }
-{
-    Angle { k: 0.0, rest: 0.0 }
-}
+impl From<Result<Angle, Refusal>> for FlatAngleAnswer {
+    ghost from_gives = { λ a r. r ≡ flat_angle_answer a };
 
-pub fn angle_answer(a: AngleAnswer) -> FlatAngleAnswer
-    ensures { result ≡ flat_angle_answer a }
-{
-    match a {
-        AngleAnswer::Answered(t) => FlatAngleAnswer {
-            done: give::well(),
-            angle: t,
-        },
-        AngleAnswer::Refused(why) => FlatAngleAnswer {
-            done: give::refusal(why),
-            angle: zero_angle(),
-        },
+    fn from(a: Result<Angle, Refusal>) -> FlatAngleAnswer {
+        let (done, angle) = done_and_value(a, Angle { k: 0.0, rest: 0.0 });
+        FlatAngleAnswer { done, angle }
     }
 }
 
-pub fn angle_term(term: FlatAngleTerm) -> AngleTerm
-    ensures { result ≡ angle_term_of term }
-{
-    if term.present != 0 {
-        let angle = term.angle;
-        return AngleTerm::Present(angle);
+impl From<FlatAngleTerm> for Option<Angle> {
+    ghost from_gives = { λ term r. r ≡ angle_term_of term };
+
+    fn from(term: FlatAngleTerm) -> Option<Angle> {
+        if term.present != 0 {
+            Some(term.angle)
+        } else {
+            None
+        }
     }
-    AngleTerm::Absent
 }

@@ -1,7 +1,9 @@
 // The struct that an answer is handed over as.
-ghost use Rattle.std.specs.Prelude.{◌≡◌};
+#![tactic(auto, unfolding(crate::specs::Flat::flat_refusal, crate::specs::Flat::flat_done, crate::specs::Flat::flat_number, crate::specs::Flat::flat_yes_no, crate::specs::Flat::flat_whole, crate::specs::Flat::flat_vector, crate::specs::Flat::flat_lattice, crate::specs::Flat::flat_cell, crate::specs::Flat::flat_lattice_answer, crate::specs::Flat::with_boxes, crate::specs::Flat::flat_image, crate::specs::Flat::flat_rows, crate::specs::Flat::flat_inverse, crate::specs::Flat::flat_summed, crate::specs::Flat::flat_state, crate::specs::Flat::flat_state_answer, crate::specs::Flat::flat_updated, crate::specs::Flat::flat_built, crate::specs::Flat::flat_job, crate::specs::Flat::flat_sheet, crate::specs::Flat::flat_rule, crate::specs::Flat::flat_lj, crate::specs::Flat::flat_lj_answer, crate::specs::Flat::flat_bond_answer, crate::specs::Flat::flat_evaluated, crate::specs::Flat::flat_stepped))]
+
+ghost use Rattle.std.specs.Prelude.{◌≡◌, MatchResult, Ok, pos};
 ghost use Rattle.cell.specs.Vec.{zero_vec};
-ghost use Rattle.field_structs.specs.Flat.{flag, well_done, flat_refusal, flat_done, flat_number, flat_yes_no, flat_whole, flat_vector, flat_lattice, zero_lattice, flat_cell, flat_lattice_answer, image_with, with_boxes, flat_image, flat_rows, flat_inverse, flat_summed, flat_state, zero_state, flat_state_answer, flat_updated, flat_built, flat_rule, flat_lj, zero_lj, flat_lj_answer, zero_bond, flat_bond_answer, flat_evaluated, flat_stepped, flat_job, zero_job, flat_sheet};
+ghost use Rattle.field_structs.specs.Flat.{well_done, flat_refusal, flat_done, flat_number, flat_yes_no, flat_whole, flat_vector, flat_lattice, zero_lattice, flat_cell, flat_lattice_answer, image_with, with_boxes, flat_image, flat_rows, flat_inverse, flat_summed, flat_state, flat_state_answer, flat_updated, flat_built, flat_rule, flat_lj, flat_lj_answer, flat_bond_answer, flat_evaluated, flat_stepped, flat_job, flat_sheet};
 
 use crate::{
     FlatBondAnswer, FlatBuilt, FlatCell, FlatDone, FlatEvaluated, FlatImage, FlatImageAnswer,
@@ -9,412 +11,325 @@ use crate::{
     FlatRowsAnswer, FlatSheet, FlatState, FlatStateAnswer, FlatStepped, FlatSummed, FlatUpdated,
     FlatVector, FlatWhole, FlatYesNo,
 };
-use answer::{Done, Number, Refusal, Whole, YesNo};
-use cell::{
-    Boxes, Cell, ImageAnswer, InverseAnswer, Lattice, LatticeAnswer, RowsAnswer, Vec3, Vector,
-};
+use answer::Refusal;
+use cell::{Image, Lattice, Rows, Triple, Uncounted, Vec3, matrices, vectors};
 use evaluate::Evaluated;
 use frame::Built;
-use neighbor::{State, StateAnswer, Updated};
-use potentials::{Bond, BondAnswer, LjAnswer};
+use neighbor::{State, Updated};
+use potentials::Bond;
 use potentials_pair::{Lj, Mixing};
-use sheet::{Job, Sheet};
+use sheet::Job;
 use verlet_step::Stepped;
-use virial::Summed;
-
-// 1 where it is set.
-pub fn flag_of(b: bool) -> u32
-    ensures { result ≡ flag b }
-{
-    if b {
-        return 1;
-    }
-    0
-}
+use virial::Sum;
 
 // ---- refusals
 
-pub fn well() -> FlatDone
-    ensures { result ≡ well_done }
-{
-    FlatDone {
-        number: 0,
-        place: 0,
+impl From<Refusal> for FlatDone {
+    ghost from_gives = { λ why r. r ≡ flat_refusal why };
+
+    fn from(why: Refusal) -> FlatDone {
+        FlatDone {
+            number: why.number(),
+            place: why.place(),
+        }
     }
 }
 
-pub fn refusal(why: Refusal) -> FlatDone
-    ensures { result ≡ flat_refusal why }
-{
-    FlatDone {
-        number: why.number(),
-        place: why.place(),
+impl From<Result<(), Refusal>> for FlatDone {
+    ghost from_gives = { λ a r. r ≡ flat_done a };
+
+    fn from(a: Result<(), Refusal>) -> FlatDone {
+        match a {
+            Ok(()) => FlatDone::default(),
+            Err(why) => why.into(),
+        }
     }
 }
 
-pub fn done(a: Done) -> FlatDone
-    ensures { result ≡ flat_done a }
+// The two parts of an answer: what its `done` is, and its value, `zeros` where it is refused.
+pub(crate) fn done_and_value<T, E: Into<FlatDone>, F: From<T> + Drop>(
+    a: Result<T, E>,
+    zeros: F,
+) -> (FlatDone, F)
+    ensures { MatchResult a (λ x. (result.0 ≡ well_done) × F.from_gives x result.1) (λ why. E.converts why result.0 × (result.1 ≡ zeros)) }
 {
     match a {
-        Done::Answered => well(),
-        Done::Refused(why) => refusal(why),
+        Ok(x) => (FlatDone::default(), x.into()),
+        Err(why) => (why.into(), zeros),
     }
 }
 
 // ---- plain answers
 
-pub fn number(a: Number) -> FlatNumber
-    ensures { result ≡ flat_number a }
-{
-    match a {
-        Number::Answered(x) => FlatNumber {
-            done: well(),
-            value: x,
-        },
-        Number::Refused(why) => FlatNumber {
-            done: refusal(why),
-            value: 0.0,
-        },
+impl From<Result<f64, Refusal>> for FlatNumber {
+    ghost from_gives = { λ a r. r ≡ flat_number a };
+
+    fn from(a: Result<f64, Refusal>) -> FlatNumber {
+        let (done, value) = done_and_value(a, 0.0);
+        FlatNumber { done, value }
     }
 }
 
-pub fn yes_no(a: YesNo) -> FlatYesNo
-    ensures { result ≡ flat_yes_no a }
-{
-    match a {
-        YesNo::Answered(b) => FlatYesNo {
-            done: well(),
-            value: flag_of(b),
-        },
-        YesNo::Refused(why) => FlatYesNo {
-            done: refusal(why),
-            value: 0,
-        },
+impl From<Result<bool, Refusal>> for FlatYesNo {
+    ghost from_gives = { λ a r. r ≡ flat_yes_no a };
+
+    fn from(a: Result<bool, Refusal>) -> FlatYesNo {
+        let (done, value) = done_and_value(a, 0);
+        FlatYesNo { done, value }
     }
 }
 
-pub fn whole(a: Whole) -> FlatWhole
-    ensures { result ≡ flat_whole a }
-{
-    match a {
-        Whole::Answered(n) => FlatWhole {
-            done: well(),
-            value: n,
-        },
-        Whole::Refused(why) => FlatWhole {
-            done: refusal(why),
-            value: 0,
-        },
+impl From<Result<u64, Refusal>> for FlatWhole {
+    ghost from_gives = { λ a r. r ≡ flat_whole a };
+
+    fn from(a: Result<u64, Refusal>) -> FlatWhole {
+        let (done, value) = done_and_value(a, 0);
+        FlatWhole { done, value }
     }
 }
 
 // ---- cell
 
-fn zero_vec() -> Vec3
-    ensures { result ≡ zero_vec }
-{
-    Vec3 {
-        x: 0.0,
-        y: 0.0,
-        z: 0.0,
+impl From<Result<Vec3, Refusal>> for FlatVector {
+    ghost from_gives = { λ a r. r ≡ flat_vector a };
+
+    fn from(a: Result<Vec3, Refusal>) -> FlatVector {
+        let (done, value) = done_and_value(a, vectors::zero());
+        FlatVector { done, value }
     }
 }
 
-pub fn vector(a: Vector) -> FlatVector
-    ensures { result ≡ flat_vector a }
-{
-    match a {
-        Vector::Answered(v) => FlatVector {
-            done: well(),
-            value: v,
-        },
-        Vector::Refused(why) => FlatVector {
-            done: refusal(why),
-            value: zero_vec(),
-        },
-    }
-}
+impl From<Lattice> for FlatLattice {
+    ghost from_gives = { λ l r. r ≡ flat_lattice l };
 
-pub fn lattice(l: Lattice) -> FlatLattice
-    ensures { result ≡ flat_lattice l }
-{
-    let a = l.a;
-    let b = l.b;
-    let c = l.c;
-    FlatLattice {
-        a,
-        b,
-        c,
-        px: flag_of(l.px),
-        py: flag_of(l.py),
-        pz: flag_of(l.pz),
-    }
-}
-
-fn zero_lattice() -> FlatLattice
-    ensures { result ≡ zero_lattice }
-{
-    FlatLattice {
-        a: zero_vec(),
-        b: zero_vec(),
-        c: zero_vec(),
-        px: 0,
-        py: 0,
-        pz: 0,
-    }
-}
-
-pub fn lattice_answer(a: LatticeAnswer) -> FlatLatticeAnswer
-    ensures { result ≡ flat_lattice_answer a }
-{
-    match a {
-        LatticeAnswer::Answered(l) => FlatLatticeAnswer {
-            done: well(),
-            lattice: lattice(l),
-        },
-        LatticeAnswer::Refused(why) => FlatLatticeAnswer {
-            done: refusal(why),
-            lattice: zero_lattice(),
-        },
-    }
-}
-
-fn flat_counted(diff: Vec3, kind: u32, x: i32, y: i32, z: i32) -> FlatImage
-    ensures { result ≡ image_with diff kind x y z }
-{
-    FlatImage {
-        diff: diff,
-        kind: kind,
-        x: x,
-        y: y,
-        z: z,
-    }
-}
-
-fn with_boxes(diff: Vec3, counts: Boxes) -> FlatImage
-    ensures { result ≡ with_boxes diff counts }
-{
-    match counts {
-        Boxes::Counted(n) => flat_counted(diff, 0, n.x, n.y, n.z),
-        Boxes::NoFit => flat_counted(diff, 1, 0, 0, 0),
-        Boxes::NoInverse => flat_counted(diff, 2, 0, 0, 0),
-    }
-}
-
-pub fn image(a: ImageAnswer) -> FlatImageAnswer
-    ensures { result ≡ flat_image a }
-{
-    match a {
-        ImageAnswer::Answered(i) => {
-            let diff = i.diff;
-            let counts = i.counts;
-            FlatImageAnswer {
-                done: well(),
-                image: with_boxes(diff, counts),
-            }
+    fn from(l: Lattice) -> FlatLattice {
+        FlatLattice {
+            a: l.a,
+            b: l.b,
+            c: l.c,
+            px: l.px.into(),
+            py: l.py.into(),
+            pz: l.pz.into(),
         }
-        ImageAnswer::Refused(why) => FlatImageAnswer {
-            done: refusal(why),
-            image: flat_counted(zero_vec(), 0, 0, 0, 0),
-        },
     }
 }
 
-pub fn rows(a: RowsAnswer) -> FlatRowsAnswer
-    ensures { result ≡ flat_rows a }
-{
-    let answer = a.done;
-    let rows = a.rows;
-    FlatRowsAnswer {
-        done: done(answer),
-        rows,
+// Written out, as `Vec3` has no `Default`; so is that of `FlatImage`.
+impl Default for FlatLattice {
+    ghost is_default = { λ r. r ≡ zero_lattice };
+
+    fn default() -> FlatLattice {
+        FlatLattice {
+            a: vectors::zero(),
+            b: vectors::zero(),
+            c: vectors::zero(),
+            px: 0,
+            py: 0,
+            pz: 0,
+        }
     }
 }
 
-pub fn inverse(a: InverseAnswer) -> FlatInverseAnswer
-    ensures { result ≡ flat_inverse a }
-{
-    let answer = a.found;
-    let rows = a.rows;
-    let found = yes_no(answer);
-    let done = found.done;
-    FlatInverseAnswer {
-        done,
-        found: found.value,
-        rows,
+impl From<Result<Lattice, Refusal>> for FlatLatticeAnswer {
+    ghost from_gives = { λ a r. r ≡ flat_lattice_answer a };
+
+    fn from(a: Result<Lattice, Refusal>) -> FlatLatticeAnswer {
+        let (done, lattice) = done_and_value(a, FlatLattice::default());
+        FlatLatticeAnswer { done, lattice }
+    }
+}
+
+impl Default for FlatImage {
+    ghost is_default = { λ r. r ≡ image_with zero_vec 0 (pos 0) (pos 0) (pos 0) };
+
+    fn default() -> FlatImage {
+        FlatImage {
+            diff: vectors::zero(),
+            kind: 0,
+            x: 0,
+            y: 0,
+            z: 0,
+        }
+    }
+}
+
+impl From<Image> for FlatImage {
+    ghost from_gives = { λ i r. r ≡ with_boxes i.diff i.counts };
+
+    fn from(i: Image) -> FlatImage {
+        let uncounted = FlatImage {
+            diff: i.diff,
+            ..FlatImage::default()
+        };
+        match i.counts {
+            Ok(Triple { x, y, z }) => FlatImage {
+                x,
+                y,
+                z,
+                ..uncounted
+            },
+            Err(Uncounted::NoFit) => FlatImage {
+                kind: 1,
+                ..uncounted
+            },
+            Err(Uncounted::NoInverse) => FlatImage {
+                kind: 2,
+                ..uncounted
+            },
+        }
+    }
+}
+
+impl From<Result<Image, Refusal>> for FlatImageAnswer {
+    ghost from_gives = { λ a r. r ≡ flat_image a };
+
+    fn from(a: Result<Image, Refusal>) -> FlatImageAnswer {
+        let (done, image) = done_and_value(a, FlatImage::default());
+        FlatImageAnswer { done, image }
+    }
+}
+
+impl From<Result<Rows, Refusal>> for FlatRowsAnswer {
+    ghost from_gives = { λ a r. r ≡ flat_rows a };
+
+    fn from(a: Result<Rows, Refusal>) -> FlatRowsAnswer {
+        let (done, rows) = done_and_value(a, matrices::zero_rows());
+        FlatRowsAnswer { done, rows }
+    }
+}
+
+impl From<Result<Option<Rows>, Refusal>> for FlatInverseAnswer {
+    ghost from_gives = { λ a r. r ≡ flat_inverse a };
+
+    fn from(a: Result<Option<Rows>, Refusal>) -> FlatInverseAnswer {
+        let (done, inverse): (FlatDone, Option<Rows>) = done_and_value(a, None);
+        FlatInverseAnswer {
+            done,
+            found: inverse.is_some().into(),
+            rows: inverse.unwrap_or(matrices::zero_rows()),
+        }
     }
 }
 
 // ---- virial
 
-pub fn summed(a: Summed) -> FlatSummed
-    ensures { result ≡ flat_summed a }
-{
-    match a {
-        Summed::Answered(s) => FlatSummed {
-            done: well(),
-            sum: s,
-        },
-        Summed::Refused(why) => FlatSummed {
-            done: refusal(why),
-            sum: virial::kernel::zero(),
-        },
+impl From<Result<Sum, Refusal>> for FlatSummed {
+    ghost from_gives = { λ a r. r ≡ flat_summed a };
+
+    fn from(a: Result<Sum, Refusal>) -> FlatSummed {
+        let (done, sum) = done_and_value(a, virial::kernel::zero());
+        FlatSummed { done, sum }
     }
 }
 
 // ---- the pair list
 
-// A cell, or none: not present, and zeros.
-fn cell(cell: Cell) -> FlatCell
-    ensures { result ≡ flat_cell cell }
-{
-    match cell {
-        Cell::Absent => FlatCell {
-            present: 0,
-            lattice: zero_lattice(),
-        },
-        Cell::Present(l) => FlatCell {
-            present: 1,
-            lattice: lattice(l),
-        },
+impl From<Option<Lattice>> for FlatCell {
+    ghost from_gives = { λ cell r. r ≡ flat_cell cell };
+
+    fn from(cell: Option<Lattice>) -> FlatCell {
+        match cell {
+            None => FlatCell::default(),
+            Some(l) => FlatCell {
+                present: 1,
+                lattice: l.into(),
+            },
+        }
     }
 }
 
-pub fn state(s: State) -> FlatState
-    ensures { result ≡ flat_state s }
-{
-    let remembered = s.built_in;
-    FlatState {
-        cutoff: s.cutoff,
-        skin: s.skin,
-        pairs: s.pairs,
-        references: s.references,
-        checks: s.checks,
-        fallback: flag_of(s.fallback),
-        builds: s.builds,
-        built_in: cell(remembered),
+impl From<State> for FlatState {
+    ghost from_gives = { λ s r. r ≡ flat_state s };
+
+    fn from(s: State) -> FlatState {
+        FlatState {
+            cutoff: s.cutoff,
+            skin: s.skin,
+            pairs: s.pairs,
+            references: s.references,
+            checks: s.checks,
+            fallback: s.fallback.into(),
+            builds: s.builds,
+            built_in: s.built_in.into(),
+        }
     }
 }
 
-fn zero_state() -> FlatState
-    ensures { result ≡ zero_state }
-{
-    FlatState {
-        cutoff: 0.0,
-        skin: 0.0,
-        pairs: 0,
-        references: 0,
-        checks: 0,
-        fallback: 0,
-        builds: 0,
-        built_in: FlatCell {
-            present: 0,
-            lattice: zero_lattice(),
-        },
+impl From<Result<State, Refusal>> for FlatStateAnswer {
+    ghost from_gives = { λ a r. r ≡ flat_state_answer a };
+
+    fn from(a: Result<State, Refusal>) -> FlatStateAnswer {
+        let (done, state) = done_and_value(a, FlatState::default());
+        FlatStateAnswer { done, state }
     }
 }
 
-pub fn state_answer(a: StateAnswer) -> FlatStateAnswer
-    ensures { result ≡ flat_state_answer a }
-{
-    match a {
-        StateAnswer::Answered(s) => FlatStateAnswer {
-            done: well(),
-            state: state(s),
-        },
-        StateAnswer::Refused(why) => FlatStateAnswer {
-            done: refusal(why),
-            state: zero_state(),
-        },
-    }
-}
+impl From<Updated> for FlatUpdated {
+    ghost from_gives = { λ u r. r ≡ flat_updated u };
 
-pub fn updated(u: Updated) -> FlatUpdated
-    ensures { result ≡ flat_updated u }
-{
-    let answer = u.done;
-    let list = u.state;
-    FlatUpdated {
-        done: done(answer),
-        rebuilt: flag_of(u.rebuilt),
-        state: state(list),
+    fn from(u: Updated) -> FlatUpdated {
+        FlatUpdated {
+            done: u.done.into(),
+            rebuilt: u.rebuilt.into(),
+            state: u.state.into(),
+        }
     }
 }
 
 // ---- the whole-number frame and the job sheet
 
-pub fn built(a: Built) -> FlatBuilt
-    ensures { result ≡ flat_built a }
-{
-    match a {
-        Built::Answered {
-            pairs,
-            checks,
-            fallback,
-        } => FlatBuilt {
-            done: well(),
-            pairs,
-            checks,
-            fallback: flag_of(fallback),
-        },
-        Built::Refused(why) => FlatBuilt {
-            done: refusal(why),
-            pairs: 0,
-            checks: 0,
-            fallback: 0,
-        },
+impl From<Built> for FlatBuilt {
+    ghost from_gives = { λ b r. r ≡ flat_built (Ok b) };
+
+    fn from(b: Built) -> FlatBuilt {
+        FlatBuilt {
+            done: FlatDone::default(),
+            pairs: b.pairs,
+            checks: b.checks,
+            fallback: b.fallback.into(),
+        }
     }
 }
 
-pub(crate) fn job(j: Job) -> FlatJob
-    ensures { result ≡ flat_job j }
-{
-    FlatJob {
-        atoms: j.atoms,
-        ex: j.ex,
-        ey: j.ey,
-        ez: j.ez,
-        px: flag_of(j.px),
-        py: flag_of(j.py),
-        pz: flag_of(j.pz),
-        radius: j.radius,
-        count: j.count,
+impl From<Result<Built, Refusal>> for FlatBuilt {
+    ghost from_gives = { λ a r. r ≡ flat_built a };
+
+    fn from(a: Result<Built, Refusal>) -> FlatBuilt {
+        let (done, built) = done_and_value(a, FlatBuilt::default());
+        FlatBuilt { done, ..built }
     }
 }
 
-pub(crate) fn zero_job() -> FlatJob
-    ensures { result ≡ zero_job }
-{
-    FlatJob {
-        atoms: 0,
-        ex: 0,
-        ey: 0,
-        ez: 0,
-        px: 0,
-        py: 0,
-        pz: 0,
-        radius: 0,
-        count: 0,
+impl From<Job> for FlatJob {
+    ghost from_gives = { λ j r. r ≡ flat_job j };
+
+    fn from(j: Job) -> FlatJob {
+        FlatJob {
+            atoms: j.atoms,
+            ex: j.ex,
+            ey: j.ey,
+            ez: j.ez,
+            px: j.px.into(),
+            py: j.py.into(),
+            pz: j.pz.into(),
+            radius: j.radius,
+            count: j.count,
+        }
     }
 }
 
-pub fn sheet(a: Sheet) -> FlatSheet
-    ensures { result ≡ flat_sheet a }
-{
-    match a {
-        Sheet::Answered(j) => FlatSheet {
-            done: well(),
-            job: job(j),
-        },
-        Sheet::Refused(why) => FlatSheet {
-            done: refusal(why),
-            job: zero_job(),
-        },
+impl From<Result<Job, Refusal>> for FlatSheet {
+    ghost from_gives = { λ a r. r ≡ flat_sheet a };
+
+    fn from(a: Result<Job, Refusal>) -> FlatSheet {
+        let (done, job) = done_and_value(a, FlatJob::default());
+        FlatSheet { done, job }
     }
 }
 
 // ---- terms
 
+// A function and no `From`, which needs a type of this crate on one side.
 fn rule_number(rule: Mixing) -> u32
     ensures { result ≡ flat_rule rule }
 {
@@ -424,91 +339,61 @@ fn rule_number(rule: Mixing) -> u32
     }
 }
 
-pub fn lj(lj: Lj) -> FlatLj
-    ensures { result ≡ flat_lj lj }
-{
-    let rule = lj.rule;
-    FlatLj {
-        epsilon: lj.epsilon,
-        sigma: lj.sigma,
-        cutoff: lj.cutoff,
-        shift: flag_of(lj.shift),
-        rule: rule_number(rule),
+impl From<Lj> for FlatLj {
+    ghost from_gives = { λ lj r. r ≡ flat_lj lj };
+
+    fn from(lj: Lj) -> FlatLj {
+        FlatLj {
+            epsilon: lj.epsilon,
+            sigma: lj.sigma,
+            cutoff: lj.cutoff,
+            shift: lj.shift.into(),
+            rule: rule_number(lj.rule),
+        }
     }
 }
 
-fn zero_lj() -> FlatLj
-    ensures { result ≡ zero_lj }
-{
-    FlatLj {
-        epsilon: 0.0,
-        sigma: 0.0,
-        cutoff: 0.0,
-        shift: 0,
-        rule: 0,
+impl From<Result<Lj, Refusal>> for FlatLjAnswer {
+    ghost from_gives = { λ a r. r ≡ flat_lj_answer a };
+
+    fn from(a: Result<Lj, Refusal>) -> FlatLjAnswer {
+        let (done, lj) = done_and_value(a, FlatLj::default());
+        FlatLjAnswer { done, lj }
     }
 }
 
-pub fn lj_answer(a: LjAnswer) -> FlatLjAnswer
-    ensures { result ≡ flat_lj_answer a }
-{
-    match a {
-        LjAnswer::Answered(t) => FlatLjAnswer {
-            done: well(),
-            lj: lj(t),
-        },
-        LjAnswer::Refused(why) => FlatLjAnswer {
-            done: refusal(why),
-            lj: zero_lj(),
-        },
+impl From<Result<Bond, Refusal>> for FlatBondAnswer {
+    ghost from_gives = { λ a r. r ≡ flat_bond_answer a };
+
+    fn from(a: Result<Bond, Refusal>) -> FlatBondAnswer {
+        let (done, bond) = done_and_value(a, Bond { k: 0.0, r0: 0.0 });
+        FlatBondAnswer { done, bond }
     }
 }
 
-fn zero_bond() -> Bond
-    ensures { result ≡ zero_bond }
-{
-    Bond { k: 0.0, r0: 0.0 }
-}
+impl From<Evaluated> for FlatEvaluated {
+    ghost from_gives = { λ e r. r ≡ flat_evaluated e };
 
-pub fn bond_answer(a: BondAnswer) -> FlatBondAnswer
-    ensures { result ≡ flat_bond_answer a }
-{
-    match a {
-        BondAnswer::Answered(b) => FlatBondAnswer {
-            done: well(),
-            bond: b,
-        },
-        BondAnswer::Refused(why) => FlatBondAnswer {
-            done: refusal(why),
-            bond: zero_bond(),
-        },
+    fn from(e: Evaluated) -> FlatEvaluated {
+        FlatEvaluated {
+            done: e.done.into(),
+            rebuilt: e.rebuilt.into(),
+            state: e.state.into(),
+            sum: e.sum,
+        }
     }
 }
 
-pub fn evaluated(e: Evaluated) -> FlatEvaluated
-    ensures { result ≡ flat_evaluated e }
-{
-    let answer = e.done;
-    let list = e.state;
-    let sum = e.sum;
-    FlatEvaluated {
-        done: done(answer),
-        rebuilt: flag_of(e.rebuilt),
-        state: state(list),
-        sum,
-    }
-}
+impl From<Stepped> for FlatStepped {
+    ghost from_gives = { λ a r. r ≡ flat_stepped a };
 
-pub fn stepped(a: Stepped) -> FlatStepped
-    ensures { result ≡ flat_stepped a }
-{
-    let answer = a.done;
-    let list = a.state;
-    FlatStepped {
-        done: done(answer),
-        stopped: flag_of(a.stopped),
-        rebuilt: flag_of(a.rebuilt),
-        state: state(list),
-        potential: a.potential,
+    fn from(a: Stepped) -> FlatStepped {
+        FlatStepped {
+            done: a.done.into(),
+            stopped: a.stopped.into(),
+            rebuilt: a.rebuilt.into(),
+            state: a.state.into(),
+            potential: a.potential,
+        }
     }
 }

@@ -1,6 +1,7 @@
 // What crosses the boundary to C: structs of numbers in place of enums and flags. An answer holds a refusal's number and place (0 and 0 where it is
 // answered) and the values, zeros where there are none; a flag is read as C does, set where it is not 0, and handed back as 0 or 1. specs/Flat.antt says
-// which answer each struct stands for, specs/Taken.antt which argument. `give` turns an answer into its struct, `take` a struct into an argument.
+// which answer each struct stands for, specs/Taken.antt which argument. `From` turns an answer into its struct (`give`) and a struct into
+// an argument (`take`); a `Default` is all zeros.
 #![tactic(auto)]
 
 use cell::{Rows, Vec3};
@@ -9,12 +10,12 @@ use potentials_angle::Angle;
 use strike::Left;
 use virial::{Sum, Units};
 
-pub mod angles;
-pub mod give;
-pub mod give_counted;
-pub mod give_forms;
-pub mod settlings;
-pub mod strikes;
+mod angles;
+mod give;
+mod give_counted;
+mod give_forms;
+mod settlings;
+mod strikes;
 pub mod take;
 
 // ---- arguments
@@ -33,7 +34,7 @@ pub struct FlatLattice {
 
 // No cell (present 0), or a lattice (present not 0).
 #[repr(C)]
-#[derive(Drop)]
+#[derive(Default, Drop)]
 pub struct FlatCell {
     pub present: u32,
     pub lattice: FlatLattice,
@@ -42,7 +43,7 @@ pub struct FlatCell {
 // The settings of a pair list and what it claims of the lent memory; fallback is a flag. built_in is the cell of its last answered build, not present where
 // there is none. What a call hands back goes into the next one.
 #[repr(C)]
-#[derive(Drop)]
+#[derive(Default, Drop)]
 pub struct FlatState {
     pub cutoff: f64,
     pub skin: f64,
@@ -57,7 +58,7 @@ pub struct FlatState {
 // Lennard-Jones numbers; epsilon and sigma are those of a species that the table lacks, shift is a flag, rule mixes
 // sigmas: 1 by the half sum, 2 by the root of the product; another number is out of range (3).
 #[repr(C)]
-#[derive(Drop)]
+#[derive(Default, Drop)]
 pub struct FlatLj {
     pub epsilon: f64,
     pub sigma: f64,
@@ -154,7 +155,7 @@ pub struct FlatFrame {
 
 // Answered (number 0, place 0), or a refusal's number and place.
 #[repr(C)]
-#[derive(Drop)]
+#[derive(Default, Drop)]
 pub struct FlatDone {
     pub number: u64,
     pub place: u64,
@@ -261,7 +262,7 @@ pub struct FlatUpdated {
 
 // The pairs stored, the distances evaluated, and whether no grid was laid (a flag).
 #[repr(C)]
-#[derive(Drop)]
+#[derive(Default, Drop)]
 pub struct FlatBuilt {
     pub done: FlatDone,
     pub pairs: u32,
@@ -346,7 +347,7 @@ pub struct FlatEntered {
 
 // What a job sheet says beside its coordinates and exclusions; px, py, pz are flags.
 #[repr(C)]
-#[derive(Drop)]
+#[derive(Default, Drop)]
 pub struct FlatJob {
     pub atoms: u32,
     pub ex: u32,
@@ -368,7 +369,7 @@ pub struct FlatSheet {
 
 // What a job sheet of either form says; form is that of its header, 1 or 2, rule its mixing rule, 1 or 2.
 #[repr(C)]
-#[derive(Drop)]
+#[derive(Default, Drop)]
 pub struct FlatFormed {
     pub done: FlatDone,
     pub job: FlatJob,

@@ -3,7 +3,7 @@ use Prim.Native.Nat.{ℕ}
 use mathlib.Core.Path.{◌≡◌, sym, ap, ◌∙◌}
 use mathlib.Core.List.{List}
 use lib.Ieee.{Float}
-use Rattle.answer.proofs.Only.{done_only}
+use Rattle.answer.proofs.Only.{seen_only}
 use Rattle.verlet_step.specs.Calls.{Motion}
 use Rattle.fire.specs.declared.FireOptions.{FireOptions}
 use Rattle.fire.specs.declared.Fired.{Fired}
@@ -13,7 +13,7 @@ module _ {r r' : Fired} {xs xs' vs vs' : List Float} {pairs pairs' : List ℕ} {
     (same : shown r xs vs pairs references starts items forces ≡ shown r' xs' vs' pairs' references' starts' items' forces') where
   answers : r ≡ r'
   answers =
-      let d = done_only r.done r'.done (ap (λ (o : Outcome). o.answer) same) in
+      let d = seen_only r.done r'.done (ap (λ (o : Outcome). o.answer) same) in
       λ i. record { done = d i; iteration = (same i).iteration; stopped = (same i).stopped; converged = (same i).converged; energy = (same i).energy; max_force = (same i).largest; state = (same i).state }
 
   shown_only : (r ≡ r') × (xs ≡ xs') × (vs ≡ vs') × (pairs ≡ pairs') × (references ≡ references') × (starts ≡ starts') × (items ≡ items') × (forces ≡ forces')

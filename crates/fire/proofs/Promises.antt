@@ -1,12 +1,12 @@
 -- What an outcome of `fire` tells, by induction over the iterations. Assumes nothing.
+use Rattle.std.specs.Prelude.{Err, Ok, Result}
+use Rattle.answer.specs.declared.Refusal.{Refusal}
 use Prim.Native.Nat.{ℕ, zero, suc, ◌+◌, ◌≤◌, ◌<◌}
 use native.Mathlib.Omega.{arith}
 use mathlib.Core.Path.{◌≡◌, refl, sym, ap, ◌∙◌, subst}
 use mathlib.Core.Bool.{true, false, false≢true}
 use lib.Ieee.{Float, le, lt}
 use lib.ListN.{length}
-use Rattle.answer.specs.declared.Done.{Done}
-use Rattle.answer.specs.declared.Done.TheVariants.{Answered, Refused}
 use Rattle.answer.specs.declared.Refusal.TheVariants.{Drifted}
 use Rattle.answer.specs.Seen.{Seen, answered, refused}
 use Rattle.float.specs.Arith.{at}
@@ -42,10 +42,10 @@ ran_within : (o : FireOptions) (m : Motion) → (ran_by settled_of o m).iteratio
 unfolding ran_by
 ran_within o m = omega (arith, within settled_of o.dt_max o.force_tol m o.max_iters (begun_by settled_of m), (begun_counts m settled_of).1)
 
-unless_within : (o : FireOptions) (m : Motion) (d : Done) → (ran_unless o m d).iteration ≤ o.max_iters
+unless_within : (o : FireOptions) (m : Motion) (d : Result (Unit {0}) Refusal) → (ran_unless o m d).iteration ≤ o.max_iters
 unfolding ran_unless
-unless_within o m (Refused r) = omega arith
-unless_within o m Answered = ran_within o m
+unless_within o m (Err r) = omega arith
+unless_within o m (Ok tt) = ran_within o m
 
 pub fire_ends : (o : FireOptions) (m : Motion) → FireEnds o m
 unfolding fired_of
@@ -139,10 +139,10 @@ ran_holds : (o : FireOptions) (m : Motion) → Holds m (ran_by settled_of o m)
 unfolding ran_by
 ran_holds o m = relaxed_holds o.dt_max o.force_tol m o.max_iters (begun_by settled_of m) (begun_holds m)
 
-unless_holds : (o : FireOptions) (m : Motion) (d : Done) → Holds m (ran_unless o m d)
+unless_holds : (o : FireOptions) (m : Motion) (d : Result (Unit {0}) Refusal) → Holds m (ran_unless o m d)
 unfolding ran_unless
-unless_holds o m (Refused r) h = absurd (not_both h)
-unless_holds o m Answered h = ran_holds o m h
+unless_holds o m (Err r) h = absurd (not_both h)
+unless_holds o m (Ok tt) h = ran_holds o m h
 
 -- ---- the energy is that of the evaluation at the positions left
 left_by : (tol : Float) (m : Motion) (s : Relaxing) → Held m s → LeftBy m (ended tol s)

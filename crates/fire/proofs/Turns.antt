@@ -1,4 +1,5 @@
 -- A relaxation by its parts: the first evaluation, an iteration, the fold over iterations. Assumes nothing.
+use Rattle.std.specs.Prelude.{Err, Ok, Result}
 use Prim.Native.Nat.{ℕ, zero, suc, ◌+◌, ◌-◌, ◌≤◌, ◌<◌}
 use native.Mathlib.Nat.{le_of_eq}
 use native.Mathlib.Omega.{arith}
@@ -8,9 +9,7 @@ use mathlib.Core.List.{List}
 use lib.Ieee.{Float, lt}
 use lib.Dec.{ltb}
 use lib.ListN.{length}
-use Rattle.answer.specs.declared.Done.{Done}
-use Rattle.answer.specs.declared.Done.TheVariants.{Answered, Refused}
-use Rattle.answer.specs.Seen.{Seen, answered, refused, seen_done}
+use Rattle.answer.specs.Seen.{Seen, answered, refused, seen}
 use Rattle.float.specs.Literals.{f0}
 use Rattle.evaluate.specs.declared.Evaluated.{Evaluated}
 use Rattle.answer.specs.declared.Refusal.{Refusal}
@@ -37,11 +36,11 @@ module _ (m : Motion) (e : Evaluated) (pairs : List ℕ) (references : List Floa
   abbrev seen_first : Paced → Relaxing
   seen_first k = relaxing_of k.stage m.job.given.positions k.velocities pairs references starts items forces
 
-  first_after : (d : Done) → e.done ≡ d
-      → seen_first (paced_first m.dt forces m.velocities e d) ≡ begun_after m (seen_done d) (Evaluation.shown e pairs references starts items forces)
+  first_after : (d : Result (Unit {0}) Refusal) → e.done ≡ d
+      → seen_first (paced_first m.dt forces m.velocities e d) ≡ begun_after m (seen d) (Evaluation.shown e pairs references starts items forces)
   unfolding paced_first begun_after
-  first_after Answered h = refl
-  first_after (Refused r) h = refl
+  first_after (Ok tt) h = refl
+  first_after (Err r) h = refl
 
   pub begun_by_lem : Evaluation.shown e pairs references starts items forces ≡ settled_in m.job → {r : Stage} {vs : List Float}
       → paced r vs ≡ paced_first m.dt forces m.velocities e e.done
@@ -54,11 +53,11 @@ module _ (dtMax : Float) (s : Stage) (xs : List Float) (vs : List Float) (pairs 
   abbrev seen_next : Paced → Relaxing
   seen_next k = relaxing_of k.stage xs k.velocities pairs references starts items forces
 
-  next_after : (d : Done)
-      → seen_next (paced_after dtMax s forces vs r d) ≡ turned_after dtMax s.gait s.largest s.iteration (seen_done d) (Step.shown r xs vs pairs references starts items forces)
+  next_after : (d : Result (Unit {0}) Refusal)
+      → seen_next (paced_after dtMax s forces vs r d) ≡ turned_after dtMax s.gait s.largest s.iteration (seen d) (Step.shown r xs vs pairs references starts items forces)
   unfolding paced_after turned_after
-  next_after Answered = refl
-  next_after (Refused why) = refl
+  next_after (Ok tt) = refl
+  next_after (Err why) = refl
 
   pub turned_by_lem : {o : Step.Outcome} → Step.shown r xs vs pairs references starts items forces ≡ o → {q : Stage} {us : List Float}
       → paced q us ≡ paced_after dtMax s forces vs r r.done
@@ -256,31 +255,31 @@ module _ (o : FireOptions) (m : Motion) (up : (rising m.job.terms.tables.own_ids
       ∙ relaxed_is o.dt_max o.force_tol m up o.max_iters (begun_by settled_of m) begun_few
 
 -- ---- the call
-module _ (o : FireOptions) (m : Motion) {d : Done} (is : d ≡ settling_asked o m) where
-  asked_up : d ≡ Answered → (rising m.job.terms.tables.own_ids ≡ true) × (rising m.job.terms.tables.ids ≡ true)
+module _ (o : FireOptions) (m : Motion) {d : Result (Unit {0}) Refusal} (is : d ≡ settling_asked o m) where
+  asked_up : d ≡ Ok tt → (rising m.job.terms.tables.own_ids ≡ true) × (rising m.job.terms.tables.ids ≡ true)
   unfolding settling_asked
   asked_up h = asked_rising _ _ m.job.terms m.job.given (length m.job.forces) (sym is ∙ h)
 
-  asked_room : d ≡ Answered → length m.job.forces ≤ 49152
+  asked_room : d ≡ Ok tt → length m.job.forces ≤ 49152
   unfolding settling_asked
   asked_room h =
       let f = asked_forces _ _ m.job.terms m.job.given (length m.job.forces) (sym is ∙ h) in
       let l = asked_few _ _ m.job.terms m.job.given (length m.job.forces) (sym is ∙ h) in
       omega arith
 
-  pub fired_refused_lem : m.potential ≡ f0 → {why : Refusal} → d ≡ Refused why → {r : Fired} → r ≡ fired_refused m.job.given.state why
+  pub fired_refused_lem : m.potential ≡ f0 → {why : Refusal} → d ≡ Err why → {r : Fired} → r ≡ fired_refused m.job.given.state why
       → shown r m.job.given.positions m.velocities m.job.given.pairs m.job.given.references m.job.given.starts m.job.given.items m.job.forces ≡ fired_of o m
   unfolding fired_of ran_unless converged_of
   fired_refused_lem z h q = rw (← is, h, q, z)
 
-  ran_by_lem : d ≡ Answered → (b : Relaxing) → b ≡ begun_by settled_in m → {t : Relaxing}
+  ran_by_lem : d ≡ Ok tt → (b : Relaxing) → b ≡ begun_by settled_in m → {t : Relaxing}
       → t ≡ relaxed_by (turned_by settled_in o.dt_max (next_motion m b)) o.force_tol o.max_iters b → t ≡ ran_by settled_of o m
   ran_by_lem h b e q =
       q ∙ ap (λ (f : Relaxing → Relaxing). relaxed_by f o.force_tol o.max_iters b) (turned_next_motion settled_in o.dt_max m b)
       ∙ ap (λ (s : Relaxing). relaxed_by (turned_by settled_in o.dt_max m) o.force_tol o.max_iters s) e
       ∙ unfold ran_by in ran_is o m (asked_up h) (asked_room h)
 
-  pub fired_on : d ≡ Answered → (b : Relaxing) → b ≡ begun_by settled_in m → {t : Relaxing}
+  pub fired_on : d ≡ Ok tt → (b : Relaxing) → b ≡ begun_by settled_in m → {t : Relaxing}
       → t ≡ relaxed_by (turned_by settled_in o.dt_max (next_motion m b)) o.force_tol o.max_iters b → ended o.force_tol t ≡ fired_of o m
   unfolding fired_of ran_unless
   fired_on h b e q = rw (← is, h) (ap (ended o.force_tol) (ran_by_lem h b e q))

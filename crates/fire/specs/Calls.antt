@@ -1,9 +1,9 @@
 -- What `fire` answers and leaves in everything lent: one outcome, made from the entry values alone. Definitions only.
+use Rattle.std.specs.Prelude.{Err, None, Ok, Result, Some}
+use Rattle.answer.specs.declared.Refusal.{Refusal}
 use Rattle.std.specs.Prelude.{ℕ, zero, suc, ◌+◌, ◌≡◌, Bool, false, cond, not, List, Float, length}
 use Rattle.std.specs.Float.Ieee.{le}
-use Rattle.answer.specs.declared.Done.{Done}
-use Rattle.answer.specs.declared.Done.TheVariants as DoneCases
-use Rattle.answer.specs.Seen.{Seen, answered, refused, seen_done}
+use Rattle.answer.specs.Seen.{Seen, answered, refused, seen}
 use Rattle.float.specs.Literals.{f0}
 use Rattle.virial.specs.Virial.{zero_forces}
 use Rattle.neighbor.specs.declared.State.{State}
@@ -101,14 +101,14 @@ ran_by evaluation o m = relaxed_by (turned_by evaluation o.dt_max m) o.force_tol
 -- ---- the call
 
 -- 1, 2, 6, 3, 4, 5: an evaluation's tests, with a step's at 1 and the options', masses' and velocities' at 3
-unfoldable pub settling_asked : FireOptions → Motion → Done
+unfoldable pub settling_asked : FireOptions → Motion → Result (Unit {0}) Refusal
 settling_asked o m =
     asked_of (motion_fits (length m.job.given.positions) (length m.velocities) (length m.masses)) (settling_ok o m.masses m.velocities) m.job
 
 -- "Everything lent stays as it came"
-unfoldable pub ran_unless : FireOptions → Motion → Done → Relaxing
-ran_unless o m (DoneCases.Refused r) = relaxing (all_stays m r) (fresh_gait m.dt) f0 0
-ran_unless o m DoneCases.Answered = ran_by settled_of o m
+unfoldable pub ran_unless : FireOptions → Motion → Result (Unit {0}) Refusal → Relaxing
+ran_unless o m (Err r) = relaxing (all_stays m r) (fresh_gait m.dt) f0 0
+ran_unless o m (Ok tt) = ran_by settled_of o m
 
 -- answer, iteration, stopped, converged, energy, largest component and State; then everything lent
 pub record Outcome : Type 0 where
@@ -152,7 +152,7 @@ fired_of o m = ended o.force_tol (ran_unless o m (settling_asked o m))
 abbrev pub shown : Fired → (positions velocities : List Float) → (pairs : List ℕ) → (references : List Float) → (starts items : List ℕ) → (forces : List Float) → Outcome
 shown r positions velocities pairs references starts items forces =
     record {
-      answer = seen_done r.done;
+      answer = seen r.done;
       iteration = r.iteration;
       stopped = r.stopped;
       converged = r.converged;

@@ -1,9 +1,8 @@
 -- What the private functions say of themselves: nobody has to believe it. Definitions only.
+use Rattle.std.specs.Prelude.{Err, Ok, Result}
 use Rattle.std.specs.Prelude.{ℕ, ◌+◌, ◌≡◌, false, List, Float, length}
-use Rattle.answer.specs.declared.Done.{Done}
-use Rattle.answer.specs.declared.Done.TheVariants.{Answered, Refused}
 use Rattle.answer.specs.declared.Refusal.{Refusal}
-use Rattle.answer.specs.Seen.{seen_done}
+use Rattle.answer.specs.Seen.{seen}
 use Rattle.float.specs.Literals.{f0}
 use Rattle.virial.specs.Virial.{zero_forces}
 use Rattle.neighbor.specs.declared.State.{State}
@@ -36,13 +35,13 @@ pub record Paced : Type 0 where
 abbrev pub paced : Stage → List Float → Paced
 paced s vs = record { stage = s; velocities = vs }
 
-unfoldable pub paced_first : (dt : Float) → (fs vs : List Float) → Evaluated → Done → Paced
-paced_first dt fs vs e (Refused r) = paced (stage_of (stepped_from e false e.sum.energy) (fresh_gait dt) f0 0) vs
-paced_first dt fs vs e Answered = paced (stage_of (stepped_from e false e.sum.energy) (fresh_gait dt) (largest_force fs) 0) (zero_forces (length vs))
+unfoldable pub paced_first : (dt : Float) → (fs vs : List Float) → Evaluated → Result (Unit {0}) Refusal → Paced
+paced_first dt fs vs e (Err r) = paced (stage_of (stepped_from e false e.sum.energy) (fresh_gait dt) f0 0) vs
+paced_first dt fs vs e (Ok tt) = paced (stage_of (stepped_from e false e.sum.energy) (fresh_gait dt) (largest_force fs) 0) (zero_forces (length vs))
 
-unfoldable pub paced_after : (dtMax : Float) → Stage → (fs vs : List Float) → Stepped → Done → Paced
-paced_after dtMax s fs vs r (Refused why) = paced (stage_of r s.gait s.largest (s.iteration + 1)) vs
-paced_after dtMax s fs vs r Answered =
+unfoldable pub paced_after : (dtMax : Float) → Stage → (fs vs : List Float) → Stepped → Result (Unit {0}) Refusal → Paced
+paced_after dtMax s fs vs r (Err why) = paced (stage_of r s.gait s.largest (s.iteration + 1)) vs
+paced_after dtMax s fs vs r (Ok tt) =
     paced (stage_of r (steered_of dtMax s.gait fs vs).0 (largest_force fs) (s.iteration + 1)) (steered_of dtMax s.gait fs vs).1
 
 -- what `begin`, `turn` and `relax` answer, and what everything lent holds at exit; the motion is that at entry
@@ -66,11 +65,11 @@ fired_from tol s =
       done = s.last.done;
       iteration = s.iteration;
       stopped = s.last.stopped;
-      converged = converged_of tol s.largest (seen_done s.last.done);
+      converged = converged_of tol s.largest (seen s.last.done);
       energy = s.last.potential;
       max_force = s.largest;
       state = s.last.state;
     }
 
 abbrev pub fired_refused : State → Refusal → Fired
-fired_refused s why = record { done = Refused why; iteration = 0; stopped = false; converged = false; energy = f0; max_force = f0; state = s }
+fired_refused s why = record { done = Err why; iteration = 0; stopped = false; converged = false; energy = f0; max_force = f0; state = s }

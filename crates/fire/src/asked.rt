@@ -6,7 +6,7 @@ ghost use Rattle.fire.specs.Asked.{options_ok, settling_ok};
 ghost use Rattle.fire.specs.Calls.{settling_of, settling_asked};
 
 use crate::FireOptions;
-use answer::Done;
+use answer::Refusal;
 use evaluate::Setting;
 use neighbor::State;
 
@@ -58,7 +58,7 @@ pub(crate) fn asked(
     starts: &[u32],
     items: &[u32],
     forces: &[f64],
-) -> Done
+) -> Result<(), Refusal>
     ensures { result ≡ settling_asked o (settling_of o setting s (tables own_ids.now own_params.now ids.now params.now) species.now charges.now bonds.now lengths.now ks.now angles.now per_angle.now masses.now exclusions.now positions.now velocities.now pairs.now references.now starts.now items.now forces.now) }
 {
     let fits = motion_fits(positions.len(), velocities.len(), masses.len());

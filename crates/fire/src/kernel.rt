@@ -1,6 +1,6 @@
 // The relaxation without tests: the first evaluation, an iteration, all of them.
 ghost use Rattle.std.specs.Prelude.{◌≡◌, false, ◌<◌};
-ghost use Rattle.answer.specs.Seen.{seen_done};
+ghost use Rattle.answer.specs.Seen.{seen};
 ghost use Rattle.potentials_pair.specs.Species.{tables};
 ghost use Rattle.verlet_step.specs.Calls.{motion_of};
 ghost use Rattle.verlet_step.specs.Steps.{stepped_from};
@@ -9,7 +9,7 @@ ghost use Rattle.fire.specs.Steps.{stage_of, paced, paced_first, paced_after, Be
 
 use crate::steer::Gait;
 use crate::{FireOptions, Fired, steer};
-use answer::{Done, Refusal};
+use answer::Refusal;
 use evaluate::{Evaluated, Setting};
 use neighbor::State;
 use verlet_step::Stepped;
@@ -57,7 +57,7 @@ fn rest(e: Evaluated, dt: f64, forces: &[f64], velocities: &mut [f64]) -> Stage
     let done = e.done;
     let last = first_step(e);
     let gait = steer::fresh(dt);
-    if let Done::Refused(_) = done {
+    if let Err(_) = done {
         return stage_of(last, gait, 0.0, 0);
     }
     virial::kernel::clear(velocities);
@@ -109,7 +109,7 @@ fn pace(dt_max: f64, s: Stage, r: Stepped, forces: &[f64], velocities: &mut [f64
     let done = r.done;
     let gait = s.gait;
     let i = s.iteration + 1;
-    if let Done::Refused(_) = done {
+    if let Err(_) = done {
         return stage_of(r, gait, s.largest, i);
     }
     let next = steer::steer(dt_max, gait, forces, velocities);
@@ -180,11 +180,11 @@ fn turn(
 
 // Whether another iteration is due: nothing was refused, and the largest component passes the tolerance.
 fn goes_on(tol: f64, s: Stage) -> bool
-    ensures { result ≡ goes_on tol s.largest (seen_done s.last.done) }
+    ensures { result ≡ goes_on tol s.largest (seen s.last.done) }
 {
     let last = s.last;
     let done = last.done;
-    if let Done::Refused(_) = done {
+    if let Err(_) = done {
         return false;
     }
     !(s.largest <= tol)
@@ -238,11 +238,11 @@ pub(crate) fn relax(
 }
 
 fn converged(tol: f64, s: Stage) -> bool
-    ensures { result ≡ converged_of tol s.largest (seen_done s.last.done) }
+    ensures { result ≡ converged_of tol s.largest (seen s.last.done) }
 {
     let last = s.last;
     let done = last.done;
-    if let Done::Refused(_) = done {
+    if let Err(_) = done {
         return false;
     }
     s.largest <= tol
@@ -270,7 +270,7 @@ pub(crate) fn refuse(s: State, why: Refusal) -> Fired
     ensures { result ≡ fired_refused s why }
 {
     Fired {
-        done: Done::Refused(why),
+        done: Err(why),
         iteration: 0,
         stopped: false,
         converged: false,

@@ -2,7 +2,7 @@
 // specs/Calls.antt says what the call answers and leaves, specs/Steer.antt has the source's loops.
 #![tactic(auto)]
 
-use answer::Done;
+use answer::Refusal;
 use evaluate::Setting;
 use neighbor::State;
 
@@ -27,7 +27,7 @@ pub struct FireOptions {
 // forces stand in what the caller lends.
 #[derive(Drop)]
 pub struct Fired {
-    pub done: Done,
+    pub done: Result<(), Refusal>,
     pub iteration: u32,
     pub stopped: bool,
     pub converged: bool,
@@ -70,7 +70,7 @@ pub fn fire(
         angles, per_angle, masses, exclusions, positions, velocities, pairs, references, starts,
         items, forces,
     );
-    if let Done::Refused(why) = a {
+    if let Err(why) = a {
         return kernel::refuse(s, why);
     }
     let begun = kernel::begin(

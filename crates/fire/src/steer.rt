@@ -26,10 +26,8 @@ pub(crate) fn largest(fs: &[f64]) -> f64
     ensures { result ≡ largest_force fs.now }
 {
     let mut m = 0.0;
-    let mut k = 0;
-    while k < fs.len() {
-        m = float::max(m, float::abs(fs[k]));
-        k += 1;
+    for f in fs {
+        m = float::max(m, float::abs(*f));
     }
     m
 }
@@ -72,12 +70,10 @@ fn sum_powers(fs: &[f64], vs: &[f64]) -> Powers
 {
     let n = virial::ranged::shorter(fs.len() / 3, vs.len() / 3);
     let mut p = no_powers();
-    let mut i = 0;
-    while i < n {
+    for i in 0..n {
         let f = triple(fs, i);
         let v = triple(vs, i);
         p = add_power(f, v, p);
-        i += 1;
     }
     p
 }
@@ -99,10 +95,8 @@ fn mix_all(keep: f64, one: f64, push: f64, fs: &[f64], vs: &mut [f64])
     requires { length fs.now ≡ length vs.old }
     ensures { vs.new ≡ blended_of keep one push fs.now vs.old }
 {
-    let mut k = 0;
-    while k < vs.len() {
+    for k in 0..vs.len() {
         vs[k] = mix_one(keep, one, push, fs[k], vs[k]);
-        k += 1;
     }
 }
 

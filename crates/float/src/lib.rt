@@ -213,7 +213,7 @@ fn digit(v: u64, s: u64, y: u64, b: u64) -> Found
     }
 }
 
-// The rest of the digits of the whole root of v * 2^54, from 13 on: one, then two a turn.
+// The rest of the digits of the whole root of v * 2^54, from 13 on: one, then two a turn. `while`, since what a turn needs is the digits' place, b, and no count.
 fn more_digits(v: u64, s0: u64, y0: u64) -> u64
     requires { Digits v s0 y0 (2 ^ 41) }
     ensures { result ≡ whole_root 54 (v * 2 ^ 54) }

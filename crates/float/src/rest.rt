@@ -35,15 +35,13 @@ fn rest_of(a: u64, b: u64, steps: u64) -> u64
     ensures { result ≡ (a * 2 ^ steps) % b }
 {
     let mut r = a % b;
-    let mut n = 0;
-    while n < steps {
+    for _n in 0..steps {
         r = 2 * r % b;
-        n += 1;
     }
     r
 }
 
-// The float of m * 2^p smallest values.
+// The float of m * 2^p smallest values. `while`, since two tests end it, and neither alone says after how many turns.
 fn packed(digits: u64, power: u64) -> f64
     requires { (digits < 2 ^ 53) × (power < 2046) }
     ensures { IsPacked result digits power }

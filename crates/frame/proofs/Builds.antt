@@ -1,4 +1,5 @@
 -- A run of a build: what the tally and the memory are, by the lists that the outcome names. Assumes nothing.
+use Rattle.std.specs.Prelude.{Ok}
 use Prim.Native.Nat.{ℕ, ◌+◌, ◌-◌, ◌/◌, ◌≤◌, ◌<◌}
 use mathlib.Core.Path.{◌≡◌, sym, ap, ◌∙◌}
 use mathlib.Core.Bool.{Bool, true, false, ◌||◌}
@@ -7,7 +8,6 @@ use native.Mathlib.Omega.{arith}
 use lib.ListN.{length}
 use lib.Dec.{eqb, ltb, leb}
 use borrow.Author.Tests.{ltb-false, le-ltb, leb-false}
-use Rattle.answer.specs.declared.Done.TheVariants.{Answered}
 use Rattle.answer.specs.declared.Refusal.TheVariants.{Cells}
 use Rattle.answer.specs.Seen.{Seen, refused_by}
 use Rattle.lists.specs.Lists.{all_pairs, rows}
@@ -33,7 +33,8 @@ use Rattle.bins.specs.declared.Plan.{Plan}
 use Rattle.bins.specs.declared.Plan.TheVariants.{AllPairs, Laid, TooMany}
 use Rattle.frame.specs.Distance.{spot_of, near_of}
 use Rattle.frame.specs.Laying.{grid_of, cell_at, narrow, plain_of, crowded}
-use Rattle.frame.specs.Build.{Given, Counts, stays, scene_of, candidates, near_pairs, beside, checks_of, shown_of, run_of, after_of, starts_laid, items_laid}
+use Rattle.frame.specs.declared.Built.{Built}
+use Rattle.frame.specs.Build.{Given, stays, scene_of, candidates, near_pairs, beside, checks_of, shown_of, run_of, after_of, starts_laid, items_laid}
 use Rattle.frame.specs.Steps.{Framed, Gridded, looked_by, scene_by, atoms_by, plan_of}
 use Rattle.frame.proofs.Tables.{placed}
 
@@ -120,7 +121,7 @@ module _ (f : Frame) (xs table : List ℕ) (h : is_table (rows table) ≡ true) 
 pub grid_ready : (f : Frame) (xs : List ℕ) → plain_of f ≡ false → Framed f xs → length xs / 3 ≤ 16384 → (e : Scene) → Ready (record { count = 0; checks = 0 }) (length (pairs_of (grid_of f) (atoms_by f xs)))
 grid_ready f xs p framed few e = binned_ready e (grid_of f) (good_grid f p) (length xs / 3) (cell_at f xs) (placed f xs framed) few
 
-pub shown_is : {a : Seen Counts} {count checks room c k r : ℕ} (fallback : Bool) → a ≡ shown_of count checks room fallback → count ≡ c → checks ≡ k → room ≡ r → a ≡ shown_of c k r fallback
+pub shown_is : {a : Seen Built} {count checks room c k r : ℕ} (fallback : Bool) → a ≡ shown_of count checks room fallback → count ≡ c → checks ≡ k → room ≡ r → a ≡ shown_of c k r fallback
 shown_is fallback e p q s = rw (← p, ← q, ← s) e
 
 module _ {f : Frame} {g : Grid} {xs : List ℕ} (w : Gridded f g) (framed : Framed f xs) (few : length xs / 3 ≤ 16384) where
@@ -160,22 +161,22 @@ module _ (f : Frame) (starts : ℕ) {p : Plan} (is : p ≡ plan_of f starts) whe
 
 -- ---- the outcome of a build whose tests have passed, by its cases
 module _ (i : Given) (many : 2 ≤ length i.coordinates / 3) where
-  pub after_plain : plain_of i.frame ≡ true → {a : Seen Counts} {m : List ℕ}
+  pub after_plain : plain_of i.frame ≡ true → {a : Seen Built} {m : List ℕ}
       → a ≡ shown_of (length (near_pairs i.frame i.coordinates i.exclusions)) (checks_of i.frame i.coordinates i.exclusions) (length i.pairs / 2) true
       → m ≡ laid_of i.pairs (near_pairs i.frame i.coordinates i.exclusions)
-      → record { answer = a; pairs = m; starts = i.starts; items = i.items } ≡ after_of i Answered
+      → record { answer = a; pairs = m; starts = i.starts; items = i.items } ≡ after_of i (Ok tt)
   unfolding after_of run_of
   after_plain p e q = rw (le-ltb (length i.coordinates / 3) 2 many, p, e, q)
 
   module _ (w : plain_of i.frame ≡ false) where
-    pub after_crowded : crowded i.frame (length i.starts) ≡ true → stays i (refused_by Cells) ≡ after_of i Answered
+    pub after_crowded : crowded i.frame (length i.starts) ≡ true → stays i (refused_by Cells) ≡ after_of i (Ok tt)
     unfolding after_of
     after_crowded c = rw (le-ltb (length i.coordinates / 3) 2 many, w, c)
 
-    pub after_grid : crowded i.frame (length i.starts) ≡ false → {a : Seen Counts} {m s t : List ℕ}
+    pub after_grid : crowded i.frame (length i.starts) ≡ false → {a : Seen Built} {m s t : List ℕ}
         → a ≡ shown_of (length (near_pairs i.frame i.coordinates i.exclusions)) (checks_of i.frame i.coordinates i.exclusions) (length i.pairs / 2) false
         → m ≡ laid_of i.pairs (near_pairs i.frame i.coordinates i.exclusions)
         → s ≡ starts_laid i.frame i.coordinates i.starts → t ≡ items_laid i.frame i.coordinates i.items
-        → record { answer = a; pairs = m; starts = s; items = t } ≡ after_of i Answered
+        → record { answer = a; pairs = m; starts = s; items = t } ≡ after_of i (Ok tt)
     unfolding after_of run_of
     after_grid c e q es et = rw (le-ltb (length i.coordinates / 3) 2 many, w, c, e, q, es, et)

@@ -1,5 +1,8 @@
 -- In an accepted frame no second image hides: of two images within the radius, either they are one or they are opposite at half an edge; and the
 -- frame's distance is the nearest image's. Assumes nothing.
+use Rattle.std.specs.Prelude.{Err, Ok, Result}
+use Rattle.answer.specs.declared.Refusal.{Refusal}
+use Rattle.frame.specs.declared.Built.{Built}
 use Prim.Native.Nat.{ℕ, zero, suc, ◌+◌, ◌*◌, ◌-◌, ◌/◌, ◌≤◌, ◌<◌}
 use mathlib.Core.Path.{◌≡◌, refl, sym, ap, subst, ◌∙◌}
 use mathlib.Core.Bool.{Bool, true, false, cond, ◌&&◌}
@@ -9,9 +12,6 @@ use native.Mathlib.Nat.{add-mul, mul-le-mul_right}
 use native.Mathlib.Omega.{arith}
 use lib.IntN.{ℤ, pos, negsuc, suc_ℤ}
 use lib.ListN.{length, take}
-use Rattle.answer.specs.declared.Done.{Done}
-use Rattle.answer.specs.declared.Done.TheVariants.{Answered, Refused}
-use Rattle.answer.specs.declared.Whole.{Whole}
 use Rattle.answer.specs.Seen.{answered, refused}
 use Rattle.lists.specs.Atoms.{atoms_of}
 use Rattle.lists.specs.Lists.{rows, Two}
@@ -21,9 +21,8 @@ use Rattle.bins.specs.Edge.{gap, distance}
 use Rattle.frame.specs.declared.Side.{Side}
 use Rattle.frame.specs.declared.Frame.{Frame}
 use Rattle.frame.specs.declared.Spot.{Spot}
-use Rattle.frame.specs.declared.Built.{Built}
 use Rattle.frame.specs.Distance.{spot_of, along, square_of, squared_of, side_ok, frame_ok, spot_ok, squared_seen, SquaredSays}
-use Rattle.frame.specs.Build.{Given, Counts, Outcome, frame_asked, after_of, build_of, BuildSays}
+use Rattle.frame.specs.Build.{Given, Outcome, frame_asked, after_of, build_of, BuildSays}
 use Rattle.frame.specs.Listed.{Close}
 use Rattle.frame.specs.Images.{Shift, away, away_on, image_squared, Sees, Opposite, Level, Opposed, Single, Nearest, Hidden, InSight, BuildSights, SquaredSights}
 use Rattle.frame.specs.Steps.{Inside, Framed}
@@ -276,11 +275,11 @@ nearest f a b ka kb =
     }
 
 -- ---- what the calls' equations say of images
-frame_accepted : (i : Given) (a : Done) → frame_asked i.frame i.coordinates i.exclusions (length i.items) ≡ a → (c : Counts) → (after_of i a).answer ≡ answered c
+frame_accepted : (i : Given) (a : Result (Unit {0}) Refusal) → frame_asked i.frame i.coordinates i.exclusions (length i.items) ≡ a → (c : Built) → (after_of i a).answer ≡ answered c
     → (frame_ok i.frame ≡ true) × Framed i.frame i.coordinates
 unfolding after_of
-frame_accepted i (Refused r) e c q = impossible (cc)
-frame_accepted i Answered e c q = (
+frame_accepted i (Err r) e c q = impossible (cc)
+frame_accepted i (Ok tt) e c q = (
   asked_accepted i.frame i.coordinates i.exclusions (length i.items) e,
   (asked_passed i.frame i.coordinates i.exclusions (length i.items) e).framed,
 )
@@ -311,7 +310,7 @@ module _ (i : Given) (framed : Framed i.frame i.coordinates) (p : ℕ × ℕ) wh
       (u.0, u.1, omega arith)
 
 -- A build that is answered lists exactly the unexcluded pairs of which an image is within the radius, once each, and no second image hides.
-pub build_sights : (i : Given) (r : Built) (pairs starts items : List ℕ) → BuildSays i r pairs starts items → BuildSights i r pairs
+pub build_sights : (i : Given) (r : Result Built Refusal) (pairs starts items : List ℕ) → BuildSays i r pairs starts items → BuildSights i r pairs
 unfolding build_of
 build_sights i r pairs starts items h c q =
     let a = frame_asked i.frame i.coordinates i.exclusions (length i.items) in
@@ -327,7 +326,7 @@ passed_all : (t : Bool) (x d : ℕ) → cond t (answered x) (refused 3 0) ≡ an
 passed_all true x d e = refl
 passed_all false x d e = impossible (cc)
 
-pub squared_distance_sights : (f : Frame) (a b : Spot) (r : Whole) → SquaredSays f a b r → SquaredSights f a b r
+pub squared_distance_sights : (f : Frame) (a b : Spot) (r : Result ℕ Refusal) → SquaredSays f a b r → SquaredSights f a b r
 unfolding squared_seen
 squared_distance_sights f a b r h d q =
     let all = passed_all (frame_ok f && spot_ok f a && spot_ok f b) (squared_of f a b) d (sym h ∙ q) in

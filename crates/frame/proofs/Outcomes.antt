@@ -1,4 +1,6 @@
 -- The outcome of a build by its cases, what an answered one lists, and that the lent pairs stay as long as they were. Assumes nothing.
+use Rattle.std.specs.Prelude.{Err, Ok, Result}
+use Rattle.frame.specs.declared.Built.{Built}
 use Prim.Native.Nat.{ℕ, ◌/◌, ◌%◌, ◌≤◌, ◌<◌}
 use mathlib.Core.Path.{◌≡◌, refl, sym, ap, ◌∙◌}
 use mathlib.Core.Bool.{Bool, true, false, cond, not, ◌||◌}
@@ -10,8 +12,6 @@ use lib.Dec.{eqb, ltb, leb}
 use borrow.Author.Tests.{ltb-true, ltb-false, lt-ltb, leb-true, not-false}
 use Rattle.lists.proofs.Exactness.{no_pairs}
 use Rattle.answer.proofs.Passed.{pass}
-use Rattle.answer.specs.declared.Done.{Done}
-use Rattle.answer.specs.declared.Done.TheVariants.{Answered, Refused}
 use Rattle.answer.specs.declared.Refusal.{Refusal}
 use Rattle.answer.specs.declared.Refusal.TheVariants.{Lengths, TooMany, Range, Order, Cells, Room}
 use Rattle.answer.specs.Seen.{answered, refused_by}
@@ -21,10 +21,9 @@ use Rattle.bins.specs.Listing.{laid_of}
 use Rattle.bins.proofs.Laid.{laid_rows, laid_length}
 use Rattle.exclusions.specs.Table.{is_table}
 use Rattle.frame.specs.declared.Frame.{Frame}
-use Rattle.frame.specs.declared.Built.{Built}
 use Rattle.frame.specs.Distance.{frame_ok}
 use Rattle.frame.specs.Laying.{plain_of, crowded}
-use Rattle.frame.specs.Build.{Given, Counts, Outcome, stays, scene_of, near_pairs, checks_of, lengths_bad, ranges_ok, shown_of, run_of, starts_laid, items_laid, after_of, build_of, BuildSays, frame_asked}
+use Rattle.frame.specs.Build.{Given, Outcome, stays, scene_of, near_pairs, checks_of, lengths_bad, ranges_ok, shown_of, run_of, starts_laid, items_laid, after_of, build_of, BuildSays, frame_asked}
 use Rattle.frame.specs.Listed.{Listed, BuildLists}
 use Rattle.frame.specs.Steps.{Framed}
 use Rattle.frame.proofs.Ranges.{ranges_accepted, ranges_framed}
@@ -37,24 +36,24 @@ pub record Fine (f : Frame) (xs table : List ℕ) (items : ℕ) : Type 0 where
   pub few : length xs / 3 ≤ 16384
   pub room : length xs / 3 ≤ items
 
-module _ (f : Frame) (xs table : List ℕ) (items : ℕ) (h : frame_asked f xs table items ≡ Answered) where
-  abbrev last : Done
-  last = cond (not (is_table (rows table))) (Refused Order) Answered
+module _ (f : Frame) (xs table : List ℕ) (items : ℕ) (h : frame_asked f xs table items ≡ Ok tt) where
+  abbrev last : Result (Unit {0}) Refusal
+  last = cond (not (is_table (rows table))) (Err Order) (Ok tt)
 
-  abbrev third : Done
-  third = cond (not (ranges_ok f xs)) (Refused Range) last
+  abbrev third : Result (Unit {0}) Refusal
+  third = cond (not (ranges_ok f xs)) (Err Range) last
 
-  abbrev second : Done
-  second = cond (ltb 16384 (length xs / 3)) (Refused (TooMany (length xs / 3))) third
+  abbrev second : Result (Unit {0}) Refusal
+  second = cond (ltb 16384 (length xs / 3)) (Err (TooMany (length xs / 3))) third
 
-  one : (lengths_bad (length xs) (length table) items ≡ false) × (second ≡ Answered)
+  one : (lengths_bad (length xs) (length table) items ≡ false) × (second ≡ Ok tt)
   unfolding frame_asked
   one = pass (lengths_bad (length xs) (length table) items) Lengths second h
 
-  two : (ltb 16384 (length xs / 3) ≡ false) × (third ≡ Answered)
+  two : (ltb 16384 (length xs / 3) ≡ false) × (third ≡ Ok tt)
   two = pass (ltb 16384 (length xs / 3)) (TooMany (length xs / 3)) third one.1
 
-  three : (not (ranges_ok f xs) ≡ false) × (last ≡ Answered)
+  three : (not (ranges_ok f xs) ≡ false) × (last ≡ Ok tt)
   three = pass (not (ranges_ok f xs)) Range last two.1
 
   short : ltb items (length xs / 3) ≡ false
@@ -68,18 +67,18 @@ module _ (f : Frame) (xs table : List ℕ) (items : ℕ) (h : frame_asked f xs t
   asked_passed =
       record {
         framed = ranges_framed f xs (not-false (ranges_ok f xs) three.0);
-        ascending = not-false (is_table (rows table)) (pass (not (is_table (rows table))) Order Answered three.1).0;
+        ascending = not-false (is_table (rows table)) (pass (not (is_table (rows table))) Order (Ok tt) three.1).0;
         few = ltb-false 16384 (length xs / 3) two.0;
         room = ltb-false items (length xs / 3) short;
       }
 
 -- ---- the build by its cases, for the code
-module _ (i : Given) {a : Done} (is : a ≡ frame_asked i.frame i.coordinates i.exclusions (length i.items)) where
-  pub build_refused : {r : Refusal} → a ≡ Refused r → stays i (refused_by r) ≡ build_of i
+module _ (i : Given) {a : Result (Unit {0}) Refusal} (is : a ≡ frame_asked i.frame i.coordinates i.exclusions (length i.items)) where
+  pub build_refused : {r : Refusal} → a ≡ Err r → stays i (refused_by r) ≡ build_of i
   unfolding build_of after_of
   build_refused e = rw (← is, e)
 
-  module _ (e : a ≡ Answered) where
+  module _ (e : a ≡ Ok tt) where
     pub build_fine : Fine i.frame i.coordinates i.exclusions (length i.items)
     build_fine = asked_passed i.frame i.coordinates i.exclusions (length i.items) (sym is ∙ e)
 
@@ -87,12 +86,12 @@ module _ (i : Given) {a : Done} (is : a ≡ frame_asked i.frame i.coordinates i.
     unfolding build_of after_of
     build_few h = rw (← is, e, lt-ltb (length i.coordinates / 3) 2 h)
 
-    pub build_run : {o : Outcome} → o ≡ after_of i Answered → o ≡ build_of i
+    pub build_run : {o : Outcome} → o ≡ after_of i (Ok tt) → o ≡ build_of i
     unfolding build_of
     build_run q = rw (← is, e) q
 
 -- ---- an answered run
-module _ (i : Given) (framed : Framed i.frame i.coordinates) (c : Counts) where
+module _ (i : Given) (framed : Framed i.frame i.coordinates) (c : Built) where
   abbrev found : List (ℕ × ℕ)
   found = near_pairs i.frame i.coordinates i.exclusions
 
@@ -119,7 +118,7 @@ module _ (i : Given) (framed : Framed i.frame i.coordinates) (c : Counts) where
   run_lists fallback starts items q =
       let z = fitting (leb (length found) (length i.pairs / 2)) fallback refl q in lists_are fallback z.0 z.1
 
-few_lists : (i : Given) (c : Counts) → length i.coordinates / 3 < 2 → c ≡ record { pairs = 0; checks = 0; fallback = false } → Listed i c i.pairs
+few_lists : (i : Given) (c : Built) → length i.coordinates / 3 < 2 → c ≡ record { pairs = 0; checks = 0; fallback = false } → Listed i c i.pairs
 unfolding rows how_many
 few_lists i c h e =
     rw e
@@ -135,7 +134,7 @@ after_cases : (i : Given) (P : Outcome → Type 0)
     → P (run_of i i.starts i.items true)
     → P (stays i (refused_by Cells))
     → P (run_of i (starts_laid i.frame i.coordinates i.starts) (items_laid i.frame i.coordinates i.items) false)
-    → P (after_of i Answered)
+    → P (after_of i (Ok tt))
 unfolding after_of
 after_cases i P few plain crowd grid =
     by_test (λ t. P (below t)) (ltb (length i.coordinates / 3) 2) few
@@ -152,7 +151,7 @@ after_cases i P few plain crowd grid =
     below : Bool → Outcome
     below t = cond t (stays i (answered (record { pairs = 0; checks = 0; fallback = false }))) (flat (plain_of i.frame))
 
-after_lists : (i : Given) → Framed i.frame i.coordinates → (c : Counts) → (after_of i Answered).answer ≡ answered c → Listed i c (after_of i Answered).pairs
+after_lists : (i : Given) → Framed i.frame i.coordinates → (c : Built) → (after_of i (Ok tt)).answer ≡ answered c → Listed i c (after_of i (Ok tt)).pairs
 after_lists i framed c =
     after_cases i (λ o. o.answer ≡ answered c → Listed i c o.pairs)
     (λ e q. few_lists i c (ltb-true (length i.coordinates / 3) 2 e) (cc))
@@ -161,13 +160,13 @@ after_lists i framed c =
     (run_lists i framed c false _ _)
 
 -- whatever the tests say
-asked_lists : (i : Given) (a : Done) → frame_asked i.frame i.coordinates i.exclusions (length i.items) ≡ a → (c : Counts) → (after_of i a).answer ≡ answered c → Listed i c (after_of i a).pairs
+asked_lists : (i : Given) (a : Result (Unit {0}) Refusal) → frame_asked i.frame i.coordinates i.exclusions (length i.items) ≡ a → (c : Built) → (after_of i a).answer ≡ answered c → Listed i c (after_of i a).pairs
 unfolding after_of
-asked_lists i (Refused r) e c q = impossible (cc)
-asked_lists i Answered e c q = after_lists i (asked_passed i.frame i.coordinates i.exclusions (length i.items) e).framed c q
+asked_lists i (Err r) e c q = impossible (cc)
+asked_lists i (Ok tt) e c q = after_lists i (asked_passed i.frame i.coordinates i.exclusions (length i.items) e).framed c q
 
 -- DEMAND 3. What the outcome's equation says of an answered build.
-pub build_lists : (i : Given) (r : Built) (pairs starts items : List ℕ) → BuildSays i r pairs starts items → BuildLists i r pairs
+pub build_lists : (i : Given) (r : Result Built Refusal) (pairs starts items : List ℕ) → BuildSays i r pairs starts items → BuildLists i r pairs
 unfolding build_of
 build_lists i r pairs starts items h c q =
     let a = frame_asked i.frame i.coordinates i.exclusions (length i.items) in
@@ -179,10 +178,10 @@ run_kept : (i : Given) (starts items : List ℕ) (fallback : Bool) → length (r
 unfolding run_of
 run_kept i starts items fallback = laid_length i.pairs (near_pairs i.frame i.coordinates i.exclusions)
 
-after_kept : (i : Given) (a : Done) → length (after_of i a).pairs ≡ length i.pairs
+after_kept : (i : Given) (a : Result (Unit {0}) Refusal) → length (after_of i a).pairs ≡ length i.pairs
 unfolding after_of
-after_kept i (Refused r) = refl
-after_kept i Answered =
+after_kept i (Err r) = refl
+after_kept i (Ok tt) =
     after_cases i (λ o. length o.pairs ≡ length i.pairs) (λ _. refl) (run_kept i i.starts i.items true) refl (run_kept i _ _ false)
 
 pub pairs_kept : (i : Given) → length (build_of i).pairs ≡ length i.pairs

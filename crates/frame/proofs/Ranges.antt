@@ -1,4 +1,5 @@
 -- What the tests of a frame and of its atoms show, and the answer of `squared_distance` by its cases. Assumes nothing.
+use Rattle.std.specs.Prelude.{Err, Ok}
 use Prim.Native.Nat.{ℕ, ◌+◌, ◌*◌, ◌-◌, ◌/◌, ◌≤◌, ◌<◌}
 use native.Mathlib.Nat.{sub-zero, zero-add}
 use native.Mathlib.Omega.{arith}
@@ -19,7 +20,6 @@ use Rattle.frame.specs.declared.Spot.{Spot}
 use Rattle.frame.specs.Distance.{spot_of, edge_ok, side_ok, frame_ok, spot_ok, squared_of, squared_seen}
 use Rattle.frame.specs.Build.{lengths_bad, ranges_ok, frame_asked}
 use Rattle.exclusions.specs.Table.{is_table}
-use Rattle.answer.specs.declared.Done.TheVariants.{Answered, Refused}
 use Rattle.answer.specs.declared.Refusal.TheVariants.{Lengths, TooMany, Range, Order}
 use Rattle.frame.specs.Steps.{FrameSized, Inside, Framed}
 
@@ -142,25 +142,25 @@ module _ (f : Frame) (xs : List ℕ) where
 
 -- ---- the tests before a build, by their cases
 module _ (f : Frame) (xs table : List ℕ) (items : ℕ) where
-  pub asked_lengths : lengths_bad (length xs) (length table) items ≡ true → Refused Lengths ≡ frame_asked f xs table items
+  pub asked_lengths : lengths_bad (length xs) (length table) items ≡ true → Err Lengths ≡ frame_asked f xs table items
   unfolding frame_asked
   asked_lengths h = rw h
 
   module _ (h : lengths_bad (length xs) (length table) items ≡ false) where
-    pub asked_many : 16384 < length xs / 3 → Refused (TooMany (length xs / 3)) ≡ frame_asked f xs table items
+    pub asked_many : 16384 < length xs / 3 → Err (TooMany (length xs / 3)) ≡ frame_asked f xs table items
     unfolding frame_asked
     asked_many k = rw (h, lt-ltb 16384 (length xs / 3) k)
 
     module _ (k : length xs / 3 ≤ 16384) where
-      pub asked_range : ranges_ok f xs ≡ false → Refused Range ≡ frame_asked f xs table items
+      pub asked_range : ranges_ok f xs ≡ false → Err Range ≡ frame_asked f xs table items
       unfolding frame_asked
       asked_range l = rw (h, le-ltb 16384 (length xs / 3) k, l)
 
       module _ (l : ranges_ok f xs ≡ true) where
-        pub asked_order : is_table (rows table) ≡ false → Refused Order ≡ frame_asked f xs table items
+        pub asked_order : is_table (rows table) ≡ false → Err Order ≡ frame_asked f xs table items
         unfolding frame_asked
         asked_order m = rw (h, le-ltb 16384 (length xs / 3) k, l, m)
 
-        pub asked_fine : is_table (rows table) ≡ true → Answered ≡ frame_asked f xs table items
+        pub asked_fine : is_table (rows table) ≡ true → (Ok tt) ≡ frame_asked f xs table items
         unfolding frame_asked
         asked_fine m = rw (h, le-ltb 16384 (length xs / 3) k, l, m)

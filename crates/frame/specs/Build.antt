@@ -1,11 +1,12 @@
 -- What a build of a whole-number frame answers, and what it leaves in everything lent: one outcome, made from the entry values alone, the tests in
 -- 01's order. The outcome's pairs are a list in 01's order, which is how the order of the stored pairs is said. Definitions only.
+use Rattle.std.specs.Prelude.{Err, Ok, Result}
+use Rattle.answer.specs.declared.Refusal.{Refusal}
+use Rattle.frame.specs.declared.Built.{Built}
 use Rattle.std.specs.Prelude.{ℕ, ◌+◌, ◌/◌, ◌%◌, ◌≡◌, Bool, true, false, cond, not, ◌&&◌, ◌||◌, List, ◌++◌, length, drop, eqb, ltb, leb}
 use Rattle.lists.specs.Atoms.{atoms_of, most_atoms}
-use Rattle.answer.specs.declared.Done.{Done}
-use Rattle.answer.specs.declared.Done.TheVariants as DoneCases
 use Rattle.answer.specs.declared.Refusal.TheVariants.{Lengths, TooMany, Range, Order, Cells, Room}
-use Rattle.answer.specs.Seen.{Seen, answered, refused_by}
+use Rattle.answer.specs.Seen.{Seen, answered, refused_by, seen}
 use Rattle.lists.specs.Lists.{up_to, every, how_many, all_pairs, rows}
 use Rattle.bins.specs.Stencil.{cells, touching}
 use Rattle.bins.specs.Traversal.{bin, pairs_of}
@@ -13,8 +14,6 @@ use Rattle.bins.specs.Sort.{starts_of, items_of}
 use Rattle.bins.specs.Listing.{Scene, free, found_of, laid_of}
 use Rattle.exclusions.specs.Table.{is_table, is_row}
 use Rattle.frame.specs.declared.Frame.{Frame}
-use Rattle.frame.specs.declared.Built.{Built}
-use Rattle.frame.specs.declared.Built.TheVariants as BuiltCases
 use Rattle.frame.specs.Distance.{spot_of, near_of, frame_ok, spot_ok}
 use Rattle.frame.specs.Laying.{grid_of, cell_at, plain_of, crowded, home_at}
 
@@ -30,16 +29,6 @@ pub record Given : Type 0 where
 abbrev pub given : Frame → List ℕ → List ℕ → List ℕ → List ℕ → List ℕ → Given
 given f coordinates exclusions pairs starts items =
     record { frame = f; coordinates = coordinates; exclusions = exclusions; pairs = pairs; starts = starts; items = items }
-
--- an answered build's numbers, and what is seen of an answer
-pub record Counts : Type 0 where
-  pub pairs : ℕ
-  pub checks : ℕ
-  pub fallback : Bool
-
-abbrev pub seen_built : Built → Seen Counts
-seen_built (BuiltCases.Answered p c f) = answered (record { pairs = p; checks = c; fallback = f })
-seen_built (BuiltCases.Refused r) = refused_by r
 
 -- ---- which pairs there are
 -- two atoms are excluded where the table has the row low, high; they are near where their distance is within the radius
@@ -73,25 +62,25 @@ unfoldable pub ranges_ok : Frame → List ℕ → Bool
 ranges_ok f xs = frame_ok f && every (λ k. spot_ok f (spot_of xs k)) (up_to (atoms_of xs))
 
 -- 1, 2, 3, 5
-unfoldable pub frame_asked : Frame → List ℕ → List ℕ → ℕ → Done
+unfoldable pub frame_asked : Frame → List ℕ → List ℕ → ℕ → Result (Unit {0}) Refusal
 frame_asked f xs table items =
-    cond (lengths_bad (length xs) (length table) items) (DoneCases.Refused Lengths)
-    (cond (ltb most_atoms (atoms_of xs)) (DoneCases.Refused (TooMany (atoms_of xs)))
-    (cond (not (ranges_ok f xs)) (DoneCases.Refused Range) (cond (not (is_table (rows table))) (DoneCases.Refused Order) DoneCases.Answered)))
+    cond (lengths_bad (length xs) (length table) items) (Err Lengths)
+    (cond (ltb most_atoms (atoms_of xs)) (Err (TooMany (atoms_of xs)))
+    (cond (not (ranges_ok f xs)) (Err Range) (cond (not (is_table (rows table))) (Err Order) (Ok tt))))
 
 -- ---- the outcome
 pub record Outcome : Type 0 where
-  pub answer : Seen Counts
+  pub answer : Seen Built
   pub pairs : List ℕ
   pub starts : List ℕ
   pub items : List ℕ
 
 -- everything lent as it came
-abbrev pub stays : Given → Seen Counts → Outcome
+abbrev pub stays : Given → Seen Built → Outcome
 stays i a = record { answer = a; pairs = i.pairs; starts = i.starts; items = i.items }
 
 -- the answer of a run that found so many: 8, at the full count, where they don't fit
-unfoldable pub shown_of : ℕ → ℕ → ℕ → Bool → Seen Counts
+unfoldable pub shown_of : ℕ → ℕ → ℕ → Bool → Seen Built
 shown_of count checks room fallback =
     cond (leb count room) (answered (record { pairs = count; checks = checks; fallback = fallback })) (refused_by (Room count))
 
@@ -115,9 +104,9 @@ abbrev pub items_laid : Frame → List ℕ → List ℕ → List ℕ
 items_laid f xs items = items_of (home_at f xs) (atoms_of xs) (cells (grid_of f)) ++ drop (atoms_of xs) items
 
 -- Below two atoms nothing is listed, checked or laid, and it is no fallback. The fallback rules come before refusal 7.
-unfoldable pub after_of : Given → Done → Outcome
-after_of i (DoneCases.Refused r) = stays i (refused_by r)
-after_of i DoneCases.Answered =
+unfoldable pub after_of : Given → Result (Unit {0}) Refusal → Outcome
+after_of i (Err r) = stays i (refused_by r)
+after_of i (Ok tt) =
     cond (ltb (atoms_of i.coordinates) 2) (stays i (answered (record { pairs = 0; checks = 0; fallback = false })))
     (cond (plain_of i.frame) (run_of i i.starts i.items true)
     (cond (crowded i.frame (length i.starts)) (stays i (refused_by Cells))
@@ -127,5 +116,5 @@ unfoldable pub build_of : Given → Outcome
 build_of i = after_of i (frame_asked i.frame i.coordinates i.exclusions (length i.items))
 
 -- The contract of `build`: what the answer shows, and what everything lent holds at exit.
-abbrev pub BuildSays : Given → Built → List ℕ → List ℕ → List ℕ → Type 0
-BuildSays i r pairs starts items = record { answer = seen_built r; pairs = pairs; starts = starts; items = items } ≡ build_of i
+abbrev pub BuildSays : Given → Result Built Refusal → List ℕ → List ℕ → List ℕ → Type 0
+BuildSays i r pairs starts items = record { answer = seen r; pairs = pairs; starts = starts; items = items } ≡ build_of i

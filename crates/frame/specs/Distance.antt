@@ -1,7 +1,8 @@
 -- The exact distance of two atoms of a whole-number frame, and which numbers a frame takes: 01, "Whole-number frame", and 02, No. 3. Definitions only.
+use Rattle.std.specs.Prelude.{Result}
+use Rattle.answer.specs.declared.Refusal.{Refusal}
 use Rattle.std.specs.Prelude.{ℕ, ◌+◌, ◌*◌, ◌≡◌, Bool, cond, not, ◌&&◌, ◌||◌, List, get_or, ltb, leb}
-use Rattle.answer.specs.declared.Whole.{Whole}
-use Rattle.answer.specs.Seen.{Seen, answered, refused, seen_whole}
+use Rattle.answer.specs.Seen.{Seen, answered, refused, seen}
 use Rattle.bins.specs.Edge.{distance}
 use Rattle.frame.specs.declared.Side.{Side}
 use Rattle.frame.specs.declared.Frame.{Frame}
@@ -45,5 +46,5 @@ spot_ok f a = ltb a.x f.x.edge && ltb a.y f.y.edge && ltb a.z f.z.edge
 unfoldable pub squared_seen : Frame → Spot → Spot → Seen ℕ
 squared_seen f a b = cond (frame_ok f && spot_ok f a && spot_ok f b) (answered (squared_of f a b)) (refused 3 0)
 
-abbrev pub SquaredSays : Frame → Spot → Spot → Whole → Type 0
-SquaredSays f a b r = seen_whole r ≡ squared_seen f a b
+abbrev pub SquaredSays : Frame → Spot → Spot → Result ℕ Refusal → Type 0
+SquaredSays f a b r = seen r ≡ squared_seen f a b

@@ -1,9 +1,11 @@
 -- The images of an atom in a frame, and what an accepted frame promises of them: 02, No. 3, "past half a periodic edge an atom sees a second image
 -- of its partner, and the list can name it only once". Definitions only.
+use Rattle.std.specs.Prelude.{Result}
+use Rattle.answer.specs.declared.Refusal.{Refusal}
+use Rattle.frame.specs.declared.Built.{Built}
 use Rattle.std.specs.Prelude.{ℕ, ◌+◌, ◌*◌, ◌≤◌, ◌<◌, ◌≡◌, true, false, List, ◌⊎◌, take, ℤ, pos, negsuc}
 use Rattle.std.proofs.Math.IntN.{suc_ℤ}
-use Rattle.answer.specs.declared.Whole.{Whole}
-use Rattle.answer.specs.Seen.{answered, seen_whole}
+use Rattle.answer.specs.Seen.{answered, seen}
 use Rattle.lists.specs.Atoms.{atoms_of}
 use Rattle.lists.specs.Exact.{Exactly}
 use Rattle.lists.specs.Lists.{rows, Two}
@@ -12,9 +14,8 @@ use Rattle.exclusions.specs.Table.{is_row}
 use Rattle.frame.specs.declared.Side.{Side}
 use Rattle.frame.specs.declared.Frame.{Frame}
 use Rattle.frame.specs.declared.Spot.{Spot}
-use Rattle.frame.specs.declared.Built.{Built}
 use Rattle.frame.specs.Distance.{spot_of, square_of, squared_of}
-use Rattle.frame.specs.Build.{Given, Counts, seen_built}
+use Rattle.frame.specs.Build.{Given}
 
 -- An image of an atom: how many boxes further it lies on each axis.
 pub record Shift : Type 0 where
@@ -91,12 +92,12 @@ InSight i p =
     × ((k : Shift) × Sees i.frame (spot_of i.coordinates p.0) (spot_of i.coordinates p.1) k)
 
 -- a build lists these, once each, and no second image hides behind a row
-pub record Sighted (i : Given) (c : Counts) (pairs : List ℕ) : Type 0 where
+pub record Sighted (i : Given) (c : Built) (pairs : List ℕ) : Type 0 where
   pub exactly : Exactly (InSight i) (rows (take (2 * c.pairs) pairs))
   pub single : Single i.frame
 
-abbrev pub BuildSights : Given → Built → List ℕ → Type 0
-BuildSights i r pairs = (c : Counts) → seen_built r ≡ answered c → Sighted i c pairs
+abbrev pub BuildSights : Given → Result Built Refusal → List ℕ → Type 0
+BuildSights i r pairs = (c : Built) → seen r ≡ answered c → Sighted i c pairs
 
-abbrev pub SquaredSights : Frame → Spot → Spot → Whole → Type 0
-SquaredSights f a b r = (d : ℕ) → seen_whole r ≡ answered d → Nearest f a b × Single f
+abbrev pub SquaredSights : Frame → Spot → Spot → Result ℕ Refusal → Type 0
+SquaredSights f a b r = (d : ℕ) → seen r ≡ answered d → Nearest f a b × Single f

@@ -6,7 +6,7 @@ ghost use Rattle.frame.specs.Build.{lengths_bad, ranges_ok, frame_asked};
 
 use crate::laying::spot_at;
 use crate::{Frame, Side, Spot};
-use answer::{Done, Refusal};
+use answer::Refusal;
 
 fn edge_ok(e: u32) -> bool
     ensures { result ≡ edge_ok e }
@@ -39,12 +39,10 @@ fn spots_ok(f: Frame, xs: &[u32]) -> bool
     ensures { result ≡ every (λ k. spot_ok f (spot_of xs.now k)) (up_to (length xs.now / 3)) }
 {
     let n = xs.len() / 3;
-    let mut i = 0;
-    while i < n {
+    for i in 0..n {
         if !spot_ok(f, spot_at(xs, i)) {
             return false;
         }
-        i += 1;
     }
     true
 }
@@ -65,21 +63,21 @@ fn lengths_bad(xs: usize, table: usize, items: usize) -> bool
 }
 
 // Whether a build may go on: refusals 1, 2, 3, 5.
-pub fn asked(f: Frame, xs: &[u32], table: &[u32], items: usize) -> Done
+pub fn asked(f: Frame, xs: &[u32], table: &[u32], items: usize) -> Result<(), Refusal>
     ensures { result ≡ frame_asked f xs.now table.now items }
 {
     if lengths_bad(xs.len(), table.len(), items) {
-        return Done::Refused(Refusal::Lengths);
+        return Err(Refusal::Lengths);
     }
     let n = xs.len() / 3;
     if 16384 < n {
-        return Done::Refused(Refusal::TooMany { atoms: n });
+        return Err(Refusal::TooMany { atoms: n });
     }
     if !ranges_ok(f, xs) {
-        return Done::Refused(Refusal::Range);
+        return Err(Refusal::Range);
     }
     if !exclusions::kernel::is_table(table) {
-        return Done::Refused(Refusal::Order);
+        return Err(Refusal::Order);
     }
-    Done::Answered
+    Ok(())
 }

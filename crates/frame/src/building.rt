@@ -1,12 +1,12 @@
 // A build that may go on: all pairs, or the grid's.
-ghost use Rattle.std.specs.Prelude.{◌≡◌, true, false, ◌+◌, ◌-◌, ◌/◌, ◌≤◌, ◌<◌, length};
-ghost use Rattle.answer.specs.declared.Done.TheVariants.{Answered as fine};
+ghost use Rattle.answer.specs.Seen.{seen};
+ghost use Rattle.std.specs.Prelude.{◌≡◌, true, false, ◌+◌, ◌-◌, ◌/◌, ◌≤◌, ◌<◌, length, Ok};
 ghost use Rattle.lists.specs.Lists.{rows};
 ghost use Rattle.bins.specs.Stencil.{cells};
 ghost use Rattle.bins.specs.Listing.{laid_of};
 ghost use Rattle.exclusions.specs.Table.{is_table};
 ghost use Rattle.frame.specs.Laying.{plain_of};
-ghost use Rattle.frame.specs.Build.{seen_built, near_pairs, checks_of, shown_of, starts_laid, items_laid, given, after_of};
+ghost use Rattle.frame.specs.Build.{near_pairs, checks_of, shown_of, starts_laid, items_laid, given, after_of};
 ghost use Rattle.frame.specs.Steps.{Framed, Gridded};
 
 use crate::laying::{lay, plan_of};
@@ -17,26 +17,26 @@ use answer::Refusal;
 use bins::{Grid, Plan, Tally};
 
 // What a run has found: the checks are the candidates, which it has counted, less the exclusion rows among them.
-fn finish(t: Tally, excluded: u64, room: usize, fallback: bool) -> Built
+fn finish(t: Tally, excluded: u64, room: usize, fallback: bool) -> Result<Built, Refusal>
     requires { (t.count + excluded ≤ t.checks) × (t.checks < 4294967296) }
-    ensures { seen_built result ≡ shown_of t.count (t.checks - excluded) room fallback }
+    ensures { seen result ≡ shown_of t.count (t.checks - excluded) room fallback }
 {
     let count = t.count;
     let checks = bins_rules::checks_of(t.checks, excluded);
     if count <= room {
-        return Built::Answered {
+        return Ok(Built {
             pairs: count as u32,
             checks: checks as u32,
             fallback: fallback,
-        };
+        });
     }
-    Built::Refused(Refusal::Room { count: count })
+    Err(Refusal::Room { count: count })
 }
 
-fn run_plain(f: Frame, xs: &[u32], table: &[u32], pairs: &mut [u32]) -> Built
+fn run_plain(f: Frame, xs: &[u32], table: &[u32], pairs: &mut [u32]) -> Result<Built, Refusal>
     requires framed { Framed f xs.now × (is_table (rows table.now) ≡ true) }
     requires xs_len_bound { (length xs.now / 3 ≤ 16384) × (plain_of f ≡ true) }
-    ensures result_value { seen_built result ≡ shown_of (length (near_pairs f xs.now table.now)) (checks_of f xs.now table.now) (length pairs.old / 2) true }
+    ensures result_value { seen result ≡ shown_of (length (near_pairs f xs.now table.now)) (checks_of f xs.now table.now) (length pairs.old / 2) true }
     ensures pairs_after { pairs.new ≡ laid_of pairs.old (near_pairs f xs.now table.now) }
 {
     let n = (xs.len() / 3) as u32;
@@ -63,11 +63,11 @@ fn run_grid(
     pairs: &mut [u32],
     starts: &mut [u32],
     items: &mut [u32],
-) -> Built
+) -> Result<Built, Refusal>
     requires framed { Framed f xs.now × (is_table (rows table.now) ≡ true) }
     requires gridded { Gridded f g }
     requires xs_len_bound { (length xs.now / 3 ≤ 16384) × (cells g < length starts.old) × (length xs.now / 3 ≤ length items.old) }
-    ensures result_value { seen_built result ≡ shown_of (length (near_pairs f xs.now table.now)) (checks_of f xs.now table.now) (length pairs.old / 2) false }
+    ensures result_value { seen result ≡ shown_of (length (near_pairs f xs.now table.now)) (checks_of f xs.now table.now) (length pairs.old / 2) false }
     ensures pairs_after { pairs.new ≡ laid_of pairs.old (near_pairs f xs.now table.now) }
     ensures starts_after { starts.new ≡ starts_laid f xs.now starts.old }
     ensures after { items.new ≡ items_laid f xs.now items.old }
@@ -97,15 +97,15 @@ pub(crate) fn run(
     pairs: &mut [u32],
     starts: &mut [u32],
     items: &mut [u32],
-) -> Built
+) -> Result<Built, Refusal>
     requires framed { Framed f xs.now × (is_table (rows table.now) ≡ true) }
     requires in_bounds { (2 ≤ length xs.now / 3) × (length xs.now / 3 ≤ 16384) × (length xs.now / 3 ≤ length items.old) }
-    ensures { record { answer = seen_built result; pairs = pairs.new; starts = starts.new; items = items.new } ≡ after_of (given f xs.now table.now pairs.old starts.old items.old) fine }
+    ensures { record { answer = seen result; pairs = pairs.new; starts = starts.new; items = items.new } ≡ after_of (given f xs.now table.now pairs.old starts.old items.old) (Ok tt) }
 {
     let p = plan_of(f, starts.len());
     match p {
         Plan::AllPairs => run_plain(f, xs, table, pairs),
-        Plan::TooMany => Built::Refused(Refusal::Cells),
+        Plan::TooMany => Err(Refusal::Cells),
         Plan::Laid(g) => run_grid(f, g, xs, table, pairs, starts, items),
     }
 }

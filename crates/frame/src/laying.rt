@@ -117,11 +117,9 @@ fn bin_atoms(f: Frame, g: Grid, xs: &[u32], places: &mut [u32])
     requires places_in_bounds { length places.old ≤ length xs.now / 3 }
     ensures { places.new ≡ map_at (λ i _. home_at f xs.now i) places.old }
 {
-    let mut i = 0;
-    while i < places.len() {
+    for i in 0..places.len() {
         let p = place_of(f, g, spot_at(xs, i));
         places[i] = p;
-        i += 1;
     }
 }
 

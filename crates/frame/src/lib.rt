@@ -3,7 +3,7 @@
 // that no second image of an atom hides behind a listed pair.
 #![tactic(auto)]
 
-use answer::{Done, Refusal, Whole};
+use answer::Refusal;
 
 pub mod asked;
 mod building;
@@ -41,31 +41,28 @@ pub struct Spot {
     pub z: u32,
 }
 
-// The pairs stored, the distances evaluated, and whether no grid was laid; or why there is no list.
+// The pairs stored, the distances evaluated, and whether no grid was laid.
 #[derive(Drop)]
-pub enum Built {
-    Answered {
-        pairs: u32,
-        checks: u32,
-        fallback: bool,
-    },
-    Refused(Refusal),
+pub struct Built {
+    pub pairs: u32,
+    pub checks: u32,
+    pub fallback: bool,
 }
 
 // The exact squared distance of two atoms' nearest images; refusal 3 where the frame or a coordinate is out of range.
-pub fn squared_distance(f: Frame, a: Spot, b: Spot) -> Whole
+pub fn squared_distance(f: Frame, a: Spot, b: Spot) -> Result<u64, Refusal>
     ensures { SquaredSays f a b result }
 {
     if !asked::frame_ok(f) {
-        return Whole::Refused(Refusal::Range);
+        return Err(Refusal::Range);
     }
     if !asked::spot_ok(f, a) {
-        return Whole::Refused(Refusal::Range);
+        return Err(Refusal::Range);
     }
     if !asked::spot_ok(f, b) {
-        return Whole::Refused(Refusal::Range);
+        return Err(Refusal::Range);
     }
-    Whole::Answered(distance::squared(f, a, b))
+    Ok(distance::squared(f, a, b))
 }
 
 // The pairs within the radius that the exclusion table leaves, into the lent pairs; the grid tables where a grid is laid. Refusals 1, 2, 3, 5, 7, 8.
@@ -76,20 +73,17 @@ pub fn build(
     pairs: &mut [u32],
     starts: &mut [u32],
     items: &mut [u32],
-) -> Built
+) -> Result<Built, Refusal>
     ensures says { BuildSays (given f coordinates.now exclusions.now pairs.old starts.old items.old) result pairs.new starts.new items.new }
     ensures lists { BuildLists (given f coordinates.now exclusions.now pairs.old starts.old items.old) result pairs.new }
 {
-    let a = asked::asked(f, coordinates, exclusions, items.len());
-    if let Done::Refused(why) = a {
-        return Built::Refused(why);
-    }
+    asked::asked(f, coordinates, exclusions, items.len())?;
     if coordinates.len() / 3 < 2 {
-        return Built::Answered {
+        return Ok(Built {
             pairs: 0,
             checks: 0,
             fallback: false,
-        };
+        });
     }
     building::run(f, coordinates, exclusions, pairs, starts, items)
 }

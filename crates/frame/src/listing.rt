@@ -77,11 +77,8 @@ fn consider_part(
 {
     let a = spot_at(xs, i as usize);
     let mut now = t;
-    let mut k = 0;
-    while k < part.len() {
-        let j = part[k];
+    for &j in part {
         now = consider(f, xs, table, pairs, now, i, a, j);
-        k += 1;
     }
     now
 }
@@ -101,11 +98,8 @@ pub(crate) fn consider_cross(
     ensures { Lists f xs.now table.now t pairs.old (across home.now other.now) result pairs.new }
 {
     let mut now = t;
-    let mut k = 0;
-    while k < home.len() {
-        let i = home[k];
+    for &i in home {
         now = consider_part(f, xs, table, pairs, now, i, other);
-        k += 1;
     }
     now
 }
@@ -124,11 +118,8 @@ pub(crate) fn consider_home(
     ensures { Lists f xs.now table.now t pairs.old (inside home.now) result pairs.new }
 {
     let mut now = t;
-    let mut k = 0;
-    while k < home.len() {
-        let i = home[k];
+    for (k, &i) in home.iter().enumerate() {
         now = consider_part(f, xs, table, pairs, now, i, &home[k + 1..]);
-        k += 1;
     }
     now
 }
@@ -149,10 +140,8 @@ fn consider_above(
 {
     let a = spot_at(xs, i as usize);
     let mut now = t;
-    let mut j = i + 1;
-    while j < n {
+    for j in i + 1..n {
         now = consider(f, xs, table, pairs, now, i, a, j);
-        j += 1;
     }
     now
 }
@@ -171,10 +160,8 @@ pub(crate) fn consider_all(
     ensures { Lists f xs.now table.now t pairs.old (all_pairs n) result pairs.new }
 {
     let mut now = t;
-    let mut i = 0;
-    while i < n {
+    for i in 0..n {
         now = consider_above(f, xs, table, pairs, now, i, n);
-        i += 1;
     }
     now
 }

@@ -7,7 +7,7 @@ ghost use Rattle.frame.specs.Steps.{Swept, atoms_by, Lists};
 
 use crate::Frame;
 use crate::listing::{consider_cross, consider_home};
-use bins::{Cell, Grid, Reached, Tally};
+use bins::{Cell, Grid, Tally};
 
 // A home cell and one row of the stencil.
 fn sweep_row(
@@ -28,7 +28,7 @@ fn sweep_row(
     ensures { Lists f xs.now table.now t pairs.old (visit g (atoms_by f xs.now) home s) result pairs.new }
 {
     let o = bins::kernel::offset_index(g, home, s);
-    let Reached::To(other) = o else {
+    let Some(other) = o else {
         return t;
     };
     let mine = bins::atoms_in(bins::kernel::index(g, home) as usize, starts, items);
@@ -57,10 +57,8 @@ fn sweep_cell(
     ensures { Lists f xs.now table.now t pairs.old (cell_pairs g (atoms_by f xs.now) home) result pairs.new }
 {
     let mut now = t;
-    let mut s = 0;
-    while s < 14 {
+    for s in 0..14 {
         now = sweep_row(f, g, xs, table, pairs, starts, items, now, home, s);
-        s += 1;
     }
     now
 }
@@ -82,11 +80,9 @@ pub(crate) fn sweep_all(
 {
     let count = bins::kernel::cell_count(g);
     let mut now = t;
-    let mut h = 0;
-    while h < count {
+    for h in 0..count {
         let home = bins::kernel::home_of(g, h);
         now = sweep_cell(f, g, xs, table, pairs, starts, items, now, home);
-        h += 1;
     }
     now
 }

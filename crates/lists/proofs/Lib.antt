@@ -1,6 +1,7 @@
 pub mod Cases
 pub mod Exactness
 pub mod Walks
+pub mod Chains
 pub mod Loops
 pub mod Rows
 pub mod Nested

@@ -1,4 +1,6 @@
 -- The tests of the calls by their cases, as the code takes them, a search over the numbers below n, and a walk over all of them. Assumes nothing.
+use Rattle.std.specs.Prelude.{Err, Ok, Option, Result}
+use Rattle.cell.specs.declared.Lattice.{Lattice}
 use Rattle.std.proofs.Common.{◌≡◌, ℕ, ◌+◌, ◌-◌, ◌*◌, ◌/◌, ◌%◌, ◌<◌, ◌≤◌, Bool, true, false, cond, not, ◌&&◌, ◌||◌, eqb, ltb, List, [], ◌∷◌, ◌++◌, length, take, sym, refl, ap, ◌∙◌, arith, length-take-le, take_all, ltb-false, le-ltb, eqb-true}
 use native.Mathlib.Nat.{sub-zero}
 use mathlib.Core.Bool.{and_assoc, or_assoc, and-true}
@@ -6,8 +8,6 @@ use lib.Ieee.{Float, lt, le}
 use borrow.Author.Tests.{not-true, not-false}
 use Rattle.answer.proofs.Passed.{pass}
 use Rattle.float.specs.Literals.{half}
-use Rattle.answer.specs.declared.Done.{Done}
-use Rattle.answer.specs.declared.Done.TheVariants.{Answered, Refused}
 use Rattle.answer.specs.declared.Refusal.{Refusal}
 use Rattle.answer.specs.declared.Refusal.TheVariants.{Lengths, Range, NotThere, Order}
 use Rattle.answer.specs.Seen.{answered, refused_by}
@@ -18,7 +18,6 @@ use Rattle.lists.proofs.Cases.{or_neither}
 use Rattle.lists.proofs.Walks.{numbers_next, numbers_end}
 use Rattle.lists.proofs.Nested.{numbers_append}
 use Rattle.ranges.specs.Rows.{absent_of}
-use Rattle.cell.specs.declared.Cell.{Cell}
 use Rattle.cell.specs.declared.Image.{Image}
 use Rattle.cell.specs.Vec.{sub_of, norm2_of, position_at}
 use Rattle.cell.specs.Ranged.{entry_limit, cell_in_range}
@@ -104,7 +103,7 @@ all_from_first p n e = rw (← sub-zero n) e
 
 -- ---- 3 and 4 of a list that may be kept
 module _ (s : State) (n : ℕ) (pairs : List ℕ) (refs : List Float) {a : Bool} (ia : a ≡ references_ok s n refs) where
-  pub kept_range : not a ≡ true → Refused Range ≡ kept_asked s n pairs refs
+  pub kept_range : not a ≡ true → Err Range ≡ kept_asked s n pairs refs
   unfolding kept_asked
   kept_range h = rw (← ia, h)
 
@@ -113,30 +112,30 @@ module _ (s : State) (n : ℕ) (pairs : List ℕ) (refs : List Float) {a : Bool}
     unfolding misnamed
     test_is = rw (ib, ir, ip)
 
-    pub kept_bad : b && ltb row (length part / 2) ≡ true → Refused (NotThere row) ≡ kept_asked s n pairs refs
+    pub kept_bad : b && ltb row (length part / 2) ≡ true → Err (NotThere row) ≡ kept_asked s n pairs refs
     unfolding kept_asked
     kept_bad f = let q : misnamed s n pairs ≡ true = sym test_is ∙ f in rw (← ia, h, q, ir, ip)
 
-    pub kept_fine : b && ltb row (length part / 2) ≡ false → Answered ≡ kept_asked s n pairs refs
+    pub kept_fine : b && ltb row (length part / 2) ≡ false → (Ok tt) ≡ kept_asked s n pairs refs
     unfolding kept_asked
     kept_fine f = let q : misnamed s n pairs ≡ false = sym test_is ∙ f in rw (← ia, h, q)
 
 -- ---- the tests in turn
 module _ (table : List ℕ) {t : Bool} (is : t ≡ is_table (rows table)) where
-  pub table_fine : t ≡ true → Answered ≡ table_asked table
+  pub table_fine : t ≡ true → (Ok tt) ≡ table_asked table
   unfolding table_asked
   table_fine h = rw (← is, h)
 
-  pub table_bad : t ≡ false → Refused Order ≡ table_asked table
+  pub table_bad : t ≡ false → Err Order ≡ table_asked table
   unfolding table_asked
   table_bad h = rw (← is, h)
 
-module _ (may : Bool) (s : State) (cell : Cell) (xs : List Float) (table pairs : List ℕ) (refs : List Float) (items : ℕ) {d : Done} (is : d ≡ first_of s cell xs (length table) (length pairs) (length refs) items) where
-  pub asked_refused : {r : Refusal} → d ≡ Refused r → Refused r ≡ list_asked may s cell xs table pairs refs items
+module _ (may : Bool) (s : State) (cell : Option Lattice) (xs : List Float) (table pairs : List ℕ) (refs : List Float) (items : ℕ) {d : Result (Unit {0}) Refusal} (is : d ≡ first_of s cell xs (length table) (length pairs) (length refs) items) where
+  pub asked_refused : {r : Refusal} → d ≡ Err r → Err r ≡ list_asked may s cell xs table pairs refs items
   unfolding list_asked first_refusal
   asked_refused q = rw (← is, q)
 
-  pub asked_on : d ≡ Answered → {e : Done} → e ≡ first_refusal (cond may (kept_asked s (length xs / 3) pairs refs) Answered) (table_asked table) → e ≡ list_asked may s cell xs table pairs refs items
+  pub asked_on : d ≡ Ok tt → {e : Result (Unit {0}) Refusal} → e ≡ first_refusal (cond may (kept_asked s (length xs / 3) pairs refs) (Ok tt)) (table_asked table) → e ≡ list_asked may s cell xs table pairs refs items
   unfolding list_asked first_refusal
   asked_on q p = rw (← is, q) p
 
@@ -149,7 +148,7 @@ references_same s n refs {b} is h p =
     let q : s.references ≡ n = eqb-true s.references n (sym is ∙ e) in
     rw (← is, e, ← q) p
 
-module _ (s : State) (cell : Cell) (xs : List Float) {a b : Bool} (ia : a ≡ settings_ok s.cutoff s.skin) (ib : b ≡ cell_in_range cell) where
+module _ (s : State) (cell : Option Lattice) (xs : List Float) {a b : Bool} (ia : a ≡ settings_ok s.cutoff s.skin) (ib : b ≡ cell_in_range cell) where
   pub ranges_out : not (a && b) ≡ true → false ≡ ranges_ok s cell xs
   unfolding ranges_ok
   ranges_out h = rw (← ia, ← ib, not-true (a && b) h)
@@ -159,7 +158,7 @@ module _ (s : State) (cell : Cell) (xs : List Float) {a b : Bool} (ia : a ≡ se
   ranges_in h e = rw (← ia, ← ib, not-false (a && b) h) e
 
 -- ---- the question
-module _ (s : State) (cell : Cell) (xs refs : List Float) {b : Bool} (ib : b ≡ eqb s.references (length xs / 3)) where
+module _ (s : State) (cell : Option Lattice) (xs refs : List Float) {b : Bool} (ib : b ≡ eqb s.references (length xs / 3)) where
   pub needs_other : not b ≡ true → true ≡ needs_of s cell xs refs
   unfolding needs_of
   needs_other h = rw (← ib, not-true b h)
@@ -180,7 +179,7 @@ module _ (s : State) (cell : Cell) (xs refs : List Float) {b : Bool} (ib : b ≡
     needs_moved e ip q = rw (← ib, not-false b h, ← is, e) (q ∙ (λ i. some (λ k. moved_at ip k i) (up_to (length xs / 3))))
 
 -- ---- the second question
-module _ (s : State) (cell : Cell) (xs refs : List Float) {b : Bool} (ib : b ≡ same_box s.built_in cell) where
+module _ (s : State) (cell : Option Lattice) (xs refs : List Float) {b : Bool} (ib : b ≡ same_box s.built_in cell) where
   pub outdated_box : not b ≡ true → true ≡ outdated_of s cell xs refs
   unfolding outdated_of
   outdated_box h = rw (← ib, h)
@@ -190,31 +189,31 @@ module _ (s : State) (cell : Cell) (xs refs : List Float) {b : Bool} (ib : b ≡
   outdated_moved h e = rw (← ib, h) e
 
 -- ---- what is lent is long enough where the tests have passed
-pub question_room : (s : State) (cell : Cell) (xs refs : List Float) → question_of s cell xs refs ≡ Answered → length xs ≤ length refs
+pub question_room : (s : State) (cell : Option Lattice) (xs refs : List Float) → question_of s cell xs refs ≡ Ok tt → length xs ≤ length refs
 unfolding question_of
 question_room s cell xs refs h =
     ltb-false (length refs) (length xs)
     (or_neither (not (eqb (length xs % 3) 0)) (ltb (length refs) (length xs)) (pass (not (eqb (length xs % 3) 0) || ltb (length refs) (length xs)) Lengths _ h).0).1
 
-module _ (s : State) (cell : Cell) (xs refs : List Float) {d : Done} (is : d ≡ question_of s cell xs refs) where
-  pub needs_refused : {r : Refusal} → d ≡ Refused r → refused_by r ≡ needs_seen s cell xs refs (question_of s cell xs refs)
+module _ (s : State) (cell : Option Lattice) (xs refs : List Float) {d : Result (Unit {0}) Refusal} (is : d ≡ question_of s cell xs refs) where
+  pub needs_refused : {r : Refusal} → d ≡ Err r → refused_by r ≡ needs_seen s cell xs refs (question_of s cell xs refs)
   unfolding needs_seen
   needs_refused e = rw (← is, e)
 
-  pub needs_answered : d ≡ Answered → {b : Bool} → b ≡ needs_of s cell xs refs → answered b ≡ needs_seen s cell xs refs (question_of s cell xs refs)
+  pub needs_answered : d ≡ Ok tt → {b : Bool} → b ≡ needs_of s cell xs refs → answered b ≡ needs_seen s cell xs refs (question_of s cell xs refs)
   unfolding needs_seen
   needs_answered e q = rw (← is, e, q)
 
-  pub outdated_refused : {r : Refusal} → d ≡ Refused r → refused_by r ≡ outdated_seen s cell xs refs (question_of s cell xs refs)
+  pub outdated_refused : {r : Refusal} → d ≡ Err r → refused_by r ≡ outdated_seen s cell xs refs (question_of s cell xs refs)
   unfolding outdated_seen
   outdated_refused e = rw (← is, e)
 
-  pub outdated_answered : d ≡ Answered → {b : Bool} → b ≡ outdated_of s cell xs refs → answered b ≡ outdated_seen s cell xs refs (question_of s cell xs refs)
+  pub outdated_answered : d ≡ Ok tt → {b : Bool} → b ≡ outdated_of s cell xs refs → answered b ≡ outdated_seen s cell xs refs (question_of s cell xs refs)
   unfolding outdated_seen
   outdated_answered e q = rw (← is, e, q)
 
 -- ---- what a state claims
-module _ (remembered : Cell) (a b c d : ℕ) where
+module _ (remembered : Option Lattice) (a b c d : ℕ) where
   pub claims_told : claims_more remembered a b c d ≡ false → (a ≤ b) × (c ≤ d) × (cell_in_range remembered ≡ true)
   unfolding claims_more
   claims_told e =

@@ -1,4 +1,5 @@
 -- What a state remembers after an update, and that the second question keeps a list only in the remembered cell. Assumes nothing.
+use Rattle.std.specs.Prelude.{None, Option, Some}
 use Rattle.std.proofs.Common.{◌≡◌, ℕ, Bool, true, false, cond, not, ◌||◌, ltb, List, length, sym, refl, arith, eqb-true}
 use mathlib.Core.Bool.{false≢true}
 use lib.Ieee.{Float, to_bits, binary64}
@@ -9,8 +10,6 @@ use Rattle.lists.specs.Atoms.{atoms_of}
 use Rattle.lists.proofs.Cases.{by_test, and_both, or_neither}
 use Rattle.cell.specs.declared.Vec3.{Vec3}
 use Rattle.cell.specs.declared.Lattice.{Lattice}
-use Rattle.cell.specs.declared.Cell.{Cell}
-use Rattle.cell.specs.declared.Cell.TheVariants.{Absent, Present}
 use Rattle.neighbor_listing.specs.declared.Listed.{Listed}
 use Rattle.neighbor_listing.specs.declared.Listed.TheVariants.{Found, Full, Crowded, Unfit}
 use Rattle.neighbor_listing.specs.Listed.{listing_of}
@@ -44,7 +43,7 @@ unfolding same_flag
 same_flag_lem true b h = sym h
 same_flag_lem false b h = sym (not-true b h)
 
-same_lattice_lem : (l m : Lattice) → same_lattice l m ≡ true → box_bits (Present l) ≡ box_bits (Present m)
+same_lattice_lem : (l m : Lattice) → same_lattice l m ≡ true → box_bits (Some l) ≡ box_bits (Some m)
 unfolding same_lattice box_bits
 same_lattice_lem l m h =
     let p = and_both _ _ h in
@@ -61,12 +60,12 @@ same_lattice_lem l m h =
       same_flag_lem l.pz m.pz p.1,
     )
 
-pub same_box_lem : (a b : Cell) → same_box a b ≡ true → SameBits a b
+pub same_box_lem : (a b : Option Lattice) → same_box a b ≡ true → SameBits a b
 unfolding same_box
-same_box_lem Absent Absent h = refl
-same_box_lem Absent (Present m) h = absurd (false≢true h)
-same_box_lem (Present l) Absent h = absurd (false≢true h)
-same_box_lem (Present l) (Present m) h = same_lattice_lem l m h
+same_box_lem None None h = refl
+same_box_lem None (Some m) h = absurd (false≢true h)
+same_box_lem (Some l) None h = absurd (false≢true h)
+same_box_lem (Some l) (Some m) h = same_lattice_lem l m h
 
 -- ---- what a state remembers
 module _ (i : Given) where

@@ -1,17 +1,17 @@
 -- What an answered build lists, said of the exit memory: demand 3. Assumes nothing.
+use Rattle.std.specs.Prelude.{Err, Ok, Option, Result}
+use Rattle.answer.specs.declared.Refusal.{Refusal}
+use Rattle.cell.specs.declared.Lattice.{Lattice}
 use Rattle.std.proofs.Common.{◌≡◌, ℕ, ◌/◌, ◌<◌, ◌≤◌, Bool, true, false, cond, ltb, leb, List, length, sym, refl, ap, ◌∙◌, ⊎_elim, arith, ltb-true, leb-true}
 use mathlib.Core.Bool.{false≢true}
 use mathlib.Core.List.Memᴰ
 use lib.Ieee.{Float}
 use Rattle.lists.specs.Atoms.{atoms_of}
-use Rattle.answer.specs.declared.Done.{Done}
-use Rattle.answer.specs.declared.Done.TheVariants.{Answered, Refused}
 use Rattle.answer.specs.declared.Refusal.TheVariants.{Lengths}
 use Rattle.lists.specs.Exact.{Exactly}
 use Rattle.lists.specs.Lists.{how_many, rows, Two}
 use Rattle.lists.proofs.Cases.{by_test, true_or_false}
 use Rattle.lists.proofs.Exactness.{exactly_as, no_pairs}
-use Rattle.cell.specs.declared.Cell.{Cell}
 use Rattle.bins.specs.Stencil.{touching}
 use Rattle.bins.specs.Traversal.{Near}
 use Rattle.bins.specs.Listing.{Chosen, laid_of}
@@ -31,7 +31,7 @@ use Rattle.neighbor.specs.Update.{Given, Outcome, stays, kept_all, built_all, fu
 use Rattle.neighbor.specs.Listed.{Listed, UpdateLists}
 
 -- ---- the listed pairs, of any frame
-module _ (cell : Cell) (r : Float) (xs : List Float) (table : List ℕ) where
+module _ (cell : Option Lattice) (r : Float) (xs : List Float) (table : List ℕ) where
   abbrev pub Listable : ℕ × ℕ → Type 0
   Listable p = Two (atoms_of xs) p × (is_row p (rows table) ≡ false) × (beside cell r xs p ≡ true) × (near_of cell r xs p.0 p.1 ≡ true)
 
@@ -135,10 +135,10 @@ module _ (i : Given) where
       by_test (λ t. Says i (cond t (stays i Lengths) (cond asked (kept_all i) (rebuilt_all i)))) (unfit (length i.positions) (length i.references)) (λ _ q. never q)
       (λ _. by_test (λ t. Says i (cond t (kept_all i) (rebuilt_all i))) asked (λ _ q. never q) (λ _. rebuilt_lists))
 
-  asked_lists : (question : Question) (d : Done) → Says i (after_of question i d)
+  asked_lists : (question : Question) (d : Result (Unit {0}) Refusal) → Says i (after_of question i d)
   unfolding after_of
-  asked_lists question (Refused r) q = never q
-  asked_lists question Answered q = update_lists question q
+  asked_lists question (Err r) q = never q
+  asked_lists question (Ok tt) q = update_lists question q
 
 -- DEMAND 3. What the outcome's equation says of an answered build.
 pub says_lists : (question : Question) (i : Given) (r : Updated) (pairs : List ℕ) (references : List Float) (starts items : List ℕ) → UpdateSays question i r pairs references starts items → UpdateLists i r pairs

@@ -1,17 +1,16 @@
 -- What passed tests show, test by test; and that after them a build is the Rust's own, with no case of which nothing is made. Assumes nothing.
+use Rattle.std.specs.Prelude.{Err, Ok, Option, Result}
+use Rattle.cell.specs.declared.Lattice.{Lattice}
 use Rattle.std.proofs.Common.{◌≡◌, ℕ, ◌/◌, ◌%◌, Bool, true, false, cond, not, ◌||◌, eqb, ltb, leb, ◌⊎◌, List, length, refl, inl, inr}
 use lib.Ieee.{Float}
 use borrow.Author.Tests.{not-false}
 use Rattle.lists.specs.Atoms.{atoms_of}
 use Rattle.lists.specs.Lists.{rows}
 use Rattle.lists.proofs.Cases.{by_test, impossible, or_neither, neither_or}
-use Rattle.answer.specs.declared.Done.{Done}
-use Rattle.answer.specs.declared.Done.TheVariants.{Answered, Refused}
 use Rattle.answer.specs.declared.Refusal.{Refusal}
 use Rattle.answer.specs.declared.Refusal.TheVariants.{Lengths, TooMany, Range, Order, Claims}
 use Rattle.answer.specs.Seen.{refused}
 use Rattle.answer.proofs.Passed.{pass}
-use Rattle.cell.specs.declared.Cell.{Cell}
 use Rattle.bins.specs.Listing.{laid_of}
 use Rattle.exclusions.specs.Table.{is_table}
 use Rattle.neighbor_grid.specs.Grid.{plain_of, crowded}
@@ -28,16 +27,16 @@ use Rattle.neighbor.specs.Update.{Given, Outcome, kept_all, built_all, full_all,
 use Rattle.neighbor.specs.Source.{UpdatesBySource}
 
 -- ---- tests in turn
-pub passed : (b : Bool) (r : Refusal) → cond b Answered (Refused r) ≡ Answered → b ≡ true
+pub passed : (b : Bool) (r : Refusal) → ◌≡◌ {A = Result (Unit {0}) Refusal} (cond b (Ok tt) (Err r)) (Ok tt) → b ≡ true
 passed true r e = refl
 passed false r e = impossible (cc)
 
-pub both_passed : (a b : Done) → first_refusal a b ≡ Answered → (a ≡ Answered) × (b ≡ Answered)
+pub both_passed : (a b : Result (Unit {0}) Refusal) → first_refusal a b ≡ Ok tt → (a ≡ Ok tt) × (b ≡ Ok tt)
 unfolding first_refusal
-both_passed Answered b e = (refl, e)
-both_passed (Refused r) b e = impossible (cc)
+both_passed (Ok tt) b e = (refl, e)
+both_passed (Err r) b e = impossible (cc)
 
-pub first_told : (s : State) (cell : Cell) (xs : List Float) (table pairs refs items : ℕ) → first_of s cell xs table pairs refs items ≡ Answered
+pub first_told : (s : State) (cell : Option Lattice) (xs : List Float) (table pairs refs items : ℕ) → first_of s cell xs table pairs refs items ≡ Ok tt
     → (lengths_bad (length xs) table refs items ≡ false) × (ltb 16384 (atoms_of xs) ≡ false) × (claims_more s.built_in s.pairs (pairs / 2) s.references (refs / 3) ≡ false) × (ranges_ok s cell xs ≡ true)
 unfolding first_of
 first_told s cell xs table pairs refs items e =
@@ -117,8 +116,8 @@ module _ (i : Given) where
         (λ _. list_ends)
 
 -- ---- the calls
-module _ (question : Question) (i : Given) (e : update_asked (may_keep question) i ≡ Answered) where
-  first : first_of i.state i.cell i.positions (length i.exclusions) (length i.pairs) (length i.references) (length i.items) ≡ Answered
+module _ (question : Question) (i : Given) (e : update_asked (may_keep question) i ≡ Ok tt) where
+  first : first_of i.state i.cell i.positions (length i.exclusions) (length i.pairs) (length i.references) (length i.items) ≡ Ok tt
   unfolding list_asked
   first = (both_passed _ _ e).0
 

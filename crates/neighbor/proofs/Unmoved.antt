@@ -1,4 +1,6 @@
 -- One walk over positions and references that finds each number quiet: the question is answered, and the list need not be built anew. Assumes nothing.
+use Rattle.std.specs.Prelude.{Ok, Option}
+use Rattle.cell.specs.declared.Lattice.{Lattice}
 use Rattle.std.proofs.Common.{◌≡◌, ℕ, ◌+◌, ◌-◌, ◌*◌, ◌/◌, ◌%◌, ◌<◌, ◌≤◌, Bool, true, false, not, ◌&&◌, ◌||◌, eqb, ltb, List, length, take, sym, refl, ap, ◌∙◌, subst, zero-add, arith, length-take, get_or-take, ltb-false}
 use mathlib.Core.Bool.{or-false, false≢true}
 use lib.Ieee.{Float, nan, lt, le}
@@ -12,8 +14,6 @@ use Rattle.lists.proofs.Cases.{or_neither, or_right}
 use Rattle.lists.proofs.Walks.{every_at, at_every}
 use Rattle.lists.proofs.Exactness.{numbers_at, length_numbers, length_up_to}
 use Rattle.ranges.specs.Ranged.{within}
-use Rattle.answer.specs.declared.Done.TheVariants.{Answered}
-use Rattle.cell.specs.declared.Cell.{Cell}
 use Rattle.cell.specs.Ranged.{entry_limit, cell_in_range}
 use Rattle.cell_prepared.specs.declared.Prepared.{Prepared}
 use Rattle.cell_prepared.specs.Facts.{prepare_of}
@@ -28,14 +28,14 @@ use Rattle.neighbor.specs.Rebuild.{needs_of, same_box, outdated_of, claims_more,
 use Rattle.neighbor.specs.Steps.{plain_of, RestSays}
 use Rattle.neighbor.proofs.Asking.{ranges_in, needs_moved, from_first}
 
-record Plain (s : State) (cell : Cell) (xs refs : ℕ) : Type 0 where
+record Plain (s : State) (cell : Option Lattice) (xs refs : ℕ) : Type 0 where
   lengths : (not (eqb (xs % 3) 0) || ltb refs xs) ≡ false
   many : ltb most_atoms (xs / 3) ≡ false
   claims : claims_more s.built_in 0 0 s.references (refs / 3) ≡ false
   same : eqb s.references (xs / 3) ≡ true
   fine : (settings_ok s.cutoff s.skin && cell_in_range cell) ≡ true
 
-module _ (s : State) (cell : Cell) (xs refs : ℕ) where
+module _ (s : State) (cell : Option Lattice) (xs refs : ℕ) where
   told : plain_of s cell xs refs ≡ true → Plain s cell xs refs
   unfolding plain_of
   told h =
@@ -53,7 +53,7 @@ module _ (s : State) (cell : Cell) (xs refs : ℕ) where
   pub plain_room : plain_of s cell xs refs ≡ true → xs ≤ refs
   plain_room h = ltb-false refs xs (or_neither (not (eqb (xs % 3) 0)) (ltb refs xs) (told h).lengths).1
 
-in_order_lem : (a b c d : Bool) (n : ℕ) → a ≡ false → b ≡ false → c ≡ false → d ≡ false → in_order a b n c d ≡ Answered
+in_order_lem : (a b c d : Bool) (n : ℕ) → a ≡ false → b ≡ false → c ≡ false → d ≡ false → in_order a b n c d ≡ Ok tt
 in_order_lem a b c d n p q r t = rw (p, q, r, t)
 
 every_number : (q : ℕ → Bool) (f c : ℕ) → ((k : ℕ) → k < c → q (f + k) ≡ true) → every q (numbers f c) ≡ true
@@ -62,7 +62,7 @@ every_number q f c h =
     let below : k < c = subst (λ (z : ℕ). k < z) (length_numbers f c) l in
     subst (λ (z : ℕ). q z ≡ true) (sym (numbers_at f c k below)) (h k below))
 
-module _ (s : State) (cell : Cell) (xs refs : List Float) where
+module _ (s : State) (cell : Option Lattice) (xs refs : List Float) where
   pub not_at_rest : RestSays s cell xs refs false
   not_at_rest = record { asked = λ e. absurd (false≢true e); kept = λ e. absurd (false≢true e) }
 
@@ -94,7 +94,7 @@ module _ (s : State) (cell : Cell) (xs refs : List Float) where
       unfolding references_ok
       references_fine = or_right (not (eqb s.references (length xs / 3))) (every (within entry_limit) (take (3 * (length xs / 3)) refs)) references_in
 
-      answered : question_of s cell xs refs ≡ Answered
+      answered : question_of s cell xs refs ≡ Ok tt
       unfolding question_of
       answered =
           let inside : not (ranges_ok s cell xs && references_ok s (length xs / 3) refs) ≡ false = rw (ranges_fine, references_fine) in
@@ -121,6 +121,6 @@ module _ (s : State) (cell : Cell) (xs refs : List Float) where
       go false e = not_at_rest
 
 -- `outdated` then asks for the cell alone
-pub outdated_at_rest : (s : State) (cell : Cell) (xs refs : List Float) {b : Bool} → b ≡ same_box s.built_in cell → needs_of s cell xs refs ≡ false → not b ≡ outdated_of s cell xs refs
+pub outdated_at_rest : (s : State) (cell : Option Lattice) (xs refs : List Float) {b : Bool} → b ≡ same_box s.built_in cell → needs_of s cell xs refs ≡ false → not b ≡ outdated_of s cell xs refs
 unfolding outdated_of
 outdated_at_rest s cell xs refs {b} e h = rw (← e, h) (sym (or-false (not b)))

@@ -1,9 +1,9 @@
 -- The outcome of a build and of the calls by their cases, as the code takes them. Assumes nothing.
+use Rattle.std.specs.Prelude.{Err, Ok, Option, Result}
+use Rattle.cell.specs.declared.Lattice.{Lattice}
 use Rattle.std.proofs.Common.{◌≡◌, ℕ, ◌/◌, ◌<◌, ◌≤◌, Bool, true, false, ltb, List, length, sym, ◌∙◌, ltb-false, le-ltb, lt-ltb}
 use lib.Ieee.{Float}
 use Rattle.float.specs.Arith.{at}
-use Rattle.answer.specs.declared.Done.{Done}
-use Rattle.answer.specs.declared.Done.TheVariants.{Answered, Refused}
 use Rattle.answer.specs.declared.Refusal.{Refusal}
 use Rattle.answer.specs.declared.Refusal.TheVariants.{Lengths, Cells, Room}
 use Rattle.lists.specs.Loops.{part_at}
@@ -11,7 +11,6 @@ use Rattle.lists.proofs.Cases.{or_neither}
 use Rattle.neighbor_listing.specs.declared.Listed.{Listed}
 use Rattle.neighbor_listing.specs.declared.Listed.TheVariants.{Found, Full, Crowded, Unfit}
 use Rattle.neighbor_listing.specs.Listed.{outcome, listing_of}
-use Rattle.cell.specs.declared.Cell.{Cell}
 use Rattle.neighbor.specs.declared.Question.{Question}
 use Rattle.neighbor.specs.declared.State.{State}
 use Rattle.neighbor.specs.declared.Updated.{Updated}
@@ -23,11 +22,11 @@ abbrev pub referred : Given → List Float
 referred i = part_at (λ k _. at i.positions k) (length i.positions) i.references
 
 -- what a build answers where it is answered, and where it is not
-abbrev pub answered_by : State → Cell → ℕ → ℕ → ℕ → Bool → Updated
-answered_by s cell n count checks fallback = record { done = Answered; rebuilt = true; state = built_of s cell n count checks fallback }
+abbrev pub answered_by : State → Option Lattice → ℕ → ℕ → ℕ → Bool → Updated
+answered_by s cell n count checks fallback = record { done = Ok tt; rebuilt = true; state = built_of s cell n count checks fallback }
 
 abbrev pub refused_by : State → Refusal → Updated
-refused_by s r = record { done = Refused r; rebuilt = false; state = s }
+refused_by s r = record { done = Err r; rebuilt = false; state = s }
 
 -- ---- a build
 module _ (i : Given) where
@@ -43,7 +42,7 @@ module _ (i : Given) where
     unfolding rebuilt_all listed_all built_all
     rebuilt_found f e q = rw (le-ltb (length i.positions / 3) 2 many, ← er, ← is, f, e, q)
 
-    pub rebuilt_full : {count : ℕ} → found ≡ Full count → {r : Updated} → r ≡ record { done = Refused (Room count); rebuilt = false; state = emptied_of i.state } → shown r p i.references s t ≡ rebuilt_all i
+    pub rebuilt_full : {count : ℕ} → found ≡ Full count → {r : Updated} → r ≡ record { done = Err (Room count); rebuilt = false; state = emptied_of i.state } → shown r p i.references s t ≡ rebuilt_all i
     unfolding rebuilt_all listed_all full_all
     rebuilt_full f e = rw (le-ltb (length i.positions / 3) 2 many, ← er, ← is, f, e)
 
@@ -73,7 +72,7 @@ module _ (question : Question) (i : Given) {u : Bool} (iu : u ≡ unfit (length 
     update_few = ltb-false 16384 (length i.positions / 3) fit.1
 
     pub update_kept : {q : Bool} → q ≡ keeps_of question i.state i.cell i.positions i.references → q ≡ true → {s : State} → s ≡ kept_of i.state
-        → shown (record { done = Answered; rebuilt = false; state = s }) i.pairs i.references i.starts i.items ≡ update_of question i
+        → shown (record { done = Ok tt; rebuilt = false; state = s }) i.pairs i.references i.starts i.items ≡ update_of question i
     unfolding update_of kept_all
     update_kept iq k e = rw (← iu, h, ← iq, k, e)
 
@@ -82,11 +81,11 @@ module _ (question : Question) (i : Given) {u : Bool} (iu : u ≡ unfit (length 
     update_built iq k e = rw (← iu, h, ← iq, k) e
 
 -- ---- the calls
-module _ (question : Question) (i : Given) {d : Done} (is : d ≡ update_asked (may_keep question) i) where
-  pub updated_refused : {why : Refusal} → d ≡ Refused why → {r : Updated} → r ≡ refused_by i.state why → shown r i.pairs i.references i.starts i.items ≡ updated_of question i
+module _ (question : Question) (i : Given) {d : Result (Unit {0}) Refusal} (is : d ≡ update_asked (may_keep question) i) where
+  pub updated_refused : {why : Refusal} → d ≡ Err why → {r : Updated} → r ≡ refused_by i.state why → shown r i.pairs i.references i.starts i.items ≡ updated_of question i
   unfolding updated_of after_of
   updated_refused h e = rw (← is, h, e)
 
-  pub updated_on : d ≡ Answered → {o : Outcome} → o ≡ update_of question i → o ≡ updated_of question i
+  pub updated_on : d ≡ Ok tt → {o : Outcome} → o ≡ update_of question i → o ≡ updated_of question i
   unfolding updated_of after_of
   updated_on h e = rw (← is, h) e

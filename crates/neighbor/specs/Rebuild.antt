@@ -1,5 +1,7 @@
 -- When a list must be built anew: neighbor.rs, `needs_rebuild` (131-144); 01: "Rebuild when the counts differ, skin <= 0, or some squared displacement exceeds
 -- (0.5 × skin)²; equality does not". The second question, `outdated` (02, No. 6). And what both calls answer. Definitions only.
+use Rattle.std.specs.Prelude.{Err, None, Ok, Option, Result, Some}
+use Rattle.answer.specs.declared.Refusal.{Refusal}
 use Rattle.std.specs.Prelude.{◌≡◌, ℕ, ◌*◌, ◌/◌, ◌%◌, Bool, true, false, cond, not, ◌&&◌, ◌||◌, List, length, take, ◌==◌, nat_lt, to_bits, Float}
 use Rattle.std.specs.Float.Ieee.{lt, le}
 use Rattle.std.specs.Float.{binary64}
@@ -8,14 +10,9 @@ use Rattle.float.specs.Literals.{half}
 use Rattle.float.specs.Arith.{◌⊗◌, bits}
 use Rattle.lists.specs.Lists.{up_to, some, every}
 use Rattle.ranges.specs.Ranged.{within}
-use Rattle.answer.specs.declared.Done.{Done}
-use Rattle.answer.specs.declared.Done.TheVariants.{Answered, Refused}
-use Rattle.answer.specs.declared.YesNo.{YesNo}
-use Rattle.answer.specs.Seen.{Seen, answered, refused_by, seen_yes_no}
+use Rattle.answer.specs.Seen.{Seen, answered, refused_by, seen}
 use Rattle.cell.specs.declared.Vec3.{Vec3}
 use Rattle.cell.specs.declared.Lattice.{Lattice}
-use Rattle.cell.specs.declared.Cell.{Cell}
-use Rattle.cell.specs.declared.Cell.TheVariants.{Absent, Present}
 use Rattle.cell.specs.Vec.{sub_of, norm2_of, position_at}
 use Rattle.cell.specs.Cell.{image_of}
 use Rattle.cell.specs.Ranged.{entry_limit, cell_in_range}
@@ -27,10 +24,10 @@ unfoldable pub allowance : State → Float
 allowance s = (half ⊗ skin_of s) ⊗ (half ⊗ skin_of s)
 
 -- an atom's squared displacement exceeds it (141-142)
-unfoldable pub strayed_of : State → Cell → List Float → List Float → ℕ → Bool
+unfoldable pub strayed_of : State → Option Lattice → List Float → List Float → ℕ → Bool
 strayed_of s cell xs refs k = lt (allowance s) (norm2_of (image_of (sub_of (position_at xs k) (position_at refs k)) cell).diff)
 
-unfoldable pub needs_of : State → Cell → List Float → List Float → Bool
+unfoldable pub needs_of : State → Option Lattice → List Float → List Float → Bool
 needs_of s cell xs refs = not (s.references == atoms_of xs) || (le (skin_of s) (bits 0) || some (strayed_of s cell xs refs) (up_to (atoms_of xs)))
 
 -- ---- the second question: "also says yes if any differ in a single bit"
@@ -50,18 +47,18 @@ same_lattice l m =
     && same_flag l.px m.px && same_flag l.py m.py && same_flag l.pz m.pz
 
 -- ", or none"
-unfoldable pub same_box : Cell → Cell → Bool
-same_box Absent Absent = true
-same_box Absent (Present m) = false
-same_box (Present l) Absent = false
-same_box (Present l) (Present m) = same_lattice l m
+unfoldable pub same_box : Option Lattice → Option Lattice → Bool
+same_box None None = true
+same_box None (Some m) = false
+same_box (Some l) None = false
+same_box (Some l) (Some m) = same_lattice l m
 
-unfoldable pub outdated_of : State → Cell → List Float → List Float → Bool
+unfoldable pub outdated_of : State → Option Lattice → List Float → List Float → Bool
 outdated_of s cell xs refs = not (same_box s.built_in cell) || needs_of s cell xs refs
 
 -- ---- the tests
 -- 6: "list state claims more pairs or references than the lent room"; 02, No. 6: "6 also for a state whose remembered cell is out of range"
-unfoldable pub claims_more : Cell → ℕ → ℕ → ℕ → ℕ → Bool
+unfoldable pub claims_more : Option Lattice → ℕ → ℕ → ℕ → ℕ → Bool
 claims_more remembered pairs rows references spots = nat_lt rows pairs || nat_lt spots references || not (cell_in_range remembered)
 
 -- 3: the references that the state claims, "only where the state's references equal n"
@@ -69,26 +66,26 @@ unfoldable pub references_ok : State → ℕ → List Float → Bool
 references_ok s n refs = not (s.references == n) || every (within entry_limit) (take (3 * n) refs)
 
 -- 3: the state, the cell, the positions
-unfoldable pub ranges_ok : State → Cell → List Float → Bool
+unfoldable pub ranges_ok : State → Option Lattice → List Float → Bool
 ranges_ok s cell xs = settings_ok s.cutoff s.skin && cell_in_range cell && every (within entry_limit) xs
 
 -- 1 (positions no multiple of 3, references shorter than positions), 2, 6, 3
-unfoldable pub question_of : State → Cell → List Float → List Float → Done
+unfoldable pub question_of : State → Option Lattice → List Float → List Float → Result (Unit {0}) Refusal
 question_of s cell xs refs =
     in_order (not (length xs % 3 == 0) || nat_lt (length refs) (length xs)) (nat_lt most_atoms (atoms_of xs)) (atoms_of xs)
     (claims_more s.built_in 0 0 s.references (length refs / 3))
     (not (ranges_ok s cell xs && references_ok s (atoms_of xs) refs))
 
-unfoldable pub needs_seen : State → Cell → List Float → List Float → Done → Seen Bool
-needs_seen s cell xs refs (Refused r) = refused_by r
-needs_seen s cell xs refs Answered = answered (needs_of s cell xs refs)
+unfoldable pub needs_seen : State → Option Lattice → List Float → List Float → Result (Unit {0}) Refusal → Seen Bool
+needs_seen s cell xs refs (Err r) = refused_by r
+needs_seen s cell xs refs (Ok tt) = answered (needs_of s cell xs refs)
 
-abbrev pub NeedsSays : State → Cell → List Float → List Float → YesNo → Type 0
-NeedsSays s cell xs refs r = seen_yes_no r ≡ needs_seen s cell xs refs (question_of s cell xs refs)
+abbrev pub NeedsSays : State → Option Lattice → List Float → List Float → Result Bool Refusal → Type 0
+NeedsSays s cell xs refs r = seen r ≡ needs_seen s cell xs refs (question_of s cell xs refs)
 
-unfoldable pub outdated_seen : State → Cell → List Float → List Float → Done → Seen Bool
-outdated_seen s cell xs refs (Refused r) = refused_by r
-outdated_seen s cell xs refs Answered = answered (outdated_of s cell xs refs)
+unfoldable pub outdated_seen : State → Option Lattice → List Float → List Float → Result (Unit {0}) Refusal → Seen Bool
+outdated_seen s cell xs refs (Err r) = refused_by r
+outdated_seen s cell xs refs (Ok tt) = answered (outdated_of s cell xs refs)
 
-abbrev pub OutdatedSays : State → Cell → List Float → List Float → YesNo → Type 0
-OutdatedSays s cell xs refs r = seen_yes_no r ≡ outdated_seen s cell xs refs (question_of s cell xs refs)
+abbrev pub OutdatedSays : State → Option Lattice → List Float → List Float → Result Bool Refusal → Type 0
+OutdatedSays s cell xs refs r = seen r ≡ outdated_seen s cell xs refs (question_of s cell xs refs)

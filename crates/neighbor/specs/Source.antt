@@ -1,7 +1,7 @@
 -- What `build` and `maybe_build` are after passed tests: the Rust's own branches with 01's 7 and 8, and no refusal 1. proofs/Source.antt proves it of every input.
 -- Definitions only.
+use Rattle.std.specs.Prelude.{Ok}
 use Rattle.std.specs.Prelude.{◌≡◌, ℕ, true, false, cond, ◌⊎◌, length}
-use Rattle.answer.specs.declared.Done.TheVariants.{Answered}
 use Rattle.answer.specs.Seen.{refused}
 use Rattle.neighbor_grid.specs.Grid.{plain_of, crowded}
 use Rattle.neighbor_grid.specs.Layout.{starts_laid, items_laid}
@@ -30,4 +30,4 @@ pub record SourceUpdate (question : Question) (i : Given) : Type 0 where
       → ((n ≡ 7) × (p ≡ 0)) ⊎ ((n ≡ 8) × (p ≡ length (near_pairs i.cell (radius_of i.state) i.positions i.exclusions)))
 
 abbrev pub UpdatesBySource : Question → Given → Type 0
-UpdatesBySource question i = update_asked (may_keep question) i ≡ Answered → SourceUpdate question i
+UpdatesBySource question i = update_asked (may_keep question) i ≡ Ok tt → SourceUpdate question i

@@ -1,16 +1,14 @@
 -- The state of a list: its settings, its radius, and the three states that are made (01, "Pair list rules", "Refusal numbers"; neighbor.rs, `new`, `search_radius`, `build`).
 -- Definitions only.
+use Rattle.std.specs.Prelude.{Err, None, Ok, Option, Result, Some}
+use Rattle.answer.specs.declared.Refusal.{Refusal}
+use Rattle.cell.specs.declared.Lattice.{Lattice}
 use Rattle.std.specs.Prelude.{◌≡◌, ℕ, ◌+◌, ◌-◌, ◌%◌, Bool, false, cond, Float}
 use Rattle.float.specs.Arith.{◌⊕◌, bits}
 use Rattle.float.specs.Def.{max_of}
-use Rattle.cell.specs.declared.Cell.{Cell}
-use Rattle.cell.specs.declared.Cell.TheVariants as CellCases
-use Rattle.answer.specs.Seen.{Seen, answered, refused, refused_by, seen_number}
-use Rattle.answer.specs.declared.Number.{Number}
+use Rattle.answer.specs.Seen.{Seen, answered, refused, refused_by, seen}
 use Rattle.neighbor_asked.specs.Asked.{settings_ok}
 use Rattle.neighbor.specs.declared.State.{State}
-use Rattle.neighbor.specs.declared.StateAnswer.{StateAnswer}
-use Rattle.neighbor.specs.declared.StateAnswer.TheVariants as AnswerCases
 
 -- `new`: "a negative one becoming 0" (63-69)
 unfoldable pub fresh_of : Float → Float → State
@@ -23,7 +21,7 @@ fresh_of cutoff skin =
       checks = 0;
       fallback = false;
       builds = 0;
-      built_in = CellCases.Absent;
+      built_in = None;
     }
 
 -- every call reads the skin so
@@ -49,7 +47,7 @@ kept_of s =
     }
 
 -- after an answered build: "comes round to zero after 2^32 - 1"; 02, No. 6: "remember the nine cell numbers and three flags, or none, of its last answered build"
-unfoldable pub built_of : State → Cell → ℕ → ℕ → ℕ → Bool → State
+unfoldable pub built_of : State → Option Lattice → ℕ → ℕ → ℕ → Bool → State
 built_of s cell atoms pairs checks fallback =
     record {
       cutoff = s.cutoff;
@@ -73,26 +71,21 @@ emptied_of s =
       checks = 0;
       fallback = false;
       builds = s.builds;
-      built_in = CellCases.Absent;
+      built_in = None;
     }
 
 -- "the span since an earlier reading is a wrapped difference"
 unfoldable pub since_of : State → ℕ → ℕ
 since_of s earlier = (s.builds + (4294967296 - earlier)) % 4294967296
 
--- ---- the calls
-abbrev pub seen_state : StateAnswer → Seen State
-seen_state (AnswerCases.Answered s) = answered s
-seen_state (AnswerCases.Refused r) = refused_by r
-
 unfoldable pub new_seen : Float → Float → Seen State
 new_seen cutoff skin = cond (settings_ok cutoff skin) (answered (fresh_of cutoff skin)) (refused 3 0)
 
-abbrev pub NewSays : Float → Float → StateAnswer → Type 0
-NewSays cutoff skin r = seen_state r ≡ new_seen cutoff skin
+abbrev pub NewSays : Float → Float → Result State Refusal → Type 0
+NewSays cutoff skin r = seen r ≡ new_seen cutoff skin
 
 unfoldable pub radius_seen : State → Seen Float
 radius_seen s = cond (settings_ok s.cutoff s.skin) (answered (radius_of s)) (refused 3 0)
 
-abbrev pub RadiusSays : State → Number → Type 0
-RadiusSays s r = seen_number r ≡ radius_seen s
+abbrev pub RadiusSays : State → Result Float Refusal → Type 0
+RadiusSays s r = seen r ≡ radius_seen s

@@ -1,17 +1,16 @@
 -- What a build, or a question and then a build, answers and leaves in everything lent: one outcome, made from the entry values alone, the tests in 01's order.
 -- The outcome's pairs are a list in 01's order, which is how the order of the stored pairs is said. Definitions only.
+use Rattle.std.specs.Prelude.{Err, None, Ok, Option, Result, Some}
+use Rattle.cell.specs.declared.Lattice.{Lattice}
 use Rattle.std.specs.Prelude.{◌≡◌, ℕ, ◌*◌, ◌/◌, ◌%◌, Bool, true, false, cond, not, ◌&&◌, ◌||◌, List, [], length, take, ◌==◌, nat_lt, Float}
 use Rattle.lists.specs.Atoms.{atoms_of, most_atoms}
-use Rattle.answer.specs.declared.Done.{Done}
-use Rattle.answer.specs.declared.Done.TheVariants as DoneCases
 use Rattle.answer.specs.declared.Refusal.{Refusal}
 use Rattle.answer.specs.declared.Refusal.TheVariants.{Lengths, Range, NotThere, Order, Claims, Cells, Room}
-use Rattle.answer.specs.Seen.{Seen, answered, refused_by, seen_done}
+use Rattle.answer.specs.Seen.{Seen, answered, refused_by, seen}
 use Rattle.float.specs.Arith.{at}
 use Rattle.lists.specs.Lists.{rows}
 use Rattle.lists.specs.Loops.{part_at}
 use Rattle.ranges.specs.Rows.{absent_of}
-use Rattle.cell.specs.declared.Cell.{Cell}
 use Rattle.exclusions.specs.Table.{is_table}
 use Rattle.neighbor_listing.specs.declared.Listed.{Listed}
 use Rattle.neighbor_listing.specs.declared.Listed.TheVariants as ListedCases
@@ -27,7 +26,7 @@ use Rattle.neighbor.specs.Rebuild.{needs_of, outdated_of, claims_more, reference
 -- everything that a build is given; the last four are lent to be written
 pub record Given : Type 0 where
   pub state : State
-  pub cell : Cell
+  pub cell : Option Lattice
   pub positions : List Float
   pub exclusions : List ℕ
   pub pairs : List ℕ
@@ -35,7 +34,7 @@ pub record Given : Type 0 where
   pub starts : List ℕ
   pub items : List ℕ
 
-abbrev pub given : State → Cell → List Float → List ℕ → List ℕ → List Float → List ℕ → List ℕ → Given
+abbrev pub given : State → Option Lattice → List Float → List ℕ → List ℕ → List Float → List ℕ → List ℕ → Given
 given s cell positions exclusions pairs references starts items =
     record {
       state = s;
@@ -135,7 +134,7 @@ unfoldable pub unfit : ℕ → ℕ → Bool
 unfit positions references = nat_lt references positions || nat_lt most_atoms (positions / 3)
 
 -- whether the list is kept: a question was asked, and its answer was no
-unfoldable pub keeps_of : Question → State → Cell → List Float → List Float → Bool
+unfoldable pub keeps_of : Question → State → Option Lattice → List Float → List Float → Bool
 keeps_of QuestionCases.Unasked s cell xs refs = false
 keeps_of QuestionCases.NeedsRebuild s cell xs refs = not (needs_of s cell xs refs)
 keeps_of QuestionCases.Outdated s cell xs refs = not (outdated_of s cell xs refs)
@@ -157,7 +156,7 @@ unfoldable pub listed_of : State → List ℕ → List ℕ
 listed_of s pairs = cond (claims_more s.built_in s.pairs (length pairs / 2) 0 0) [] (take (2 * s.pairs) pairs)
 
 -- 1, 2, 6, 3 of every build; `table`, `pairs`, `refs` and `items` are lengths
-unfoldable pub first_of : State → Cell → List Float → ℕ → ℕ → ℕ → ℕ → Done
+unfoldable pub first_of : State → Option Lattice → List Float → ℕ → ℕ → ℕ → ℕ → Result (Unit {0}) Refusal
 first_of s cell xs table pairs refs items =
     in_order (lengths_bad (length xs) table refs items) (nat_lt most_atoms (atoms_of xs)) (atoms_of xs)
     (claims_more s.built_in s.pairs (pairs / 2) s.references (refs / 3))
@@ -168,28 +167,28 @@ unfoldable pub misnamed : State → ℕ → List ℕ → Bool
 misnamed s n pairs = s.references == n && nat_lt (absent_of n (rows (listed_of s pairs))) (length (listed_of s pairs) / 2)
 
 -- 3 and 4 of what the state claims, "only in a call that may keep the list"
-unfoldable pub kept_asked : State → ℕ → List ℕ → List Float → Done
+unfoldable pub kept_asked : State → ℕ → List ℕ → List Float → Result (Unit {0}) Refusal
 kept_asked s n pairs refs =
-    cond (not (references_ok s n refs)) (DoneCases.Refused Range)
-    (cond (misnamed s n pairs) (DoneCases.Refused (NotThere (absent_of n (rows (listed_of s pairs))))) DoneCases.Answered)
+    cond (not (references_ok s n refs)) (Err Range)
+    (cond (misnamed s n pairs) (Err (NotThere (absent_of n (rows (listed_of s pairs))))) (Ok tt))
 
 -- 5
-unfoldable pub table_asked : List ℕ → Done
-table_asked table = cond (is_table (rows table)) DoneCases.Answered (DoneCases.Refused Order)
+unfoldable pub table_asked : List ℕ → Result (Unit {0}) Refusal
+table_asked table = cond (is_table (rows table)) (Ok tt) (Err Order)
 
 -- 1, 2, 6, 3, 4, 5
-unfoldable pub list_asked : Bool → State → Cell → List Float → List ℕ → List ℕ → List Float → ℕ → Done
+unfoldable pub list_asked : Bool → State → Option Lattice → List Float → List ℕ → List ℕ → List Float → ℕ → Result (Unit {0}) Refusal
 list_asked may s cell xs table pairs refs items =
     first_refusal (first_of s cell xs (length table) (length pairs) (length refs) items)
-    (first_refusal (cond may (kept_asked s (atoms_of xs) pairs refs) DoneCases.Answered) (table_asked table))
+    (first_refusal (cond may (kept_asked s (atoms_of xs) pairs refs) (Ok tt)) (table_asked table))
 
-abbrev pub update_asked : Bool → Given → Done
+abbrev pub update_asked : Bool → Given → Result (Unit {0}) Refusal
 update_asked may i = list_asked may i.state i.cell i.positions i.exclusions i.pairs i.references (length i.items)
 
 -- ---- the calls
-unfoldable pub after_of : Question → Given → Done → Outcome
-after_of question i (DoneCases.Refused r) = stays i r
-after_of question i DoneCases.Answered = update_of question i
+unfoldable pub after_of : Question → Given → Result (Unit {0}) Refusal → Outcome
+after_of question i (Err r) = stays i r
+after_of question i (Ok tt) = update_of question i
 
 -- the list may be kept where a question is asked
 abbrev pub may_keep : Question → Bool
@@ -203,7 +202,7 @@ updated_of question i = after_of question i (update_asked (may_keep question) i)
 abbrev pub shown : Updated → List ℕ → List Float → List ℕ → List ℕ → Outcome
 shown r pairs references starts items =
     record {
-      answer = seen_done r.done;
+      answer = seen r.done;
       rebuilt = r.rebuilt;
       state = r.state;
       pairs = pairs;
@@ -220,5 +219,5 @@ UpdateSays question i r pairs references starts items = shown r pairs references
 unfoldable pub listed_seen : State → List ℕ → Seen (Unit {0})
 listed_seen s pairs = cond (claims_more s.built_in s.pairs (length pairs / 2) 0 0) (refused_by Claims) (answered tt)
 
-abbrev pub ListedSays : State → List ℕ → Done → Type 0
-ListedSays s pairs r = seen_done r ≡ listed_seen s pairs
+abbrev pub ListedSays : State → List ℕ → Result (Unit {0}) Refusal → Type 0
+ListedSays s pairs r = seen r ≡ listed_seen s pairs

@@ -1,16 +1,15 @@
 // The tests of a state, of positions and of what is lent, in 01's order. Those that are `pub` are total and for the crates above.
-ghost use Rattle.std.specs.Prelude.{◌≡◌, ◌*◌, take, if◌then◌else◌, ◌==◌};
+ghost use Rattle.std.specs.Prelude.{◌≡◌, ◌*◌, take, if◌then◌else◌, ◌==◌, Ok};
 ghost use Rattle.lists.specs.Lists.{every};
 ghost use Rattle.ranges.specs.Ranged.{within};
 ghost use Rattle.cell.specs.Ranged.{entry_limit};
 ghost use Rattle.neighbor.specs.Rebuild.{claims_more, references_ok, ranges_ok, question_of};
-ghost use Rattle.answer.specs.declared.Done.TheVariants.{Answered};
 ghost use Rattle.neighbor.specs.Update.{lengths_bad, first_of, kept_asked, table_asked, list_asked};
 ghost use Rattle.neighbor_asked.specs.Asked.{first_refusal};
 
 use crate::State;
-use answer::{Done, Refusal};
-use cell::{Cell, ranged};
+use answer::Refusal;
+use cell::{Lattice, ranged};
 
 fn lengths_bad(positions: usize, exclusions: usize, references: usize, items: usize) -> bool
     ensures { result ≡ lengths_bad positions exclusions references items }
@@ -22,7 +21,7 @@ fn lengths_bad(positions: usize, exclusions: usize, references: usize, items: us
 }
 
 pub(crate) fn claims_more(
-    remembered: Cell,
+    remembered: Option<Lattice>,
     pairs: u32,
     rows: usize,
     references: u32,
@@ -33,7 +32,7 @@ pub(crate) fn claims_more(
     (rows < pairs as usize) | (spots < references as usize) | !ranged::cell_in_range(remembered)
 }
 
-fn ranges_ok(s: State, cell: Cell, xs: &[f64]) -> bool
+fn ranges_ok(s: State, cell: Option<Lattice>, xs: &[f64]) -> bool
     ensures { result ≡ ranges_ok s cell xs.now }
 {
     if !(neighbor_asked::asked::settings_ok(s.cutoff, s.skin) & ranged::cell_in_range(cell)) {
@@ -70,7 +69,12 @@ fn references_ok(s: State, n: usize, refs: &[f64]) -> bool
 }
 
 // Refusals 1, 2, 6, 3 of `needs_rebuild` and `outdated`.
-pub(crate) fn question(s: State, cell: Cell, xs: &[f64], refs: &[f64]) -> Done
+pub(crate) fn question(
+    s: State,
+    cell: Option<Lattice>,
+    xs: &[f64],
+    refs: &[f64],
+) -> Result<(), Refusal>
     ensures { result ≡ question_of s cell xs.now refs.now }
 {
     let n = xs.len() / 3;
@@ -89,13 +93,13 @@ pub(crate) fn question(s: State, cell: Cell, xs: &[f64], refs: &[f64]) -> Done
 // Refusals 1, 2, 6, 3 of a build: what is asked whether or not the list may be kept.
 pub fn asked_first(
     s: State,
-    cell: Cell,
+    cell: Option<Lattice>,
     xs: &[f64],
     table: usize,
     pairs: usize,
     refs: usize,
     items: usize,
-) -> Done
+) -> Result<(), Refusal>
     ensures { result ≡ first_of s cell xs.now table pairs refs items }
 {
     let n = xs.len() / 3;
@@ -107,44 +111,48 @@ pub fn asked_first(
 }
 
 // Refusals 3 and 4 of a list that may be kept.
-pub fn asked_kept(s: State, n: usize, pairs: &[u32], refs: &[f64]) -> Done
+pub fn asked_kept(s: State, n: usize, pairs: &[u32], refs: &[f64]) -> Result<(), Refusal>
     ensures { result ≡ kept_asked s n pairs.now refs.now }
 {
     if !references_ok(s, n, refs) {
-        return Done::Refused(Refusal::Range);
+        return Err(Refusal::Range);
     }
     let part = crate::listed(s, pairs);
     let row = ranges::rows::first_absent(part, n);
     if is_same(s.references, n) & (row < part.len() / 2) {
-        return Done::Refused(Refusal::NotThere { row: row });
+        return Err(Refusal::NotThere { row: row });
     }
-    Done::Answered
+    Ok(())
 }
 
 // Refusal 5.
-pub fn asked_table(table: &[u32]) -> Done
+pub fn asked_table(table: &[u32]) -> Result<(), Refusal>
     ensures { result ≡ table_asked table.now }
 {
     if exclusions::kernel::is_table(table) {
-        return Done::Answered;
+        return Ok(());
     }
-    Done::Refused(Refusal::Order)
+    Err(Refusal::Order)
 }
 
 // Refusals 3 and 4 of a list that may be kept; then 5.
-fn asked_both(s: State, n: usize, table: &[u32], pairs: &[u32], refs: &[f64]) -> Done
+fn asked_both(s: State, n: usize, table: &[u32], pairs: &[u32], refs: &[f64]) -> Result<(), Refusal>
     ensures { result ≡ first_refusal (kept_asked s n pairs.now refs.now) (table_asked table.now) }
 {
-    let a = asked_kept(s, n, pairs, refs);
-    if let Done::Refused(why) = a {
-        return Done::Refused(why);
-    }
+    asked_kept(s, n, pairs, refs)?;
     asked_table(table)
 }
 
 // What is asked last, by whether the list may be kept.
-fn asked_last(may: bool, s: State, n: usize, table: &[u32], pairs: &[u32], refs: &[f64]) -> Done
-    ensures { result ≡ first_refusal (if may then kept_asked s n pairs.now refs.now else Answered) (table_asked table.now) }
+fn asked_last(
+    may: bool,
+    s: State,
+    n: usize,
+    table: &[u32],
+    pairs: &[u32],
+    refs: &[f64],
+) -> Result<(), Refusal>
+    ensures { result ≡ first_refusal (if may then kept_asked s n pairs.now refs.now else (Ok tt)) (table_asked table.now) }
 {
     if may {
         return asked_both(s, n, table, pairs, refs);
@@ -156,18 +164,15 @@ fn asked_last(may: bool, s: State, n: usize, table: &[u32], pairs: &[u32], refs:
 pub(crate) fn asked(
     may: bool,
     s: State,
-    cell: Cell,
+    cell: Option<Lattice>,
     xs: &[f64],
     table: &[u32],
     pairs: &[u32],
     refs: &[f64],
     items: usize,
-) -> Done
+) -> Result<(), Refusal>
     ensures { result ≡ list_asked may s cell xs.now table.now pairs.now refs.now items }
 {
-    let a = asked_first(s, cell, xs, table.len(), pairs.len(), refs.len(), items);
-    if let Done::Refused(why) = a {
-        return Done::Refused(why);
-    }
+    asked_first(s, cell, xs, table.len(), pairs.len(), refs.len(), items)?;
     asked_last(may, s, xs.len() / 3, table, pairs, refs)
 }

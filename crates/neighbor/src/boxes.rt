@@ -1,9 +1,8 @@
 // Whether a cell is, bit for bit, another one.
-ghost use Rattle.std.specs.Prelude.{◌≡◌};
-ghost use Rattle.cell.specs.declared.Cell.TheVariants.{Absent, Present};
+ghost use Rattle.std.specs.Prelude.{◌≡◌, None, Some};
 ghost use Rattle.neighbor.specs.Rebuild.{same_number, same_vector, same_flag, same_lattice, same_box};
 
-use cell::{Cell, Lattice, Vec3};
+use cell::{Lattice, Vec3};
 
 fn same_number(x: f64, y: f64) -> bool
     ensures { result ≡ same_number x y }
@@ -37,29 +36,29 @@ fn same_lattice(l: Lattice, m: Lattice) -> bool
         & same_flag(l.pz, m.pz)
 }
 
-fn is_absent(cell: Cell) -> bool
-    ensures { result ≡ same_box Absent cell }
+fn is_absent(cell: Option<Lattice>) -> bool
+    ensures { result ≡ same_box None cell }
 {
     match cell {
-        Cell::Absent => true,
-        Cell::Present(_) => false,
+        None => true,
+        Some(_) => false,
     }
 }
 
-fn is_lattice(l: Lattice, cell: Cell) -> bool
-    ensures { result ≡ same_box (Present l) cell }
+fn is_lattice(l: Lattice, cell: Option<Lattice>) -> bool
+    ensures { result ≡ same_box (Some l) cell }
 {
     match cell {
-        Cell::Absent => false,
-        Cell::Present(m) => same_lattice(l, m),
+        None => false,
+        Some(m) => same_lattice(l, m),
     }
 }
 
-pub(crate) fn is_same(a: Cell, b: Cell) -> bool
+pub(crate) fn is_same(a: Option<Lattice>, b: Option<Lattice>) -> bool
     ensures { result ≡ same_box a b }
 {
     match a {
-        Cell::Absent => is_absent(b),
-        Cell::Present(l) => is_lattice(l, b),
+        None => is_absent(b),
+        Some(l) => is_lattice(l, b),
     }
 }

@@ -1,20 +1,19 @@
 // The list brought up to date without tests, for the crates above. No public call: what does not fit is answered 1 with everything as it came.
-ghost use Rattle.std.specs.Prelude.{◌≡◌, ◌/◌, ◌≤◌, true, length};
-ghost use Rattle.answer.specs.declared.Done.TheVariants.{Answered};
+ghost use Rattle.std.specs.Prelude.{◌≡◌, ◌/◌, ◌≤◌, true, length, Ok};
 ghost use Rattle.float.specs.Arith.{at};
 ghost use Rattle.lists.specs.Loops.{part_at};
 ghost use Rattle.neighbor.specs.State.{built_of};
 ghost use Rattle.neighbor.specs.Update.{given, shown, unfit, keeps_of, rebuilt_all, update_of};
 
 use crate::{Question, State, Updated, rebuild, states};
-use answer::{Done, Refusal};
-use cell::Cell;
+use answer::Refusal;
+use cell::Lattice;
 use neighbor_listing::Listed;
 
 // An answered build: the positions become the references.
 fn answer(
     s: State,
-    cell: Cell,
+    cell: Option<Lattice>,
     xs: &[f64],
     refs: &mut [f64],
     pairs: u32,
@@ -22,13 +21,13 @@ fn answer(
     fallback: bool,
 ) -> Updated
     requires { (length xs.now ≤ length refs.old) × (length xs.now / 3 ≤ 16384) }
-    ensures value { result ≡ record { done = Answered; rebuilt = true; state = built_of s cell (length xs.now / 3) pairs checks fallback } }
+    ensures value { result ≡ record { done = Ok tt; rebuilt = true; state = built_of s cell (length xs.now / 3) pairs checks fallback } }
     ensures refs_after { refs.new ≡ part_at (λ k _. at xs.now k) (length xs.now) refs.old }
 {
     rebuild::refer(xs, refs);
     let n = (xs.len() / 3) as u32;
     Updated {
-        done: Done::Answered,
+        done: Ok(()),
         rebuilt: true,
         state: states::built(s, cell, n, pairs, checks, fallback),
     }
@@ -37,7 +36,7 @@ fn answer(
 // A build.
 fn build(
     s: State,
-    cell: Cell,
+    cell: Option<Lattice>,
     xs: &[f64],
     table: &[u32],
     pairs: &mut [u32],
@@ -71,7 +70,7 @@ fn is_unfit(xs: usize, refs: usize) -> bool
 }
 
 // Whether a question is asked and the list need not be built anew.
-fn is_kept(question: Question, s: State, cell: Cell, xs: &[f64], refs: &[f64]) -> bool
+fn is_kept(question: Question, s: State, cell: Option<Lattice>, xs: &[f64], refs: &[f64]) -> bool
     requires { length xs.now ≤ length refs.now }
     ensures { result ≡ keeps_of question s cell xs.now refs.now }
 {
@@ -86,7 +85,7 @@ fn is_kept(question: Question, s: State, cell: Cell, xs: &[f64], refs: &[f64]) -
 pub fn update(
     question: Question,
     s: State,
-    cell: Cell,
+    cell: Option<Lattice>,
     positions: &[f64],
     exclusions: &[u32],
     pairs: &mut [u32],
@@ -101,7 +100,7 @@ pub fn update(
     }
     if is_kept(question, s, cell, positions, references) {
         return Updated {
-            done: Done::Answered,
+            done: Ok(()),
             rebuilt: false,
             state: states::kept(s),
         };

@@ -2,8 +2,8 @@
 // stands in what the caller lends. specs/Update.antt says what a build answers and leaves, specs/Listed.antt what that means.
 #![tactic(auto)]
 
-use answer::{Done, Number, Refusal, YesNo};
-use cell::Cell;
+use answer::Refusal;
+use cell::Lattice;
 
 pub mod asked;
 mod boxes;
@@ -30,7 +30,7 @@ pub struct State {
     pub checks: u32,
     pub fallback: bool,
     pub builds: u32,
-    pub built_in: Cell,
+    pub built_in: Option<Lattice>,
 }
 
 // Which question is asked before a list is built: none, so that it is built (`build`); the Rust's (`maybe_build`); or also whether the cell is the one that it
@@ -42,38 +42,32 @@ pub enum Question {
     Outdated,
 }
 
-#[derive(Drop)]
-pub enum StateAnswer {
-    Answered(State),
-    Refused(Refusal),
-}
-
 // A list brought up to date, or why not; whether it was built anew; and its state, which comes back in every case.
 #[derive(Drop)]
 pub struct Updated {
-    pub done: Done,
+    pub done: Result<(), Refusal>,
     pub rebuilt: bool,
     pub state: State,
 }
 
 // A list with the given interaction cutoff and Verlet skin; refusal 3.
-pub fn new(cutoff: f64, skin: f64) -> StateAnswer
+pub fn new(cutoff: f64, skin: f64) -> Result<State, Refusal>
     ensures { NewSays cutoff skin result }
 {
     if !neighbor_asked::asked::settings_ok(cutoff, skin) {
-        return StateAnswer::Refused(Refusal::Range);
+        return Err(Refusal::Range);
     }
-    StateAnswer::Answered(states::fresh(cutoff, skin))
+    Ok(states::fresh(cutoff, skin))
 }
 
 // The search radius `cutoff + skin`; refusal 3.
-pub fn search_radius(s: State) -> Number
+pub fn search_radius(s: State) -> Result<f64, Refusal>
     ensures { RadiusSays s result }
 {
     if !neighbor_asked::asked::settings_ok(s.cutoff, s.skin) {
-        return Number::Refused(Refusal::Range);
+        return Err(Refusal::Range);
     }
-    Number::Answered(states::radius(s))
+    Ok(states::radius(s))
 }
 
 // How many builds there were since an earlier reading of the counter.
@@ -84,38 +78,42 @@ pub fn builds_since(s: State, earlier: u32) -> u32
 }
 
 // Whether the list must be built anew for these positions; refusals 1, 2, 6, 3.
-pub fn needs_rebuild(s: State, cell: Cell, positions: &[f64], references: &[f64]) -> YesNo
+pub fn needs_rebuild(
+    s: State,
+    cell: Option<Lattice>,
+    positions: &[f64],
+    references: &[f64],
+) -> Result<bool, Refusal>
     ensures { NeedsSays s cell positions.now references.now result }
 {
     if rebuild::is_at_rest(s, cell, positions, references) {
-        return YesNo::Answered(false);
+        return Ok(false);
     }
-    let a = asked::question(s, cell, positions, references);
-    if let Done::Refused(why) = a {
-        return YesNo::Refused(why);
-    }
-    YesNo::Answered(rebuild::needs(s, cell, positions, references))
+    asked::question(s, cell, positions, references)?;
+    Ok(rebuild::needs(s, cell, positions, references))
 }
 
 // Whether the list must be built anew for these positions in this cell, also where the cell is not, bit for bit, the one that it was built in; refusals 1, 2, 6, 3.
-pub fn outdated(s: State, cell: Cell, positions: &[f64], references: &[f64]) -> YesNo
+pub fn outdated(
+    s: State,
+    cell: Option<Lattice>,
+    positions: &[f64],
+    references: &[f64],
+) -> Result<bool, Refusal>
     ensures { OutdatedSays s cell positions.now references.now result }
 {
     if rebuild::is_at_rest(s, cell, positions, references) {
         let remembered = s.built_in;
-        return YesNo::Answered(!boxes::is_same(remembered, cell));
+        return Ok(!boxes::is_same(remembered, cell));
     }
-    let a = asked::question(s, cell, positions, references);
-    if let Done::Refused(why) = a {
-        return YesNo::Refused(why);
-    }
-    YesNo::Answered(rebuild::outdated(s, cell, positions, references))
+    asked::question(s, cell, positions, references)?;
+    Ok(rebuild::outdated(s, cell, positions, references))
 }
 
 // The list built anew; refusals 1, 2, 6, 3, 5, 7, 8.
 pub fn build(
     s: State,
-    cell: Cell,
+    cell: Option<Lattice>,
     positions: &[f64],
     exclusions: &[u32],
     pairs: &mut [u32],
@@ -136,7 +134,7 @@ pub fn build(
         references,
         items.len(),
     );
-    if let Done::Refused(why) = a {
+    if let Err(why) = a {
         return states::refused(s, why);
     }
     kernel::update(
@@ -155,7 +153,7 @@ pub fn build(
 // The list built anew where it must be; refusals 1, 2, 6, 3, 4, 5, 7, 8.
 pub fn maybe_build(
     s: State,
-    cell: Cell,
+    cell: Option<Lattice>,
     positions: &[f64],
     exclusions: &[u32],
     pairs: &mut [u32],
@@ -176,7 +174,7 @@ pub fn maybe_build(
         references,
         items.len(),
     );
-    if let Done::Refused(why) = a {
+    if let Err(why) = a {
         return states::refused(s, why);
     }
     kernel::update(
@@ -204,12 +202,12 @@ pub fn listed<'a>(s: State, pairs: &'a [u32]) -> &'a [u32]
 }
 
 // Refusal 6 where the state claims more pairs than are lent, or remembers a cell out of range.
-pub fn listed_asked(s: State, pairs: &[u32]) -> Done
+pub fn listed_asked(s: State, pairs: &[u32]) -> Result<(), Refusal>
     ensures { ListedSays s pairs.now result }
 {
     let remembered = s.built_in;
     if asked::claims_more(remembered, s.pairs, pairs.len() / 2, 0, 0) {
-        return Done::Refused(Refusal::Claims);
+        return Err(Refusal::Claims);
     }
-    Done::Answered
+    Ok(())
 }

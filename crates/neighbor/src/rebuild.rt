@@ -10,7 +10,7 @@ ghost use Rattle.neighbor.specs.Steps.{plain_of, RestSays};
 ghost use Rattle.neighbor_asked.specs.Strays.{strayed, still, SmallEnough, quiet_at};
 
 use crate::{State, asked, boxes, states};
-use cell::{Cell, Vec3, ranged};
+use cell::{Lattice, Vec3, ranged};
 use cell_prepared::Prepared;
 use neighbor_asked::strays;
 
@@ -33,12 +33,10 @@ fn some_far_long(p: Prepared, limit: f64, xs: &[f64], refs: &[f64], from: usize,
     requires { (length xs.now ≤ length refs.now) × (to ≤ length xs.now / 3) }
     ensures { result ≡ some (λ k. strayed p limit (position_at xs.now k) (position_at refs.now k)) (numbers from (to - from)) }
 {
-    let mut i = from;
-    while i < to {
+    for i in from..to {
         if strays::is_far(p, limit, spot_at(xs, i), spot_at(refs, i)) {
             return true;
         }
-        i += 1;
     }
     false
 }
@@ -49,10 +47,8 @@ fn all_still(p: Prepared, limit: f64, xs: &[f64], refs: &[f64], from: usize, to:
     ensures { result ≡ every (λ k. still p limit (position_at xs.now k) (position_at refs.now k)) (numbers from (to - from)) }
 {
     let mut ok = true;
-    let mut i = from;
-    while i < to {
+    for i in from..to {
         ok = ok & strays::is_still(p, limit, spot_at(xs, i), spot_at(refs, i));
-        i += 1;
     }
     ok
 }
@@ -82,10 +78,8 @@ fn all_near(t: f64, xs: &[f64], refs: &[f64], from: usize, to: usize) -> bool
 {
     let end = 3 * to;
     let mut ok = true;
-    let mut k = 3 * from;
-    while k < end {
+    for k in 3 * from..end {
         ok = ok & ranges::is_within(t, xs[k] - refs[k]);
-        k += 1;
     }
     ok
 }
@@ -116,7 +110,7 @@ fn end_of(from: usize, n: usize) -> usize
     if n - from < 64 { n } else { from + 64 }
 }
 
-// 64 atoms at a time, so that one which has come far costs no more than its block.
+// 64 atoms at a time, so that one which has come far costs no more than its block. `while`, since `end_of` says how far each turn goes: a `for` cannot jump.
 fn some_far_blocks(p: Prepared, t: f64, limit: f64, xs: &[f64], refs: &[f64]) -> bool
     requires { (length xs.now ≤ length refs.now) × SmallEnough p limit t }
     ensures { result ≡ some (λ k. strayed p limit (position_at xs.now k) (position_at refs.now k)) (up_to (length xs.now / 3)) }
@@ -150,7 +144,7 @@ fn some_far(p: Prepared, t: f64, limit: f64, xs: &[f64], refs: &[f64]) -> bool
 }
 
 // `needs_rebuild` after its tests.
-pub(crate) fn needs(s: State, cell: Cell, xs: &[f64], refs: &[f64]) -> bool
+pub(crate) fn needs(s: State, cell: Option<Lattice>, xs: &[f64], refs: &[f64]) -> bool
     requires { length xs.now ≤ length refs.now }
     ensures { result ≡ needs_of s cell xs.now refs.now }
 {
@@ -172,7 +166,7 @@ pub(crate) fn needs(s: State, cell: Cell, xs: &[f64], refs: &[f64]) -> bool
 }
 
 // `outdated` after its tests.
-pub(crate) fn outdated(s: State, cell: Cell, xs: &[f64], refs: &[f64]) -> bool
+pub(crate) fn outdated(s: State, cell: Option<Lattice>, xs: &[f64], refs: &[f64]) -> bool
     requires { length xs.now ≤ length refs.now }
     ensures { result ≡ outdated_of s cell xs.now refs.now }
 {
@@ -184,7 +178,7 @@ pub(crate) fn outdated(s: State, cell: Cell, xs: &[f64], refs: &[f64]) -> bool
 }
 
 // What both questions ask beside the numbers, and that the references are as many as the atoms.
-fn is_plain(s: State, cell: Cell, xs: usize, refs: usize) -> bool
+fn is_plain(s: State, cell: Option<Lattice>, xs: usize, refs: usize) -> bool
     ensures { result ≡ plain_of s cell xs refs }
 {
     let n = xs / 3;
@@ -203,16 +197,14 @@ fn all_quiet(t: f64, xs: &[f64], refs: &[f64]) -> bool
     ensures { result ≡ every (λ k. quiet_at t (at xs.now k) (at refs.now k)) (up_to (length xs.now)) }
 {
     let mut ok = true;
-    let mut k = 0;
-    while k < xs.len() {
+    for k in 0..xs.len() {
         ok = ok & strays::is_quiet(t, xs[k], refs[k]);
-        k += 1;
     }
     ok
 }
 
 // The common case of both questions, in one walk: nothing is refused, and no number is far from its reference. Where it says no, the question is still open.
-pub(crate) fn is_at_rest(s: State, cell: Cell, xs: &[f64], refs: &[f64]) -> bool
+pub(crate) fn is_at_rest(s: State, cell: Option<Lattice>, xs: &[f64], refs: &[f64]) -> bool
     ensures { RestSays s cell xs.now refs.now result }
 {
     if !is_plain(s, cell, xs.len(), refs.len()) {
@@ -242,9 +234,7 @@ pub(crate) fn refer(xs: &[f64], refs: &mut [f64])
     requires { length xs.now ≤ length refs.old }
     ensures { refs.new ≡ part_at (λ k _. at xs.now k) (length xs.now) refs.old }
 {
-    let mut k = 0;
-    while k < xs.len() {
+    for k in 0..xs.len() {
         refs[k] = xs[k];
-        k += 1;
     }
 }

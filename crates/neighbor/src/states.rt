@@ -1,12 +1,11 @@
 // States: of a new list, after an answered build, and after pairs that do not fit. They are made here and nowhere else.
-ghost use Rattle.std.specs.Prelude.{◌≡◌, false};
-ghost use Rattle.answer.specs.declared.Done.TheVariants.{Refused};
+ghost use Rattle.std.specs.Prelude.{◌≡◌, false, Err};
 ghost use Rattle.answer.specs.declared.Refusal.TheVariants.{Room};
 ghost use Rattle.neighbor.specs.State.{fresh_of, skin_of, radius_of, kept_of, built_of, emptied_of};
 
 use crate::{State, Updated};
-use answer::{Done, Refusal};
-use cell::Cell;
+use answer::Refusal;
+use cell::Lattice;
 
 pub(crate) fn fresh(cutoff: f64, skin: f64) -> State
     ensures { result ≡ fresh_of cutoff skin }
@@ -19,7 +18,7 @@ pub(crate) fn fresh(cutoff: f64, skin: f64) -> State
         checks: 0,
         fallback: false,
         builds: 0,
-        built_in: Cell::Absent,
+        built_in: None,
     }
 }
 
@@ -46,7 +45,7 @@ pub(crate) fn kept(s: State) -> State
 
 pub(crate) fn built(
     s: State,
-    cell: Cell,
+    cell: Option<Lattice>,
     atoms: u32,
     pairs: u32,
     checks: u32,
@@ -77,16 +76,16 @@ pub(crate) fn emptied(s: State) -> State
         checks: 0,
         fallback: false,
         builds: s.builds,
-        built_in: Cell::Absent,
+        built_in: None,
     }
 }
 
 // A refusal that leaves the state as it came.
 pub(crate) fn refused(s: State, why: Refusal) -> Updated
-    ensures { result ≡ record { done = Refused why; rebuilt = false; state = s } }
+    ensures { result ≡ record { done = Err why; rebuilt = false; state = s } }
 {
     Updated {
-        done: Done::Refused(why),
+        done: Err(why),
         rebuilt: false,
         state: s,
     }
@@ -94,10 +93,10 @@ pub(crate) fn refused(s: State, why: Refusal) -> Updated
 
 // Pairs that do not fit.
 pub(crate) fn full(s: State, count: usize) -> Updated
-    ensures { result ≡ record { done = Refused (Room count); rebuilt = false; state = emptied_of s } }
+    ensures { result ≡ record { done = Err (Room count); rebuilt = false; state = emptied_of s } }
 {
     Updated {
-        done: Done::Refused(Refusal::Room { count: count }),
+        done: Err(Refusal::Room { count: count }),
         rebuilt: false,
         state: emptied(s),
     }

@@ -1,4 +1,6 @@
 -- The grid is good where it is laid, each atom has a cell of it, and what `lay` answers and leaves, by its cases. Assumes nothing.
+use Rattle.std.specs.Prelude.{None, Option, Some}
+use Rattle.cell.specs.declared.Lattice.{Lattice}
 use Prim.Native.Nat.{ℕ, ◌+◌, ◌≤◌, ◌<◌}
 use mathlib.Core.Path.{◌≡◌, refl, sym, ap, ◌∙◌}
 use mathlib.Core.Bool.{Bool, true, false, cond, not, ◌&&◌, ◌||◌}
@@ -12,8 +14,6 @@ use Rattle.lists.specs.Atoms.{atoms_of}
 use Rattle.float.specs.Arith.{bits}
 use Rattle.lists.specs.Lists.{rows}
 use Rattle.lists.proofs.Cases.{or_neither, impossible}
-use Rattle.cell.specs.declared.Cell.{Cell}
-use Rattle.cell.specs.declared.Cell.TheVariants.{Absent, Present}
 use Rattle.bins.specs.declared.Axis.{Axis}
 use Rattle.bins.specs.declared.Grid.{Grid}
 use Rattle.bins.specs.declared.Cell.{Cell as Home}
@@ -31,21 +31,21 @@ use Rattle.bins.specs.declared.Plan.{Plan}
 use Rattle.bins.specs.declared.Plan.TheVariants.{AllPairs, TooMany, Laid}
 use Rattle.neighbor_grid.specs.Grid.{grid_by, grid_of, cell_at, narrow, plain_by, no_inverse, plain_of, crowded_by, crowded, home_at, relative_of}
 use Rattle.neighbor_grid.specs.Layout.{unfit_of, touching_rows, layout_of, laid_for, starts_laid, items_laid, starts_after, items_after}
-use Rattle.neighbor_grid.specs.Steps.{measure_of, plan_of, Some, Small, cell_by, place_by}
+use Rattle.neighbor_grid.specs.Steps.{measure_of, plan_of, Wide, Small, cell_by, place_by}
 use Rattle.neighbor_grid.proofs.Sizes.{size_some, in_some}
 use Rattle.neighbor_grid.proofs.Measured.{plan_is, cells_are}
 
 -- ---- the grid's sizes
-some_grid : (cell : Cell) (r : Float) (xs : List Float) → Some (grid_of cell r xs)
+some_grid : (cell : Option Lattice) (r : Float) (xs : List Float) → Wide (grid_of cell r xs)
 unfolding grid_of grid_by
-some_grid Absent r xs = record { x = size_some _; y = size_some _; z = size_some _ }
-some_grid (Present l) r xs = record { x = size_some _; y = size_some _; z = size_some _ }
+some_grid None r xs = record { x = size_some _; y = size_some _; z = size_some _ }
+some_grid (Some l) r xs = record { x = size_some _; y = size_some _; z = size_some _ }
 
 wide_good : (a : Axis) → 1 ≤ a.size → narrow a ≡ false → Good a
 unfolding narrow
 wide_good a some h = (some, λ t. let s : ltb a.size 3 ≡ false = rw t at h in ltb-false a.size 3 s)
 
-module _ (cell : Cell) (r : Float) (xs : List Float) where
+module _ (cell : Option Lattice) (r : Float) (xs : List Float) where
   pub good_grid : plain_of cell r xs ≡ false → GoodGrid (grid_of cell r xs)
   unfolding plain_of plain_by
   good_grid h =
@@ -99,7 +99,7 @@ never_both : (u : Bool) → not u && false ≡ false
 never_both true = refl
 never_both false = refl
 
-module _ (cell : Cell) (r : Float) (xs : List Float) (table starts items : List ℕ) {o : Layout} (is : o ≡ layout_of cell r xs table (length starts) (length items)) where
+module _ (cell : Option Lattice) (r : Float) (xs : List Float) (table starts items : List ℕ) {o : Layout} (is : o ≡ layout_of cell r xs table (length starts) (length items)) where
   pub is_unfit : o ≡ to.Unfit → unfit_of xs (length items) ≡ true
   unfolding layout_of
   is_unfit e = shown_unfit (grid_of cell r xs) (grid_of cell r xs) (touching_rows cell r xs table) (unfit_of xs (length items)) (plain_of cell r xs) (crowded cell r xs (length starts)) (sym is ∙ e)
@@ -158,20 +158,20 @@ module _ (cell : Cell) (r : Float) (xs : List Float) (table starts items : List 
         rw shown.3 (swept cell r xs starts items (es ∙ starts_laid_lem) (ei ∙ items_laid_lem) c (rw shown.3 at k))
 
 -- ---- what `lay` gives, by its plan
-abbrev Says : Cell → Float → List Float → List ℕ → List ℕ → List ℕ → Layout → List ℕ → List ℕ → Type 0
+abbrev Says : Option Lattice → Float → List Float → List ℕ → List ℕ → List ℕ → Layout → List ℕ → List ℕ → Type 0
 Says cell r xs table starts items o s i = (o ≡ layout_of cell r xs table (length starts) (length items)) × ((s ≡ starts_after cell r xs starts items) × (i ≡ items_after cell r xs starts items))
 
-pub lay_unfit : (cell : Cell) (r : Float) (xs : List Float) (table starts items : List ℕ) → ltb 16384 (atoms_of xs) || ltb (length items) (atoms_of xs) ≡ true
+pub lay_unfit : (cell : Option Lattice) (r : Float) (xs : List Float) (table starts items : List ℕ) → ltb 16384 (atoms_of xs) || ltb (length items) (atoms_of xs) ≡ true
     → Says cell r xs table starts items to.Unfit starts items
 unfolding layout_of starts_after items_after laid_for unfit_of
 lay_unfit cell r xs table starts items h = (rw h, (rw h, rw h))
 
-pub record Planned (cell : Cell) (r : Float) (xs : List Float) (starts items : List ℕ) (m : Measure) (p : Plan) : Type 0 where
+pub record Planned (cell : Option Lattice) (r : Float) (xs : List Float) (starts items : List ℕ) (m : Measure) (p : Plan) : Type 0 where
   pub fit : ltb 16384 (atoms_of xs) || ltb (length items) (atoms_of xs) ≡ false
   pub measured : m ≡ measure_of cell xs
   pub is : p ≡ plan_of m r (length starts)
 
-module _ {cell : Cell} {r : Float} {xs : List Float} {starts items : List ℕ} {m : Measure} {p : Plan} (h : Planned cell r xs starts items m p) where
+module _ {cell : Option Lattice} {r : Float} {xs : List Float} {starts items : List ℕ} {m : Measure} {p : Plan} (h : Planned cell r xs starts items m p) where
   pub atoms_few : atoms_of xs ≤ 16384
   atoms_few = ltb-false 16384 (atoms_of xs) (or_neither (ltb 16384 (atoms_of xs)) (ltb (length items) (atoms_of xs)) h.fit).0
 

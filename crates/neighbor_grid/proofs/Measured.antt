@@ -1,4 +1,6 @@
 -- What is measured once gives the grid, the plan and each atom's cell as the definitions have them. Assumes nothing.
+use Rattle.std.specs.Prelude.{None, Option, Some}
+use Rattle.cell.specs.declared.Lattice.{Lattice}
 use Prim.Native.Nat.{ℕ}
 use mathlib.Core.Path.{◌≡◌, refl}
 use mathlib.Core.Bool.{Bool, true, false, cond, ◌||◌}
@@ -7,39 +9,37 @@ use lib.Ieee.{Float, le}
 use Rattle.cell.specs.Vec.{position_at}
 use Rattle.float.specs.Arith.{bits}
 use Rattle.cell.specs.declared.Vec3.{Vec3}
-use Rattle.cell.specs.declared.Cell.{Cell}
-use Rattle.cell.specs.declared.Cell.TheVariants.{Absent, Present}
 use Rattle.cell.specs.Matrix.{times_of}
 use Rattle.bins.specs.declared.Grid.{Grid}
 use Rattle.bins.specs.declared.Plan.TheVariants.{AllPairs, TooMany, Laid}
 use Rattle.neighbor_grid.specs.Grid.{grid_of, cell_in, cell_at, no_inverse, plain_by, plain_of, crowded, relative_of}
 use Rattle.neighbor_grid.specs.Steps.{ruler_of, fraction_by, measure_of, grid_in, plan_sizes, plan_of, cell_by}
 
-pub ruler_is : (cell : Cell) (xs : List Float) → (measure_of cell xs).ruler ≡ ruler_of cell xs
+pub ruler_is : (cell : Option Lattice) (xs : List Float) → (measure_of cell xs).ruler ≡ ruler_of cell xs
 unfolding measure_of
-ruler_is Absent xs = refl
-ruler_is (Present l) xs = refl
+ruler_is None xs = refl
+ruler_is (Some l) xs = refl
 
-pub fraction_is : (cell : Cell) (xs : List Float) (p : Vec3) → fraction_by (ruler_of cell xs) p ≡ relative_of cell xs p
+pub fraction_is : (cell : Option Lattice) (xs : List Float) (p : Vec3) → fraction_by (ruler_of cell xs) p ≡ relative_of cell xs p
 unfolding ruler_of fraction_by relative_of times_of
-fraction_is Absent xs p = refl
-fraction_is (Present l) xs p = refl
+fraction_is None xs p = refl
+fraction_is (Some l) xs p = refl
 
-pub grid_is : (cell : Cell) (r : Float) (xs : List Float) → grid_in (measure_of cell xs) r ≡ grid_of cell r xs
+pub grid_is : (cell : Option Lattice) (r : Float) (xs : List Float) → grid_in (measure_of cell xs) r ≡ grid_of cell r xs
 unfolding measure_of grid_of
-grid_is Absent r xs = refl
-grid_is (Present l) r xs = refl
+grid_is None r xs = refl
+grid_is (Some l) r xs = refl
 
-singular_is : (cell : Cell) (xs : List Float) → (measure_of cell xs).singular ≡ no_inverse cell
+singular_is : (cell : Option Lattice) (xs : List Float) → (measure_of cell xs).singular ≡ no_inverse cell
 unfolding measure_of no_inverse
-singular_is Absent xs = refl
-singular_is (Present l) xs = refl
+singular_is None xs = refl
+singular_is (Some l) xs = refl
 
 either : {A : Type 0} (s t : Bool) (a b : A) → cond s a (cond t a b) ≡ cond (s || t) a b
 either true t a b = refl
 either false t a b = refl
 
-module _ (cell : Cell) (r : Float) (xs : List Float) where
+module _ (cell : Option Lattice) (r : Float) (xs : List Float) where
   pub plan_is : (starts : ℕ) → plan_of (measure_of cell xs) r starts ≡ cond (plain_of cell r xs) AllPairs (cond (crowded cell r xs starts) TooMany (Laid (grid_of cell r xs)))
   unfolding plan_of plan_sizes plain_of
   plan_is starts =

@@ -24,7 +24,7 @@ use Rattle.bins.specs.Stencil.{InGrid, flatten}
 use Rattle.bins.proofs.FlatLaws.{flatten_less}
 use Rattle.neighbor_grid.specs.declared.measuring.Ruler.{Ruler}
 use Rattle.neighbor_grid.specs.Grid.{bins_in, size_of, bin_of, cell_in}
-use Rattle.neighbor_grid.specs.Steps.{Some, Small, fraction_by, cell_by, place_by}
+use Rattle.neighbor_grid.specs.Steps.{Wide, Small, fraction_by, cell_by, place_by}
 use Rattle.bins.proofs.Tables.{Filled}
 
 pub size_some : (d : ℤ) → 1 ≤ size_of d
@@ -67,7 +67,7 @@ bin_less : (size : ℕ) (f : Float) → 1 ≤ size → bin_of size f < size
 unfolding bin_of
 bin_less size f h = omega arith
 
-pub in_some : (g : Grid) → Some g → (f : Vec3) → InGrid g (cell_in g f)
+pub in_some : (g : Grid) → Wide g → (f : Vec3) → InGrid g (cell_in g f)
 unfolding cell_in
 in_some g some f = (bin_less g.x.size f.x some.x, bin_less g.y.size f.y some.y, bin_less g.z.size f.z some.z)
 

@@ -1,11 +1,11 @@
 -- What the private functions ask and say of themselves: nobody has to believe it. Definitions only.
+use Rattle.std.specs.Prelude.{None, Option, Some}
+use Rattle.cell.specs.declared.Lattice.{Lattice}
 use Rattle.std.specs.Prelude.{ℕ, ◌≤◌, List, false, cond, ◌||◌, Float, pos}
 use Rattle.std.specs.Float.{binary64}
 use Rattle.std.specs.Float.Ieee.{le, of_int}
 use Rattle.float.specs.Arith.{bits, row}
 use Rattle.cell.specs.declared.Vec3.{Vec3}
-use Rattle.cell.specs.declared.Cell.{Cell}
-use Rattle.cell.specs.declared.Cell.TheVariants.{Absent, Present}
 use Rattle.cell.specs.Vec.{dot_of, position_at}
 use Rattle.cell.specs.Matrix.{singular_of, inverse_of}
 use Rattle.cell.specs.Cell.{perp_widths_of}
@@ -25,20 +25,20 @@ abbrev pub bounds_of : List Float → Bounds
 bounds_of xs = record { lo = low_of xs; hi = high_of xs }
 
 -- what an atom's fractions are computed from, asked once
-unfoldable pub ruler_of : Cell → List Float → Ruler
-ruler_of Absent xs = Boxed (low_of xs) (extent_of slight xs)
-ruler_of (Present l) xs = Folded (row_vec (row (inverse_of l) 0)) (row_vec (row (inverse_of l) 1)) (row_vec (row (inverse_of l) 2))
+unfoldable pub ruler_of : Option Lattice → List Float → Ruler
+ruler_of None xs = Boxed (low_of xs) (extent_of slight xs)
+ruler_of (Some l) xs = Folded (row_vec (row (inverse_of l) 0)) (row_vec (row (inverse_of l) 1)) (row_vec (row (inverse_of l) 2))
 
 unfoldable pub fraction_by : Ruler → Vec3 → Vec3
 fraction_by (Boxed lo extent) p = boxed_of lo extent p
 fraction_by (Folded x y z) p = folded_of (record { x = dot_of x p; y = dot_of y p; z = dot_of z p })
 
 -- what is asked of a cell and of the atoms, once
-unfoldable pub measure_of : Cell → List Float → Measure
-measure_of Absent xs =
-    record { singular = false; widths = extent_of (bits 0) xs; px = false; py = false; pz = false; ruler = ruler_of Absent xs }
-measure_of (Present l) xs =
-    record { singular = singular_of l; widths = perp_widths_of l; px = l.px; py = l.py; pz = l.pz; ruler = ruler_of (Present l) xs }
+unfoldable pub measure_of : Option Lattice → List Float → Measure
+measure_of None xs =
+    record { singular = false; widths = extent_of (bits 0) xs; px = false; py = false; pz = false; ruler = ruler_of None xs }
+measure_of (Some l) xs =
+    record { singular = singular_of l; widths = perp_widths_of l; px = l.px; py = l.py; pz = l.pz; ruler = ruler_of (Some l) xs }
 
 -- the grid of three numbers of bins
 abbrev pub sized : Measure → ℕ → ℕ → ℕ → Grid
@@ -54,14 +54,14 @@ unfoldable pub plan_of : Measure → Float → ℕ → Plan
 plan_of m r starts = cond (le r (bits 0) || m.singular) AllPairs (plan_sizes (grid_in m r) starts)
 
 -- a bin on each axis
-pub record Some (g : Grid) : Type 0 where
+pub record Wide (g : Grid) : Type 0 where
   pub x : 1 ≤ g.x.size
   pub y : 1 ≤ g.y.size
   pub z : 1 ≤ g.z.size
 
 -- a grid that a plan has laid
 pub record Small (g : Grid) : Type 0 where
-  pub some : Some g
+  pub some : Wide g
   pub few : cells g ≤ 32768
 
 -- its sizes as floats, asked once

@@ -63,11 +63,8 @@ fn bin_atoms(ruler: Ruler, g: Grid, xs: &[f64], places: &mut [u32])
     ensures { places.new ≡ map_at (λ i _. place_by ruler g xs.now i) places.old }
 {
     let wide = sizes(g);
-    let mut i = 0;
-    while i < places.len() {
-        let p = place_of(ruler, g, wide, spot_at(xs, i));
-        places[i] = p;
-        i += 1;
+    for (i, place) in places.iter_mut().enumerate() {
+        *place = place_of(ruler, g, wide, spot_at(xs, i));
     }
 }
 

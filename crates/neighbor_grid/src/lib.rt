@@ -10,7 +10,7 @@ ghost use Rattle.std.specs.Prelude.{◌≡◌, length};
 ghost use Rattle.neighbor_grid.specs.Layout.{layout_of, starts_after, items_after};
 
 use bins::{Grid, Plan};
-use cell::Cell;
+use cell::Lattice;
 use laying::place;
 use measuring::measure_of;
 use planning::plan_of;
@@ -27,7 +27,7 @@ pub enum Layout {
 
 // The layout of the atoms, and where it is `Laid` the grid tables: each cell's start, and the atoms cell by cell. Else the tables stay.
 pub fn lay(
-    cell: Cell,
+    cell: Option<Lattice>,
     radius: f64,
     positions: &[f64],
     table: &[u32],

@@ -1,12 +1,11 @@
 // What is asked of a cell and of the atoms once, before any atom is put into its bin.
-ghost use Rattle.std.specs.Prelude.{◌≡◌, ◌/◌, ◌<◌, length};
+ghost use Rattle.std.specs.Prelude.{◌≡◌, ◌/◌, ◌<◌, length, None, Some};
 ghost use Rattle.cell.specs.Vec.{sub_of, dot_of, position_at};
 ghost use Rattle.cell.specs.General.{row_vec};
-ghost use Rattle.cell.specs.declared.Cell.TheVariants.{Present, Absent};
 ghost use Rattle.neighbor_grid.specs.Grid.{alike, lower_of, upper_of, folded_of, boxed_of, inside_of};
 ghost use Rattle.neighbor_grid.specs.Steps.{bounds_of, fraction_by, measure_of};
 
-use cell::{Cell, Lattice, Vec3};
+use cell::{Lattice, Vec3};
 
 // The atoms' bounding box.
 #[derive(Clone, Copy)]
@@ -76,12 +75,10 @@ fn bounds_of(xs: &[f64]) -> Bounds
     let n = xs.len() / 3;
     let mut lo = alike_of(float::infinity());
     let mut hi = alike_of(-float::infinity());
-    let mut i = 0;
-    while i < n {
+    for i in 0..n {
         let p = spot_at(xs, i);
         lo = lower(lo, p);
         hi = upper(hi, p);
-        i += 1;
     }
     Bounds { lo: lo, hi: hi }
 }
@@ -93,7 +90,7 @@ fn extent(b: Bounds, least: f64) -> Vec3
 }
 
 fn measure_box(xs: &[f64]) -> Measure
-    ensures { result ≡ measure_of Absent xs.now }
+    ensures { result ≡ measure_of None xs.now }
 {
     let b = bounds_of(xs);
     let lo = b.lo;
@@ -124,7 +121,7 @@ fn row_vec(r: [f64; 3]) -> Vec3
 }
 
 fn measure_lattice(l: Lattice, xs: &[f64]) -> Measure
-    ensures { result ≡ measure_of (Present l) xs.now }
+    ensures { result ≡ measure_of (Some l) xs.now }
 {
     let m = cell::matrices::inverse(l);
     let ruler = Ruler::Folded {
@@ -142,12 +139,12 @@ fn measure_lattice(l: Lattice, xs: &[f64]) -> Measure
     }
 }
 
-pub(crate) fn measure_of(cell: Cell, xs: &[f64]) -> Measure
+pub(crate) fn measure_of(cell: Option<Lattice>, xs: &[f64]) -> Measure
     ensures { result ≡ measure_of cell xs.now }
 {
     match cell {
-        Cell::Absent => measure_box(xs),
-        Cell::Present(l) => measure_lattice(l, xs),
+        None => measure_box(xs),
+        Some(l) => measure_lattice(l, xs),
     }
 }
 

@@ -1,4 +1,6 @@
 -- A run that has ended gives the numbers and the memory that the outcome names. Assumes nothing.
+use Rattle.std.specs.Prelude.{Option}
+use Rattle.cell.specs.declared.Lattice.{Lattice}
 use Prim.Native.Nat.{ℕ, ◌+◌, ◌-◌, ◌/◌, ◌≤◌, ◌<◌}
 use mathlib.Core.Path.{◌≡◌, sym, ap, ◌∙◌}
 use mathlib.Core.Bool.{Bool, true, false}
@@ -10,7 +12,6 @@ use Rattle.lists.specs.Atoms.{atoms_of}
 use Rattle.float.specs.Arith.{◌⊗◌}
 use Rattle.lists.specs.Lists.{all_pairs, rows}
 use Rattle.lists.proofs.Exactness.{length_keep}
-use Rattle.cell.specs.declared.Cell.{Cell}
 use Rattle.cell.specs.declared.Image.{Image}
 use Rattle.cell.specs.Vec.{sub_of, norm2_of, position_at}
 use Rattle.cell_prepared.proofs.Law.{prepared_image}
@@ -37,11 +38,11 @@ use Rattle.neighbor_listing.proofs.Partners.{looked_in_lem}
 use Rattle.neighbor_listing.specs.Steps.{sees_of, Tops, looked_by, scene_by, sight_of, atoms_by, Swept, Gridded}
 
 -- ---- the loops' scene is the outcome's, the near test first
-seen_is : (cell : Cell) (r : Float) (xs : List Float) (low high : ℕ) → sees_of (sight_of cell r) (position_at xs low) (position_at xs high) ≡ near_of cell r xs low high
+seen_is : (cell : Option Lattice) (r : Float) (xs : List Float) (low high : ℕ) → sees_of (sight_of cell r) (position_at xs low) (position_at xs high) ≡ near_of cell r xs low high
 unfolding sees_of near_of sight_of
 seen_is cell r xs low high = ap (λ (i : Image). le (norm2_of i.diff) (r ⊗ r)) (prepared_image cell (sub_of (position_at xs low) (position_at xs high)))
 
-module _ (cell : Cell) (r : Float) (xs : List Float) (table : List ℕ) (h : is_table (rows table) ≡ true) where
+module _ (cell : Option Lattice) (r : Float) (xs : List Float) (table : List ℕ) (h : is_table (rows table) ≡ true) where
   scene_is : (tops : List ℕ) → Tops table tops → looked_by (sight_of cell r) xs tops table ≡ scene_of cell r xs table
   unfolding looked_by scene_of
   scene_is tops w = λ i. record { excluded = λ low high. looked_in_lem table tops w low high h i; near = λ low high. seen_is cell r xs low high i }
@@ -71,12 +72,12 @@ module _ (cell : Cell) (r : Float) (xs : List Float) (table : List ℕ) (h : is_
   unfolding candidates checks_of beside scene_of
   grid_all p good placed = rw p (binned_less table h (atoms_of xs) (grid_of cell r xs) good (cell_at cell r xs) placed)
 
-plain_cands : (cell : Cell) (r : Float) (xs : List Float) → plain_of cell r xs ≡ true → all_pairs (atoms_of xs) ≡ candidates cell r xs
+plain_cands : (cell : Option Lattice) (r : Float) (xs : List Float) → plain_of cell r xs ≡ true → all_pairs (atoms_of xs) ≡ candidates cell r xs
 unfolding candidates
 plain_cands cell r xs p = rw p
 
 -- ---- a run that has ended, as the outcome has it; `e` are the exclusion rows among the candidates
-pub record Ran (cell : Cell) (r : Float) (xs : List Float) (table old : List ℕ) (t : Tally) (m : List ℕ) (e : ℕ) : Type 0 where
+pub record Ran (cell : Option Lattice) (r : Float) (xs : List Float) (table old : List ℕ) (t : Tally) (m : List ℕ) (e : ℕ) : Type 0 where
   pub count : t.count ≡ length (near_pairs cell r xs table)
   pub left : t.checks - e ≡ checks_of cell r xs table
   pub mem : m ≡ laid_of old (near_pairs cell r xs table)
@@ -85,7 +86,7 @@ pub record Ran (cell : Cell) (r : Float) (xs : List Float) (table old : List ℕ
   pub few : t.checks < 4294967296
   pub same : length m ≡ length old
 
-module _ (cell : Cell) (r : Float) (xs : List Float) (table : List ℕ) (h : is_table (rows table) ≡ true) (few : atoms_of xs ≤ 16384) {s : Sight} (es : s ≡ sight_of cell r) {tops : List ℕ} (w : Tops table tops) (old : List ℕ) {t : Tally} {m : List ℕ} where
+module _ (cell : Option Lattice) (r : Float) (xs : List Float) (table : List ℕ) (h : is_table (rows table) ≡ true) (few : atoms_of xs ≤ 16384) {s : Sight} (es : s ≡ sight_of cell r) {tops : List ℕ} (w : Tops table tops) (old : List ℕ) {t : Tally} {m : List ℕ} where
   ran : {cands : List (ℕ × ℕ)} {e : ℕ} → cands ≡ candidates cell r xs → Ended (looked_by s xs tops table) old cands t m → length (candidates cell r xs) ≡ checks_of cell r xs table + e → Ran cell r xs table old t m e
   ran {cands} {e} all z q =
       let k = run_all cell r xs table h es w all z in
@@ -106,7 +107,7 @@ module _ (cell : Cell) (r : Float) (xs : List Float) (table : List ℕ) (h : is_
         ran (plain_cands cell r xs p) (ended (looked_by s xs tops table) old (all_pairs (atoms_of xs)) t m q (plain_ready (looked_by s xs tops table) (atoms_of xs) few))
         (plain_all cell r xs table h p ∙ ap (λ (k : ℕ). checks_of cell r xs table + k) (sym is))
 
-module _ {cell : Cell} {r : Float} {xs : List Float} {table : List ℕ} {g : Grid} {e : ℕ} {starts items : List ℕ} (w : Gridded cell r xs table g e starts items) where
+module _ {cell : Option Lattice} {r : Float} {xs : List Float} {table : List ℕ} {g : Grid} {e : ℕ} {starts items : List ℕ} (w : Gridded cell r xs table g e starts items) where
   grid_atoms : pairs_of g (atoms_by g starts items) ≡ pairs_of (grid_of cell r xs) (bin (atoms_of xs) (cell_at cell r xs))
   grid_atoms =
       pairs_agree g (atoms_by g starts items) (bin (atoms_of xs) (cell_at cell r xs)) w.part

@@ -1,4 +1,6 @@
 -- The outcome of `list` by its cases, as the code takes them. Assumes nothing.
+use Rattle.std.specs.Prelude.{Option}
+use Rattle.cell.specs.declared.Lattice.{Lattice}
 use Prim.Native.Nat.{ℕ, ◌/◌, ◌≤◌}
 use mathlib.Core.Path.{◌≡◌, refl, sym, ◌∙◌}
 use mathlib.Core.Bool.{Bool, true, false, cond, not}
@@ -10,7 +12,6 @@ use borrow.Author.Tests.{ltb-false, not-true, not-false}
 use Rattle.lists.specs.Atoms.{atoms_of}
 use Rattle.lists.specs.Lists.{rows}
 use Rattle.lists.proofs.Cases.{or_neither, or_right, impossible}
-use Rattle.cell.specs.declared.Cell.{Cell}
 use Rattle.bins.specs.declared.Grid.{Grid}
 use Rattle.bins.specs.Listing.{laid_of}
 use Rattle.exclusions.specs.Table.{is_table}
@@ -39,7 +40,7 @@ crowded_fits o e h = impossible (cc)
 laid_fits : (o : Layout) (g : Grid) (t : ℕ) → o ≡ to.Laid g t → o ≡ to.Unfit → ⊥
 laid_fits o g t e h = impossible (cc)
 
-module _ (cell : Cell) (r : Float) (xs : List Float) (table pairs starts items : List ℕ) {b : Bool} (ib : b ≡ is_table (rows table)) where
+module _ (cell : Option Lattice) (r : Float) (xs : List Float) (table pairs starts items : List ℕ) {b : Bool} (ib : b ≡ is_table (rows table)) where
   untabled : not b ≡ true → unlisted xs table items ≡ true
   unfolding unlisted
   untabled h = rw (← ib, not-true b h) (or_right (unfit_of xs (length items)) true refl)

@@ -1,5 +1,5 @@
 -- The near ones of a part, gathered at a room's front, list what the part lists. Assumes nothing.
-use Prim.Native.Nat.{ℕ, ◌+◌, ◌-◌, ◌≤◌, ◌<◌, min, max}
+use Prim.Native.Nat.{ℕ, ◌+◌, ◌≤◌, ◌<◌, min, max}
 use mathlib.Core.Path.{◌≡◌, refl, sym, ap, ◌∙◌}
 use mathlib.Core.Bool.{Bool, true, false, cond, not, ◌&&◌}
 use mathlib.Core.List.{List, [], ◌∷◌, ◌++◌, map}
@@ -8,9 +8,10 @@ use native.Mathlib.Nat.{add-zero}
 use native.Mathlib.Numerals.{add-one}
 use lib.Dec.{ltb}
 use lib.Ieee.{Float}
-use lib.ListN.{length, get_or, set, take, drop, length-set, length-append, length-drop, take-append-drop}
-use lib.Seq.{take-suc-set, take-set-le, append_snoc, drop-drop, get_or-take, get_or-drop, take-append-le, length-take-le}
+use lib.ListN.{length, get_or, set, take, drop, length-set, length-append, get_or-append}
+use lib.Seq.{take-suc-set, take-set-le, append_snoc, take-append-le, length-take-le}
 use borrow.Author.Tests.{ltb-true, ltb-false}
+use Rattle.std.proofs.lemmas.List.{get_or-append-add}
 use Rattle.cell.specs.Vec.{position_at}
 use Rattle.lists.specs.Lists.{keep, ordered, with_each}
 use Rattle.lists.proofs.Cases.{by_test}
@@ -166,26 +167,21 @@ unfolding with_each
 with_append i [] b = refl
 with_append i (x ∷ a) b = ap (λ (t : List (ℕ × ℕ)). ordered i x ∷ t) (with_append i a b)
 
-module _ (part : List ℕ) (i k to : ℕ) (h : k < to) where
-  with_piece : with_each i (drop k part) ≡ with_each i (take (to - k) (drop k part)) ++ with_each i (drop to part)
-  with_piece =
-      let e : k + (to - k) ≡ to = omega arith in
-      ap (with_each i) (sym (take-append-drop (to - k) (drop k part)) ∙ ap (λ (t : List ℕ). take (to - k) (drop k part) ++ t) (drop-drop (to - k) k part ∙ ap (λ (n : ℕ). drop n part) e))
-      ∙ with_append i (take (to - k) (drop k part)) (drop to part)
+module _ (few later : List ℕ) (i : ℕ) {part : List ℕ} (e : part ≡ few ++ later) where
+  with_piece : with_each i part ≡ with_each i few ++ with_each i later
+  with_piece = ap (with_each i) e ∙ with_append i few later
 
-  pub run_piece : {e : Scene} {s₀ s : Listing} {all : List (ℕ × ℕ)} (r : Listing) → Run e s₀ s all (with_each i (drop k part)) → r ≡ list_of e s (with_each i (take (to - k) (drop k part))) → Run e s₀ r all (with_each i (drop to part))
-  run_piece r u q = run_part (with_each i (take (to - k) (drop k part))) (with_each i (drop to part)) r (rw with_piece at u) q
+  pub run_piece : {g : Scene} {s₀ s : Listing} {all : List (ℕ × ℕ)} (r : Listing) → Run g s₀ s all (with_each i part) → r ≡ list_of g s (with_each i few) → Run g s₀ r all (with_each i later)
+  run_piece r u q = run_part (with_each i few) (with_each i later) r (rw with_piece at u) q
 
-  pub ready_piece : {t : Tally} → Ready t (length (with_each i (drop k part))) → Ready t (length (with_each i (take (to - k) (drop k part))))
-  ready_piece u = ready_first (with_each i (take (to - k) (drop k part))) (with_each i (drop to part)) (rw with_piece at u)
+  pub ready_piece : {t : Tally} → Ready t (length (with_each i part)) → Ready t (length (with_each i few))
+  ready_piece u = ready_first (with_each i few) (with_each i later) (rw with_piece at u)
 
-  pub piece_long : to ≤ length part → length (take (to - k) (drop k part)) ≡ to - k
-  piece_long l = length-take-le (to - k) (drop k part) (omega (arith, length-drop k part))
+pub below_first : (few later : List ℕ) {part : List ℕ} (n : ℕ) → part ≡ few ++ later → Below n part → Below n few
+below_first few later n e w k l = rw (e, get_or-append few later 0 k l) at (w k (omega (arith, ap length e, length-append few later)))
 
-  pub below_piece : (n : ℕ) → to ≤ length part → Below n part → Below n (take (to - k) (drop k part))
-  below_piece n l w j m =
-      let p : j < to - k = omega (arith, piece_long l) in
-      rw (get_or-take (to - k) (drop k part) j 0 p, get_or-drop k part j 0) (w (k + j) (omega arith))
+pub below_later : (few later : List ℕ) {part : List ℕ} (n : ℕ) → part ≡ few ++ later → Below n part → Below n later
+below_later few later n e w k l = rw (e, get_or-append-add few later k 0) at (w (length few + k) (omega (arith, ap length e, length-append few later)))
 
 -- ---- the room and its front
 module _ (room part : List ℕ) (big : length room ≡ 32) (few : length part ≤ 32) where

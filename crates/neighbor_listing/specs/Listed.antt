@@ -1,7 +1,8 @@
 -- What `list` answers and leaves in everything lent. Definitions only.
+use Rattle.std.specs.Prelude.{Option}
+use Rattle.cell.specs.declared.Lattice.{Lattice}
 use Rattle.std.specs.Prelude.{ℕ, ◌/◌, Bool, true, false, cond, not, ◌||◌, List, length, leb, Float}
 use Rattle.lists.specs.Lists.{rows}
-use Rattle.cell.specs.declared.Cell.{Cell}
 use Rattle.bins.specs.Listing.{laid_of}
 use Rattle.exclusions.specs.Table.{is_table}
 use Rattle.neighbor_grid.specs.Grid.{plain_of, crowded}
@@ -25,7 +26,7 @@ unfoldable pub shown_of : ℕ → ℕ → ℕ → Bool → Listed
 shown_of count checks room fallback = cond (leb count room) (Found count checks fallback) (Full count)
 
 -- a run: its answer, the first pairs that fit, and the grid tables
-unfoldable pub run_of : Cell → Float → List Float → List ℕ → List ℕ → List ℕ → List ℕ → Bool → Outcome
+unfoldable pub run_of : Option Lattice → Float → List Float → List ℕ → List ℕ → List ℕ → List ℕ → Bool → Outcome
 run_of cell r xs table pairs starts items fallback =
     outcome
     (shown_of (length (near_pairs cell r xs table)) (checks_of cell r xs table) (length pairs / 2) fallback)
@@ -38,7 +39,7 @@ unfoldable pub unlisted : List Float → List ℕ → List ℕ → Bool
 unlisted xs table items = unfit_of xs (length items) || not (is_table (rows table))
 
 -- "These come before refusal 7"; without a grid the grid tables are untouched
-unfoldable pub listing_of : Cell → Float → List Float → List ℕ → List ℕ → List ℕ → List ℕ → Outcome
+unfoldable pub listing_of : Option Lattice → Float → List Float → List ℕ → List ℕ → List ℕ → List ℕ → Outcome
 listing_of cell r xs table pairs starts items =
     cond (unlisted xs table items) (outcome Unfit pairs starts items)
     (cond (plain_of cell r xs) (run_of cell r xs table pairs starts items true)

@@ -1,10 +1,11 @@
 -- What the private functions ask and say of themselves: nobody has to believe it. Definitions only.
+use Rattle.std.specs.Prelude.{Option}
+use Rattle.cell.specs.declared.Lattice.{Lattice}
 use Rattle.std.specs.Prelude.{ℕ, ◌/◌, ◌≤◌, ◌<◌, min, max, ◌≡◌, Bool, true, false, cond, ◌&&◌, List, ltb, eqb, length, get_or, take, Float}
 use Rattle.lists.specs.Atoms.{atoms_of}
 use Rattle.lists.specs.Lists.{keep}
 use Rattle.std.specs.Float.Ieee.{le}
 use Rattle.cell.specs.declared.Vec3.{Vec3}
-use Rattle.cell.specs.declared.Cell.{Cell as Cell'}
 use Rattle.cell.specs.Vec.{sub_of, norm2_of, position_at}
 use Rattle.float.specs.Arith.{◌⊗◌}
 use Rattle.cell_prepared.specs.Facts.{prepare_of, image_in}
@@ -97,11 +98,11 @@ pub record Swept (g : Grid) (n : ℕ) (starts items : List ℕ) : Type 0 where
   pub below : (c : Cell) → InGrid g c → Below n (atoms_by g starts items c)
 
 -- a cell's facts and the squared radius
-unfoldable pub sight_of : Cell' → Float → Sight
+unfoldable pub sight_of : Option Lattice → Float → Sight
 sight_of cell r = record { prepared = prepare_of cell; limit = r ⊗ r }
 
 -- the frame's own grid, laid into the tables; `excluded` are the exclusion rows of touching cells
-pub record Gridded (cell : Cell') (r : Float) (xs : List Float) (table : List ℕ) (g : Grid) (excluded : ℕ) (starts items : List ℕ) : Type 0 where
+pub record Gridded (cell : Option Lattice) (r : Float) (xs : List Float) (table : List ℕ) (g : Grid) (excluded : ℕ) (starts items : List ℕ) : Type 0 where
   pub is : g ≡ grid_of cell r xs
   pub wide : plain_of cell r xs ≡ false
   pub counted : excluded ≡ touching_rows cell r xs table

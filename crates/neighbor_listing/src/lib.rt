@@ -12,7 +12,7 @@ mod tops;
 ghost use Rattle.std.specs.Prelude.{◌≡◌};
 ghost use Rattle.neighbor_listing.specs.Listed.{outcome, listing_of};
 
-use cell::Cell;
+use cell::Lattice;
 use neighbor_grid::Layout;
 
 // The pairs stored, the distances evaluated, and whether no grid was laid; or too many pairs for the room, of which the first are stored; or too many
@@ -33,7 +33,7 @@ pub enum Listed {
 
 // The pairs of the positions within the radius that the exclusion table leaves, into the lent pairs; the grid tables where a grid is laid.
 pub fn list(
-    cell: Cell,
+    cell: Option<Lattice>,
     radius: f64,
     positions: &[f64],
     table: &[u32],

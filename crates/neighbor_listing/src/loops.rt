@@ -64,10 +64,8 @@ fn settle_all(
     ensures { record { tally = result; mem = pairs.new } ≡ list_of (chosen_by tops.now table.now) (record { tally = t; mem = pairs.old }) (with_each i near.now) }
 {
     let mut now = t;
-    let mut k = 0;
-    while k < near.len() {
-        now = settle(table, tops, pairs, now, i, near[k]);
-        k += 1;
+    for j in near {
+        now = settle(table, tops, pairs, now, i, *j);
     }
     now
 }
@@ -78,12 +76,9 @@ fn sift(s: Sight, xs: &[f64], i: u32, a: Vec3, part: &[u32], room: &mut [u32]) -
     ensures { Gathered (near_to s xs.now i) part.now result room.new }
 {
     let mut count = 0;
-    let mut k = 0;
-    while k < part.len() {
-        let j = part[k];
+    for &j in part {
         room[count] = j;
         count += one(sees(s, i < j, a, spot_at(xs, j as usize)));
-        k += 1;
     }
     count
 }
@@ -120,17 +115,6 @@ fn consider_few(
     }
 }
 
-// How far a part from k goes: to n, or 32.
-fn part_end(k: usize, n: usize) -> usize
-    requires { k < n }
-    ensures { (k < result) × (result ≤ n) × (result ≤ k + 32) }
-{
-    if n - k <= 32 {
-        return n;
-    }
-    k + 32
-}
-
 // An atom with each of a part, in the part's order. Its coordinates are read once.
 fn consider_part(
     s: Sight,
@@ -147,11 +131,8 @@ fn consider_part(
 {
     let a = spot_at(xs, i as usize);
     let mut now = t;
-    let mut k = 0;
-    while k < part.len() {
-        let to = part_end(k, part.len());
-        now = consider_few(s, xs, table, tops, pairs, now, i, a, &part[k..to]);
-        k = to;
+    for few in part.chunks(32) {
+        now = consider_few(s, xs, table, tops, pairs, now, i, a, few);
     }
     now
 }
@@ -402,13 +383,10 @@ fn cross_shared(
     ensures { Lists s xs.now tops.now table.now t pairs.old (across home.now other.now) result pairs.new }
 {
     let mut now = t;
-    let mut k = 0;
-    while k < home.len() {
-        let i = home[k];
+    for &i in home {
         now = see_shared(
             s, xs, table, tops, pairs, now, i, other, bx, by, bz, flags, room, w, p,
         );
-        k += 1;
     }
     now
 }
@@ -435,13 +413,10 @@ fn cross_side(
     ensures { Lists s xs.now tops.now table.now t pairs.old (across home.now other.now) result pairs.new }
 {
     let mut now = t;
-    let mut k = 0;
-    while k < home.len() {
-        let i = home[k];
+    for &i in home {
         now = consider_whole(
             s, xs, table, tops, pairs, now, i, other, bx, by, bz, flags, room, w, p,
         );
-        k += 1;
     }
     now
 }
@@ -467,8 +442,7 @@ fn home_side(
     ensures { Lists s xs.now tops.now table.now t pairs.old (inside home.now) result pairs.new }
 {
     let mut now = t;
-    let mut k = 0;
-    while k < home.len() {
+    for k in 0..home.len() {
         let i = home[k];
         now = consider_side(
             s,
@@ -488,7 +462,6 @@ fn home_side(
             w,
             p,
         );
-        k += 1;
     }
     now
 }
@@ -566,11 +539,8 @@ fn cross_many(
     ensures { Lists s xs.now tops.now table.now t pairs.old (across home.now other.now) result pairs.new }
 {
     let mut now = t;
-    let mut k = 0;
-    while k < home.len() {
-        let i = home[k];
+    for &i in home {
         now = consider_part(s, xs, table, tops, pairs, now, i, other);
-        k += 1;
     }
     now
 }
@@ -589,11 +559,9 @@ fn home_many(
     ensures { Lists s xs.now tops.now table.now t pairs.old (inside home.now) result pairs.new }
 {
     let mut now = t;
-    let mut k = 0;
-    while k < home.len() {
+    for k in 0..home.len() {
         let i = home[k];
         now = consider_part(s, xs, table, tops, pairs, now, i, &home[k + 1..]);
-        k += 1;
     }
     now
 }

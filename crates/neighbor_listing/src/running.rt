@@ -14,7 +14,7 @@ use crate::sight::sight_of;
 use crate::sweep::sweep_all;
 use crate::tops::raise_all;
 use bins::{Grid, Tally};
-use cell::Cell;
+use cell::Lattice;
 
 // Nothing listed yet.
 fn none() -> Tally
@@ -62,16 +62,14 @@ fn number(atoms: &mut [u32])
     requires { length atoms.old ≤ 16384 }
     ensures { atoms.new ≡ up_to (length atoms.old) }
 {
-    let mut k = 0;
-    while k < atoms.len() {
-        atoms[k] = k as u32;
-        k += 1;
+    for (k, atom) in atoms.iter_mut().enumerate() {
+        *atom = k as u32;
     }
 }
 
 // All pairs are those of one bin that has all atoms: the fallback goes by the loop of a home cell.
 pub(crate) fn run_plain(
-    cell: Cell,
+    cell: Option<Lattice>,
     radius: f64,
     xs: &[f64],
     table: &[u32],
@@ -93,7 +91,7 @@ pub(crate) fn run_plain(
 }
 
 pub(crate) fn run_grid(
-    cell: Cell,
+    cell: Option<Lattice>,
     radius: f64,
     g: Grid,
     excluded: u64,

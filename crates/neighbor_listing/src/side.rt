@@ -52,13 +52,11 @@ pub(crate) fn lay_out(xs: &[f64], part: &[u32], bx: &mut [f64], by: &mut [f64], 
     requires { Below (length xs.now / 3) part.now × (length part.now ≤ 64) × SideRooms bx.old by.old bz.old }
     ensures { LaidOut xs.now part.now bx.new by.new bz.new (length part.now) }
 {
-    let mut k = 0;
-    while k < part.len() {
+    for k in 0..part.len() {
         let b = spot_at(xs, part[k] as usize);
         bx[k] = b.x;
         by[k] = b.y;
         bz[k] = b.z;
-        k += 1;
     }
 }
 
@@ -99,8 +97,7 @@ fn ends_of(n: usize, bx: &[f64], by: &[f64], bz: &[f64]) -> Bounds
         y: -far,
         z: -far,
     };
-    let mut k = 0;
-    while k < n {
+    for k in 0..n {
         let b = Vec3 {
             x: bx[k],
             y: by[k],
@@ -108,7 +105,6 @@ fn ends_of(n: usize, bx: &[f64], by: &[f64], bz: &[f64]) -> Bounds
         };
         lo = least(lo, b);
         hi = greatest(hi, b);
-        k += 1;
     }
     Bounds {
         lo: lo,
@@ -133,15 +129,13 @@ fn all_enclosed(w: Bounds, n: usize, bx: &[f64], by: &[f64], bz: &[f64]) -> bool
     ensures { AllEnclosed bx.now by.now bz.now n w result }
 {
     let mut ok = true;
-    let mut k = 0;
-    while k < n {
+    for k in 0..n {
         let b = Vec3 {
             x: bx[k],
             y: by[k],
             z: bz[k],
         };
         ok = ok & is_enclosed(w, b);
-        k += 1;
     }
     ok
 }
@@ -570,15 +564,13 @@ fn flag_stepped(
     requires { (from ≤ length part.now) × (length part.now ≤ 64) × SideRooms bx.now by.now bz.now × (length flags.old ≡ 64) × Reaches stepped_sees s a bx.now by.now bz.now (length part.now) r × (r.single ≡ true) }
     ensures { Flagged s i a part.now bx.now by.now bz.now from (length part.now) flags.new }
 {
-    let mut k = from;
-    while k < part.len() {
+    for k in from..part.len() {
         let b = Vec3 {
             x: bx[k],
             y: by[k],
             z: bz[k],
         };
         flags[k] = one(stepped_sees(s, a, r.step, b));
-        k += 1;
     }
 }
 
@@ -598,15 +590,13 @@ fn flag_still(
     requires { (from ≤ length part.now) × (length part.now ≤ 64) × SideRooms bx.now by.now bz.now × (length flags.old ≡ 64) × Reaches still_sees s a bx.now by.now bz.now (length part.now) r × (r.single ≡ true) }
     ensures { Flagged s i a part.now bx.now by.now bz.now from (length part.now) flags.new }
 {
-    let mut k = from;
-    while k < part.len() {
+    for k in from..part.len() {
         let b = Vec3 {
             x: bx[k],
             y: by[k],
             z: bz[k],
         };
         flags[k] = one(still_sees(s, a, r.step, b));
-        k += 1;
     }
 }
 
@@ -626,15 +616,13 @@ fn flag_slanted(
     requires { (from ≤ length part.now) × (length part.now ≤ 64) × SideRooms bx.now by.now bz.now × (length flags.old ≡ 64) × Reaches slope_sees s a bx.now by.now bz.now (length part.now) r × (r.single ≡ true) × (is_upper s ≡ false) }
     ensures { Flagged s i a part.now bx.now by.now bz.now from (length part.now) flags.new }
 {
-    let mut k = from;
-    while k < part.len() {
+    for k in from..part.len() {
         let b = Vec3 {
             x: bx[k],
             y: by[k],
             z: bz[k],
         };
         flags[k] = one(slanted_sees(s, a, r.step, b));
-        k += 1;
     }
 }
 
@@ -653,15 +641,13 @@ fn flag_upper(
     requires { (from ≤ length part.now) × (length part.now ≤ 64) × SideRooms bx.now by.now bz.now × (length flags.old ≡ 64) × Reaches slope_sees s a bx.now by.now bz.now (length part.now) r × (r.single ≡ true) × (is_upper s ≡ true) }
     ensures { Flagged s i a part.now bx.now by.now bz.now from (length part.now) flags.new }
 {
-    let mut k = from;
-    while k < part.len() {
+    for k in from..part.len() {
         let b = Vec3 {
             x: bx[k],
             y: by[k],
             z: bz[k],
         };
         flags[k] = one(upper_sees(s, a, r.step, b));
-        k += 1;
     }
 }
 
@@ -680,8 +666,7 @@ fn flag_box(
     ensures { Flags s i a part.now bx.now by.now bz.now from (length part.now) flags.new result }
 {
     let mut ok = true;
-    let mut k = from;
-    while k < part.len() {
+    for k in from..part.len() {
         let b = Vec3 {
             x: bx[k],
             y: by[k],
@@ -689,7 +674,6 @@ fn flag_box(
         };
         flags[k] = one(box_sees(s, a, b));
         ok = ok & box_holds(s, a, b);
-        k += 1;
     }
     ok
 }
@@ -710,8 +694,7 @@ fn flag_tilted(
     ensures { Flags s i a part.now bx.now by.now bz.now from (length part.now) flags.new result }
 {
     let mut ok = true;
-    let mut k = from;
-    while k < part.len() {
+    for k in from..part.len() {
         let d = Vec3 {
             x: a.x - bx[k],
             y: a.y - by[k],
@@ -719,7 +702,6 @@ fn flag_tilted(
         };
         flags[k] = one(tilted_sees(s, d));
         ok = ok & tilted_holds(s, d);
-        k += 1;
     }
     ok
 }
@@ -805,11 +787,9 @@ pub(crate) fn gather(from: usize, part: &[u32], flags: &[usize], room: &mut [u32
     ensures { FlagsTaken part.now from flags.now result room.new }
 {
     let mut count = 0;
-    let mut k = from;
-    while k < part.len() {
+    for k in from..part.len() {
         room[count] = part[k];
         count += flags[k];
-        k += 1;
     }
     count
 }

@@ -3,7 +3,7 @@ ghost use Rattle.std.specs.Prelude.{◌≡◌, cond, ◌/◌, ◌<◌, length};
 ghost use Rattle.cell.specs.Vec.{sub_of, position_at};
 ghost use Rattle.neighbor_listing.specs.Steps.{sees_of, sight_of};
 
-use cell::{Cell, Vec3, vectors};
+use cell::{Lattice, Vec3, vectors};
 use cell_prepared::Prepared;
 
 // What the test of a pair asks: the cell's facts, and the square of the radius.
@@ -42,7 +42,7 @@ pub(crate) fn sees(s: Sight, rising: bool, a: Vec3, b: Vec3) -> bool
 }
 
 // The cell's facts are asked once for all pairs.
-pub(crate) fn sight_of(cell: Cell, radius: f64) -> Sight
+pub(crate) fn sight_of(cell: Option<Lattice>, radius: f64) -> Sight
     ensures { result ≡ sight_of cell radius }
 {
     Sight {

@@ -10,7 +10,7 @@ use crate::loops::{consider_cross, consider_home};
 use crate::side;
 use crate::side::Bounds;
 use crate::sight::Sight;
-use bins::{Cell, Grid, Reached, Tally};
+use bins::{Cell, Grid, Tally};
 
 // A home cell, whose bounds are v, and one row of the stencil.
 fn sweep_row(
@@ -34,7 +34,7 @@ fn sweep_row(
     ensures { Lists s xs.now tops.now table.now t pairs.old (visit g (atoms_by g starts.now items.now) home row) result pairs.new }
 {
     let o = bins::kernel::offset_index(g, home, row);
-    let Reached::To(other) = o else {
+    let Some(other) = o else {
         return t;
     };
     let mine = bins::atoms_in(bins::kernel::index(g, home) as usize, starts, items);
@@ -66,12 +66,10 @@ fn sweep_cell(
     let mine = bins::atoms_in(bins::kernel::index(g, home) as usize, starts, items);
     let v = side::bounds_at(xs, mine);
     let mut now = t;
-    let mut row = 0;
-    while row < 14 {
+    for row in 0..14 {
         now = sweep_row(
             s, g, xs, table, tops, pairs, starts, items, now, home, row, v,
         );
-        row += 1;
     }
     now
 }
@@ -94,11 +92,9 @@ pub(crate) fn sweep_all(
 {
     let count = bins::kernel::cell_count(g);
     let mut now = t;
-    let mut h = 0;
-    while h < count {
+    for h in 0..count {
         let home = bins::kernel::home_of(g, h);
         now = sweep_cell(s, g, xs, table, tops, pairs, starts, items, now, home);
-        h += 1;
     }
     now
 }

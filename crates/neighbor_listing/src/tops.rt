@@ -16,10 +16,8 @@ pub(crate) fn raise_all(table: &[u32], tops: &mut [u32])
     requires { Cleared tops.old }
     ensures { Tops table.now tops.new }
 {
-    let mut k = 0;
-    while k < table.len() / 2 {
+    for k in 0..table.len() / 2 {
         raise(tops, table[2 * k] as usize, table[2 * k + 1]);
-        k += 1;
     }
 }
 

@@ -1,4 +1,5 @@
 -- A block of pairs in local arrays: what its places add is what its pairs add, and a loop over blocks is the loop over pairs. Assumes nothing.
+use Rattle.std.specs.Prelude.{Option}
 use mathlib.Core.Bool.{Bool, true, false, cond}
 use mathlib.Core.Path.{◌≡◌, refl, sym, ap, ◌∙◌, subst}
 use mathlib.Core.Logic.{⊎_elim}
@@ -17,8 +18,7 @@ use Rattle.lists.proofs.Walks.{fold_next}
 use Rattle.float.specs.Arith.{at}
 use Rattle.cell.specs.declared.Vec3.{Vec3}
 use Rattle.cell.specs.Vec.{position_at}
-use Rattle.potentials_pair.specs.declared.Pull.{Pull}
-use Rattle.potentials_pair.specs.Pull.{Total, after}
+use Rattle.potentials_pair.specs.Pull.{Pull, Total, after}
 use Rattle.potentials.proofs.Folds.{Left}
 use Rattle.potentials.specs.Blocks.{block_step, set_vec, with_pull, Block, PlaceAdds, Sifted, Pulled}
 
@@ -85,7 +85,7 @@ module _ (l : List Float) (c : ℕ) (d : Vec3) where
   vec_below m h = rw (vec_at (3 * m) (omega arith), vec_at (3 * m + 1) (omega arith), vec_at (3 * m + 2) (omega arith))
 
 -- ---- a place that is written
-module _ (pull : Float → Vec3 → Float → Pull) {A : Type 0} (f : Total → A → Total) (r : A) (atoms : List ℕ) (apart two : List Float) (c i j : ℕ) (d : Vec3) (u v : Float)
+module _ (pull : Float → Vec3 → Float → Option Pull) {A : Type 0} (f : Total → A → Total) (r : A) (atoms : List ℕ) (apart two : List Float) (c i j : ℕ) (d : Vec3) (u v : Float)
     (a : 256 ≤ length atoms) (b : 384 ≤ length apart) (w : length two ≡ 256) (h : c < 128) where
   abbrev step : Total → ℕ → Total
   step = block_step pull atoms apart two

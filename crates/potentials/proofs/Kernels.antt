@@ -1,4 +1,6 @@
 -- A term's loop, started from zero in a prepared cell, is the term; and what the tests of a call show. Assumes nothing.
+use Rattle.std.specs.Prelude.{Option}
+use Rattle.cell.specs.declared.Lattice.{Lattice}
 use mathlib.Core.Path.{◌≡◌, ap, ap₂, ◌∙◌}
 use mathlib.Core.Bool.{false, ◌&&◌}
 use mathlib.Core.List.{List, foldl}
@@ -8,7 +10,6 @@ use lib.Dec.{ltb}
 use lib.Ieee.{Float}
 use lib.ListN.{length}
 use Rattle.lists.specs.Atoms.{atoms_of}
-use Rattle.cell.specs.declared.Cell.{Cell}
 use Rattle.cell.specs.declared.Vec3.{Vec3}
 use Rattle.cell.specs.declared.Image.{Image}
 use Rattle.cell.specs.Vec.{sub_of, position_at}
@@ -38,7 +39,7 @@ pub displaced_by : (p : Prepared) (xs : List Float) (i j : ℕ) {a b d : Vec3} {
 unfolding displaced
 displaced_by p xs i j A B D R = ap (λ (v : Image). v.diff) (R ∙ ap (image_in p) (D ∙ ap₂ sub_of A B))
 
-module _ (cell : Cell) {p : Prepared} {sum : Sum} {forces : List Float} (room : ℕ) (P : p ≡ prepare_of cell) (S : sum ≡ zero_sum) (F : forces ≡ zero_forces room) where
+module _ (cell : Option Lattice) {p : Prepared} {sum : Sum} {forces : List Float} (room : ℕ) (P : p ≡ prepare_of cell) (S : sum ≡ zero_sum) (F : forces ≡ zero_forces room) where
   start : held sum forces ≡ zero_total room
   unfolding zero_total
   start = rw (S, F)

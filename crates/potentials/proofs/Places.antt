@@ -1,4 +1,5 @@
 -- What a pair's place adds, Coulomb's and a bond's: the pair's own step, or nothing where it is skipped. Assumes nothing.
+use Rattle.std.specs.Prelude.{Option, None}
 use mathlib.Core.Path.{◌≡◌, refl}
 use mathlib.Core.Bool.{Bool, true, false, cond, ◌||◌}
 use mathlib.Core.List.{List}
@@ -16,20 +17,18 @@ use Rattle.cell_prepared.specs.declared.Prepared.{Prepared}
 use Rattle.cell_prepared.specs.Facts.{image_in}
 use Rattle.virial.specs.declared.Sum.{Sum}
 use Rattle.virial.specs.Virial.{sum_with_energy, sum_with_pair, forces_with_pair}
-use Rattle.potentials_pair.specs.declared.Pull.{Pull}
-use Rattle.potentials_pair.specs.declared.Pull.TheVariants.{Skip}
-use Rattle.potentials_pair.specs.Pull.{Total, held, after, skips}
+use Rattle.potentials_pair.specs.Pull.{Pull, Total, held, after, skips}
 use Rattle.potentials_pair.specs.Coulomb.{neutral, coulomb_near, coulomb_pull}
 use Rattle.potentials.specs.declared.Bond.{Bond}
 use Rattle.potentials.specs.Terms.{step, displaced, coulomb_pair, bond_pair, bond_step}
 use Rattle.potentials.specs.Steps.{coulomb_step}
 use Rattle.potentials.specs.Blocks.{block_step, scaled_pull, bond_at}
 
-pub skip_one : (n : Bool) (t : Total) (p : ℕ × ℕ) (x : Pull) → after t p (cond n Skip x) ≡ cond n t (after t p x)
+pub skip_one : (n : Bool) (t : Total) (p : ℕ × ℕ) (x : Option Pull) → after t p (cond n None x) ≡ cond n t (after t p x)
 skip_one true t p x = refl
 skip_one false t p x = refl
 
-skip_two : (n k : Bool) (t : Total) (p : ℕ × ℕ) (x : Pull) → after t p (cond n Skip (cond k Skip x)) ≡ cond (n || k) t (after t p x)
+skip_two : (n k : Bool) (t : Total) (p : ℕ × ℕ) (x : Option Pull) → after t p (cond n None (cond k None x)) ≡ cond (n || k) t (after t p x)
 skip_two true k t p x = refl
 skip_two false true t p x = refl
 skip_two false false t p x = refl

@@ -1,4 +1,7 @@
 -- After passed tests every pair's atoms are there and every species of the table has its row, and so each term is the Rust's own loop. Assumes nothing.
+use Rattle.std.specs.Prelude.{Option}
+use Rattle.std.specs.Prelude.{Ok, Option}
+use Rattle.cell.specs.declared.Lattice.{Lattice}
 use Prim.Native.Nat.{ℕ, ◌+◌, ◌*◌, ◌/◌, ◌%◌, ◌<◌}
 use native.Mathlib.Omega.{arith}
 use mathlib.Core.Path.{◌≡◌, ap, ◌∙◌}
@@ -17,16 +20,13 @@ use Rattle.lists.proofs.Exactness.{mem_up_to, mem_get_d, all_exactly}
 use Rattle.lists.proofs.First.{fold_same, none_there}
 use Rattle.lists.proofs.Rows.{length_rows}
 use Rattle.lists.proofs.Walks.{drop_next}
-use Rattle.answer.specs.declared.Done.TheVariants.{Answered}
 use Rattle.float.specs.Arith.{at}
-use Rattle.cell.specs.declared.Cell.{Cell}
 use Rattle.cell.specs.Cell.{image_of}
 use Rattle.virial.specs.declared.Units.{Units}
 use Rattle.ranges.specs.Rows.{is_absent, absent_of}
 use Rattle.potentials_pair.specs.declared.Lj.{Lj}
 use Rattle.potentials_pair.specs.declared.Mixed.{Mixed}
-use Rattle.potentials_pair.specs.declared.Pull.{Pull}
-use Rattle.potentials_pair.specs.Pull.{Total, after}
+use Rattle.potentials_pair.specs.Pull.{Pull, Total, after}
 use Rattle.potentials_pair.specs.Species.{Tables, params_at, row_in, row_of, numbers_in, look_of}
 use Rattle.potentials.specs.declared.Bond.{Bond}
 use Rattle.potentials.specs.Terms.{zero_total, step, over_pairs, lj_pair, lj_over, coulomb_over, bond_step, bonds_over}
@@ -35,7 +35,7 @@ use Rattle.potentials.specs.Source.{accumulated, in_table, in_tables, LjPairsByS
 use Rattle.potentials.proofs.Outcomes.{asked_told}
 
 -- a pair whose atoms are there is not passed over
-step_there : (n : ℕ) (pull : ℕ × ℕ → Pull) (t : Total) (p : ℕ × ℕ) → is_absent n p ≡ false → step n pull t p ≡ after t p (pull p)
+step_there : (n : ℕ) (pull : ℕ × ℕ → Option Pull) (t : Total) (p : ℕ × ℕ) → is_absent n p ≡ false → step n pull t p ≡ after t p (pull p)
 unfolding step
 step_there n pull t p e = rw e
 
@@ -52,11 +52,11 @@ module _ (n : ℕ) (table : List ℕ) (h : ltb (absent_of n (rows table)) (lengt
   pair_there p m = let r = mem_get_d (0, 0) (rows table) m in rw r.2 at (row_there r.0 r.1)
 
 -- ---- the loop over pairs
-over_there : (n : ℕ) (pull : ℕ × ℕ → Pull) (room : ℕ) (l : List (ℕ × ℕ)) → ((p : ℕ × ℕ) → p ∈ l → is_absent n p ≡ false) → over_pairs n pull room l ≡ accumulated pull room l
+over_there : (n : ℕ) (pull : ℕ × ℕ → Option Pull) (room : ℕ) (l : List (ℕ × ℕ)) → ((p : ℕ × ℕ) → p ∈ l → is_absent n p ≡ false) → over_pairs n pull room l ≡ accumulated pull room l
 unfolding over_pairs
 over_there n pull room l h = fold_same (step n pull) (λ t p. after t p (pull p)) l (λ p m t. step_there n pull t p (h p m)) (zero_total room)
 
-all_there : (n : ℕ) (pull : ℕ × ℕ → Pull) (room : ℕ) → over_pairs n pull room (all_pairs n) ≡ accumulated pull room (all_pairs n)
+all_there : (n : ℕ) (pull : ℕ × ℕ → Option Pull) (room : ℕ) → over_pairs n pull room (all_pairs n) ≡ accumulated pull room (all_pairs n)
 all_there n pull room = over_there n pull room (all_pairs n) (λ p m. two_there n p ((all_exactly n).sound p m))
 
 -- ---- Lennard-Jones
@@ -116,8 +116,8 @@ module _ (lj : Lj) (tab : Tables) (e : length tab.own_params / 2 ≡ length tab.
   looked_all : ◌≡◌ {A = ℕ → Mixed} (look_of tab lj) (in_tables tab lj)
   looked_all = λ i z. looked z i
 
-module _ (lj : Lj) (cell : Cell) (tab : Tables) (species : List ℕ) (xs forces : List Float) where
-  module _ (pairs absent : ℕ) (e : lj_asked lj cell tab (length species) xs (length forces) pairs absent ≡ Answered) where
+module _ (lj : Lj) (cell : Option Lattice) (tab : Tables) (species : List ℕ) (xs forces : List Float) where
+  module _ (pairs absent : ℕ) (e : lj_asked lj cell tab (length species) xs (length forces) pairs absent ≡ Ok tt) where
     lj_tables : (length tab.own_params / 2 ≡ length tab.own_ids) × (length tab.params / 2 ≡ length tab.ids)
     unfolding lj_asked
     lj_tables = fit_rows _ _ _ _ (fit_tables _ _ _ _ _ (asked_told _ _ _ _ _ _ e).lengths)
@@ -140,7 +140,7 @@ module _ (lj : Lj) (cell : Cell) (tab : Tables) (species : List ℕ) (xs forces 
   lj_all_by_source e = lj_loop 0 0 e (all_pairs (atoms_of xs)) (λ p m. two_there (atoms_of xs) p ((all_exactly (atoms_of xs)).sound p m))
 
 -- ---- Coulomb
-module _ (units : Units) (cutoff : Float) (cell : Cell) (charges xs forces : List Float) where
+module _ (units : Units) (cutoff : Float) (cell : Option Lattice) (charges xs forces : List Float) where
   pub coulomb_pairs_by_source : (pairs : List ℕ) → CoulombPairsBySource units cutoff cell charges xs pairs forces
   unfolding coulomb_over coulomb_asked
   coulomb_pairs_by_source pairs e = over_there (atoms_of xs) _ (length forces) (rows pairs) (pair_there (atoms_of xs) pairs (asked_told _ _ _ _ _ _ e).there)
@@ -150,7 +150,7 @@ module _ (units : Units) (cutoff : Float) (cell : Cell) (charges xs forces : Lis
   coulomb_all_by_source = all_there (atoms_of xs) _ (length forces)
 
 -- ---- bonds
-module _ (bond : Bond) (cell : Cell) (bonds : List ℕ) (perBond perBondK xs forces : List Float) where
+module _ (bond : Bond) (cell : Option Lattice) (bonds : List ℕ) (perBond perBondK xs forces : List Float) where
   pub bonds_all_by_source : BondsAllBySource bond cell bonds perBond perBondK xs forces
   unfolding bonds_over bond_step bonds_asked
   bonds_all_by_source e =

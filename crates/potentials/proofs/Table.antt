@@ -1,4 +1,6 @@
 -- The remembered numbers: a row that is read is what its key's species give (`hit`), a row that is made anew keeps the table right (`renewed`), and a table of the one key 0 is right (`begun`). Assumes nothing.
+use Rattle.std.specs.Prelude.{Option}
+use Rattle.potentials_pair.specs.Pull.{Pull}
 use mathlib.Core.Path.{◌≡◌, refl, sym, ap, ap₂, ◌∙◌, subst}
 use mathlib.Core.Logic.{⊎_elim}
 use mathlib.Core.List.{List}
@@ -13,7 +15,6 @@ use Rattle.lists.proofs.Rows.{set_three, three_length, three_first, three_second
 use Rattle.cell.specs.declared.Vec3.{Vec3}
 use Rattle.potentials_pair.specs.declared.Lj.{Lj}
 use Rattle.potentials_pair.specs.declared.Numbers.{Numbers}
-use Rattle.potentials_pair.specs.declared.Pull.{Pull}
 use Rattle.potentials_pair.specs.Lj.{mix_of, lj_near}
 use Rattle.potentials_pair.specs.Once.{near_by}
 use Rattle.potentials_pair.specs.Species.{Tables, look_by}
@@ -99,7 +100,7 @@ module _ (lj : Lj) (tab : Tables) where
       }
 
   -- what is remembered of two species gives the formula over their mixed numbers
-  pub near_for : (y z : ℕ) {n : Numbers} → n ≡ numbers_for lj tab y z → (d : Vec3) (r2 : Float) {r : Pull} → r ≡ near_by lj.shift n d r2 → r ≡ lj_near lj (mix_of lj.rule (look_by tab lj y) (look_by tab lj z)) d r2
+  pub near_for : (y z : ℕ) {n : Numbers} → n ≡ numbers_for lj tab y z → (d : Vec3) (r2 : Float) {r : Option Pull} → r ≡ near_by lj.shift n d r2 → r ≡ lj_near lj (mix_of lj.rule (look_by tab lj y) (look_by tab lj z)) d r2
   unfolding numbers_for
   near_for y z e d r2 q = q ∙ ap (λ (a : Numbers). near_by lj.shift a d r2) e ∙ near_numbers lj (mix_of lj.rule (look_by tab lj y) (look_by tab lj z)) d r2
 

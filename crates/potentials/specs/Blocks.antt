@@ -1,4 +1,5 @@
 -- A block of pairs in local arrays: two atoms a place, three floats of how they lie to each other, and two floats more. Nobody has to believe it. Definitions only.
+use Rattle.std.specs.Prelude.{Option, Some}
 use Rattle.std.specs.Prelude.{◌≡◌, Bool, cond, ℕ, ◌+◌, ◌*◌, ◌<◌, ◌≤◌, Float, length, get_or, set, drop}
 use mathlib.Core.List.{List, foldl}
 use Rattle.std.specs.Float.Ieee.{lt}
@@ -10,22 +11,20 @@ use Rattle.cell.specs.declared.Vec3.{Vec3}
 use Rattle.cell.specs.Vec.{scale_of, norm_of, position_at}
 use Rattle.potentials_pair.specs.declared.Lj.{Lj}
 use Rattle.potentials_pair.specs.declared.Numbers.{Numbers}
-use Rattle.potentials_pair.specs.declared.Pull.{Pull}
-use Rattle.potentials_pair.specs.declared.Pull.TheVariants.{Add}
 use Rattle.potentials_pair.specs.Bond.{bond_pull, bond_energy, bond_slope}
 use Rattle.potentials_pair.specs.Once.{energy_by, slope_by, near_by}
-use Rattle.potentials_pair.specs.Pull.{Total, after}
+use Rattle.potentials_pair.specs.Pull.{Pull, Total, after}
 use Rattle.potentials_pair.specs.Species.{Tables}
 use Rattle.potentials.specs.Steps.{numbers_for, Kept}
 
 -- what place m adds; `pull` makes it of the two floats and of how the atoms lie
-unfoldable pub block_step : (Float → Vec3 → Float → Pull) → List ℕ → List Float → List Float → Total → ℕ → Total
+unfoldable pub block_step : (Float → Vec3 → Float → Option Pull) → List ℕ → List Float → List Float → Total → ℕ → Total
 block_step pull atoms apart two t m =
     after t (get_or atoms (2 * m) 0, get_or atoms (2 * m + 1) 0) (pull (at two (2 * m)) (position_at apart m) (at two (2 * m + 1)))
 
 -- an energy, and a force g times as long as d
-unfoldable pub scaled_pull : Float → Vec3 → Float → Pull
-scaled_pull energy d g = Add energy d (scale_of d g)
+unfoldable pub scaled_pull : Float → Vec3 → Float → Option Pull
+scaled_pull energy d g = Some (record { energy = energy; d = d; f = scale_of d g })
 
 -- the three floats of place c
 abbrev pub set_vec : List Float → ℕ → Vec3 → List Float
@@ -65,7 +64,7 @@ pub record Pulled (e g : ℕ → Float) (pulls : List Float) (n : ℕ) : Type 0 
 
 -- ---- a block of bonds: its two floats are a force constant and a length at rest
 
-unfoldable pub bond_at : Float → Vec3 → Float → Pull
+unfoldable pub bond_at : Float → Vec3 → Float → Option Pull
 bond_at k d r0 = bond_pull k r0 d
 
 unfoldable pub length_on : List Float → ℕ → Float
@@ -89,7 +88,7 @@ bonded_step atoms apart roots pulls t m = cond (lt (at roots m) tiny) t (block_s
 -- ---- a block of Lennard-Jones: the rows that are kept, by their places, and its room
 
 -- a pair that is not skipped, by the numbers of its species
-unfoldable pub lj_with : Lj → Tables → List ℕ → ℕ → ℕ → Vec3 → Float → Pull
+unfoldable pub lj_with : Lj → Tables → List ℕ → ℕ → ℕ → Vec3 → Float → Option Pull
 lj_with lj tab species i j d r2 = near_by lj.shift (numbers_for lj tab (get_or species i 0) (get_or species j 0)) d r2
 
 -- the keys, the places' numbers and the rows are as they were

@@ -1,7 +1,8 @@
 -- THEOREMS (02, No. 10): of a Lennard-Jones call the mixed sigma alone asks the rule. Its tests don't, and what a pair adds is one formula over the mixed numbers. Each is proved
 -- of every input in proofs/Rules.antt. Definitions only.
+use Rattle.std.specs.Prelude.{Option}
+use Rattle.cell.specs.declared.Lattice.{Lattice}
 use Rattle.std.specs.Prelude.{◌≡◌, List, ℕ, Float, get_or}
-use Rattle.cell.specs.declared.Cell.{Cell}
 use Rattle.cell.specs.declared.Vec3.{Vec3}
 use Rattle.cell.specs.declared.Image.{Image}
 use Rattle.potentials_pair.specs.declared.Lj.{Lj}
@@ -15,7 +16,7 @@ use Rattle.potentials.specs.Calls.{lj_asked}
 -- which refusal, if any
 abbrev pub AskedAlike : Lj → Type 0
 AskedAlike lj =
-    (rule : Mixing) (cell : Cell) (tab : Tables) (species : ℕ) (xs : List Float) (forces pairs absent : ℕ)
+    (rule : Mixing) (cell : Option Lattice) (tab : Tables) (species : ℕ) (xs : List Float) (forces pairs absent : ℕ)
     → lj_asked (with_rule rule lj) cell tab species xs forces pairs absent ≡ lj_asked lj cell tab species xs forces pairs absent
 
 -- what a pair adds (the calls' own fold of it is Terms.lj_over, by Source.LjPairsBySource the Rust's loop)

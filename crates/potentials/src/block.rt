@@ -107,10 +107,8 @@ pub(crate) fn add_all(
     ensures { held result forces.new ≡ foldl (block_step scaled_pull atoms.now apart.now pulls.now) (held sum forces.old) (up_to n) }
 {
     let mut s = sum;
-    let mut m = 0;
-    while m < n {
+    for m in 0..n {
         s = add(m, atoms, apart, pulls, forces, s);
-        m += 1;
     }
     s
 }

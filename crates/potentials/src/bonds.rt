@@ -58,10 +58,8 @@ fn sift(
     ensures { Sifted (block_step bond_at atoms.new apart.new two.new) result (bond_step (λ d. image_in p d) bond table.now lengths.now ks.now xs.now) (up_to (length (rows table.now))) from to }
 {
     let mut c = 0;
-    let mut b = from;
-    while b < to {
+    for b in from..to {
         c = gather(bond, p, table, lengths, ks, xs, b, c, atoms, apart, two);
-        b += 1;
     }
     c
 }
@@ -72,11 +70,9 @@ fn estimate_all(n: usize, apart: &[f64], roots: &mut [f64])
     requires { (n ≤ 128) × (384 ≤ length apart.now) × (length roots.old ≡ 128) }
     ensures { length roots.new ≡ 128 }
 {
-    let mut m = 0;
-    while m < n {
+    for m in 0..n {
         let d = pairs::spot_at(apart, m);
         roots[m] = float::root_estimate(cell::vectors::norm2(d));
-        m += 1;
     }
 }
 
@@ -101,10 +97,8 @@ fn pull_all(n: usize, apart: &[f64], two: &[f64], roots: &mut [f64], pulls: &mut
     requires { (n ≤ 128) × (384 ≤ length apart.now) × (length two.now ≡ 256) × (length roots.old ≡ 128) × (length pulls.old ≡ 256) }
     ensures { Bonded apart.now two.now roots.new pulls.new n }
 {
-    let mut m = 0;
-    while m < n {
+    for m in 0..n {
         pull_at(m, apart, two, roots, pulls);
-        m += 1;
     }
 }
 
@@ -144,15 +138,13 @@ fn add_all(
     ensures { held result forces.new ≡ foldl (bonded_step atoms.now apart.now roots.now pulls.now) (held sum forces.old) (up_to n) }
 {
     let mut s = sum;
-    let mut m = 0;
-    while m < n {
+    for m in 0..n {
         s = add(m, atoms, apart, roots, pulls, forces, s);
-        m += 1;
     }
     s
 }
 
-// The rows of a table, a block after the other.
+// The rows of a table, a block after the other. `while`, since `block_end` says how far each turn goes: a `for` cannot jump.
 fn by_blocks(
     bond: Bond,
     p: Prepared,

@@ -12,7 +12,7 @@ use cell_prepared::Prepared;
 use potentials_pair::Lj;
 use virial::Sum;
 
-// The rows of a list, a block after the other.
+// The rows of a list, a block after the other. `while`, since `block_end` says how far each turn goes: a `for` cannot jump.
 fn by_blocks(
     lj: Lj,
     ke: f64,

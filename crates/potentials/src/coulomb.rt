@@ -11,6 +11,12 @@ use crate::{block, pairs, rows};
 use cell_prepared::Prepared;
 use virial::Sum;
 
+// The Rust's `Coulomb`.
+#[derive(Clone, Copy)]
+pub struct Coulomb {
+    pub cutoff: f64,
+}
+
 // Of n rows from `from` on those that have charges and are near, their places in order, with their charges' product and their squared distance. How many
 // they are.
 fn keep(
@@ -28,8 +34,7 @@ fn keep(
     ensures { ChargesPicked ke cutoff charges.now table.now from ways.now n kept.new two.new result }
 {
     let mut c = 0;
-    let mut t = 0;
-    while t < n {
+    for t in 0..n {
         let i = pairs::first_of(table, from + t);
         let j = pairs::second_of(table, from + t);
         let a = potentials_pair::kernel::table_at(charges, i, 0.0);
@@ -41,7 +46,6 @@ fn keep(
         let neutral = potentials_pair::coulomb::is_neutral(a, b);
         let far = potentials_pair::kernel::is_skipped(cutoff, r2);
         c = block::taken(neutral | far, c);
-        t += 1;
     }
     c
 }
@@ -52,10 +56,8 @@ fn estimate_all(n: usize, two: &[f64], guesses: &mut [f64])
     requires { (n ≤ 128) × (length two.now ≡ 256) × (length guesses.old ≡ 128) }
     ensures { length guesses.new ≡ 128 }
 {
-    let mut m = 0;
-    while m < n {
+    for m in 0..n {
         guesses[m] = float::root_estimate(two[2 * m + 1]);
-        m += 1;
     }
 }
 
@@ -78,10 +80,8 @@ pub(crate) fn pull_all(n: usize, two: &[f64], pulls: &mut [f64])
 {
     let mut guesses = block::blank_one();
     estimate_all(n, two, &mut guesses);
-    let mut m = 0;
-    while m < n {
+    for m in 0..n {
         pull_at(m, two, &guesses, pulls);
-        m += 1;
     }
 }
 
@@ -118,7 +118,7 @@ pub(crate) fn add(
     rows::add_all(n, table, from, &kept, ways, pulls, forces, sum)
 }
 
-// The rows of a list, a block after the other.
+// The rows of a list, a block after the other. `while`, since `block_end` says how far each turn goes: a `for` cannot jump.
 fn by_blocks(
     ke: f64,
     cutoff: f64,

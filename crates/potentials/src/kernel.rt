@@ -8,7 +8,7 @@ ghost use Rattle.potentials.specs.Terms.{lj_over, coulomb_over, bonds_over};
 ghost use Rattle.potentials.specs.Calls.{monatomic_of};
 
 use crate::{Bond, BothSums};
-use cell::Cell;
+use cell::Lattice;
 use potentials_pair::{Lj, Mixing};
 use virial::{Sum, Units};
 
@@ -27,7 +27,7 @@ pub fn monatomic(epsilon: f64, sigma: f64, cutoff: f64) -> Lj
 // The lookup is by halving: over ascending ids it is `look_of` (pulls, `looks-all`).
 pub fn lj_pairs(
     lj: Lj,
-    cell: Cell,
+    cell: Option<Lattice>,
     own_ids: &[u32],
     own_params: &[f64],
     ids: &[u32],
@@ -50,7 +50,7 @@ pub fn lj_pairs(
 pub fn coulomb_pairs(
     units: Units,
     cutoff: f64,
-    cell: Cell,
+    cell: Option<Lattice>,
     charges: &[f64],
     positions: &[f64],
     pairs: &[u32],
@@ -78,7 +78,7 @@ pub fn both_pairs(
     lj: Lj,
     units: Units,
     cutoff: f64,
-    cell: Cell,
+    cell: Option<Lattice>,
     own_ids: &[u32],
     own_params: &[f64],
     ids: &[u32],
@@ -119,7 +119,7 @@ pub fn both_pairs(
 // `lengths` is the Rust's per_bond, `ks` its per_bond_k.
 pub fn bonds_all(
     bond: Bond,
-    cell: Cell,
+    cell: Option<Lattice>,
     bonds: &[u32],
     lengths: &[f64],
     ks: &[f64],

@@ -28,14 +28,12 @@ fn keep(cutoff: f64, n: usize, ways: &[f64], atoms: &mut [usize], room: &mut [f6
     ensures { NearPicked cutoff ways.now n atoms.old atoms.new room.old room.new result }
 {
     let mut c = 0;
-    let mut t = 0;
-    while t < n {
+    for t in 0..n {
         let r2 = ways[384 + t];
         atoms[c] = t;
         room[c] = r2;
         let far = potentials_pair::kernel::is_skipped(cutoff, r2);
         c = block::taken(far, c);
-        t += 1;
     }
     c
 }
@@ -86,12 +84,10 @@ fn number_all(
     requires kept { Kept lj (tables own_ids.now own_params.now ids.now params.now) atoms.old room.old }
     ensures { Recalled lj (tables own_ids.now own_params.now ids.now params.now) species.now table.now from atoms.old atoms.new room.old room.new n }
 {
-    let mut m = 0;
-    while m < n {
+    for m in 0..n {
         number_at(
             m, n, lj, own_ids, own_params, ids, params, species, table, from, atoms, room,
         );
-        m += 1;
     }
 }
 
@@ -115,10 +111,8 @@ fn pull_all(n: usize, shift: bool, room: &[f64], pulls: &mut [f64])
     requires { (n ≤ 128) × (length room.now ≡ 561) × (length pulls.old ≡ 256) }
     ensures { Pulled (lj_energy_on shift room.now) (lj_slope_on room.now) pulls.new n }
 {
-    let mut m = 0;
-    while m < n {
+    for m in 0..n {
         pull_at(m, shift, room, pulls);
-        m += 1;
     }
 }
 
@@ -153,7 +147,7 @@ pub(crate) fn add(
     rows::add_all(n, table, from, atoms, ways, pulls, forces, sum)
 }
 
-// The rows of a list, a block after the other.
+// The rows of a list, a block after the other. `while`, since `block_end` says how far each turn goes: a `for` cannot jump.
 fn by_blocks(
     lj: Lj,
     p: Prepared,

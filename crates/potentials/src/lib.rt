@@ -27,40 +27,9 @@ pub struct Bond {
     pub r0: f64,
 }
 
-#[derive(Clone, Copy)]
-pub enum LjTerm {
-    Absent,
-    Present(Lj),
-}
-
-// The Rust's `Coulomb`.
-#[derive(Clone, Copy)]
-pub enum CoulombTerm {
-    Absent,
-    Present { cutoff: f64 },
-}
-
-#[derive(Clone, Copy)]
-pub enum BondTerm {
-    Absent,
-    Present(Bond),
-}
-
 // What one walk over a list sums: each term from zero.
 #[derive(Drop)]
 pub struct BothSums {
     pub lj: Sum,
     pub coulomb: Sum,
-}
-
-#[derive(Drop)]
-pub enum LjAnswer {
-    Answered(Lj),
-    Refused(Refusal),
-}
-
-#[derive(Drop)]
-pub enum BondAnswer {
-    Answered(Bond),
-    Refused(Refusal),
 }

@@ -31,8 +31,7 @@ fn lay(xs: &[f64], table: &[u32], from: usize, n: usize, ways: &mut [f64]) -> bo
     requires { (n ≤ 128) × (from + n ≤ length table.now / 2) × (length ways.old ≡ 512) }
     ensures { DifferSays xs.now table.now from n ways.new result }
 {
-    let mut t = 0;
-    while t < n {
+    for t in 0..n {
         let i = pairs::first_of(table, from + t);
         let j = pairs::second_of(table, from + t);
         if pairs::is_absent(xs.len() / 3, i, j) {
@@ -42,7 +41,6 @@ fn lay(xs: &[f64], table: &[u32], from: usize, n: usize, ways: &mut [f64]) -> bo
         ways[t] = d.x;
         ways[128 + t] = d.y;
         ways[256 + t] = d.z;
-        t += 1;
     }
     true
 }
@@ -53,12 +51,10 @@ fn settle(len: f64, o: usize, n: usize, ways: &mut [f64]) -> bool
     ensures { AllInner len o n ways.old ways.new result }
 {
     let mut ok = true;
-    let mut t = 0;
-    while t < n {
+    for t in 0..n {
         let x = ways[o + t];
         ok = ok & cell_prepared::is_inner(len, x);
         ways[o + t] = cell_prepared::settled(x);
-        t += 1;
     }
     ok
 }
@@ -69,12 +65,10 @@ fn all_near(len: f64, o: usize, n: usize, ways: &mut [f64]) -> bool
     ensures { AxisSays len o n ways.old ways.new result }
 {
     let mut ok = true;
-    let mut t = 0;
-    while t < n {
+    for t in 0..n {
         let x = ways[o + t];
         ok = ok & (float::abs(x) < len);
         ways[o + t] = cell_axis::near(len, x);
-        t += 1;
     }
     ok
 }
@@ -93,15 +87,13 @@ fn square_all(n: usize, ways: &mut [f64])
     requires { (n ≤ 128) × (length ways.old ≡ 512) }
     ensures { Squared n ways.old ways.new }
 {
-    let mut t = 0;
-    while t < n {
+    for t in 0..n {
         let d = Vec3 {
             x: ways[t],
             y: ways[128 + t],
             z: ways[256 + t],
         };
         ways[384 + t] = cell::vectors::norm2(d);
-        t += 1;
     }
 }
 
@@ -170,13 +162,11 @@ fn lay_each(p: Prepared, xs: &[f64], table: &[u32], from: usize, n: usize, ways:
     requires { (n ≤ 128) × (from + n ≤ length table.now / 2) × (length ways.old ≡ 512) }
     ensures { Rowed p xs.now table.now from n ways.new }
 {
-    let mut t = 0;
-    while t < n {
+    for t in 0..n {
         let i = pairs::first_of(table, from + t);
         let j = pairs::second_of(table, from + t);
         let d = way_of(p, xs, i, j);
         put_row(t, d, ways);
-        t += 1;
     }
 }
 
@@ -244,10 +234,8 @@ pub(crate) fn add_all(
     ensures { held result forces.new ≡ foldl (kept_step table.now from kept.now ways.now pulls.now) (held sum forces.old) (up_to n) }
 {
     let mut s = sum;
-    let mut m = 0;
-    while m < n {
+    for m in 0..n {
         s = add(m, n, table, from, kept, ways, pulls, forces, s);
-        m += 1;
     }
     s
 }

@@ -2,7 +2,7 @@
 ghost use Rattle.std.specs.Prelude.{◌≡◌};
 ghost use Rattle.potentials.specs.Calls.{tables_fit, order_asked};
 
-use answer::{Done, Refusal};
+use answer::Refusal;
 
 // The lengths: two floats an id, in both.
 pub fn tables_fit(own_ids: usize, own_params: usize, ids: usize, params: usize) -> bool
@@ -12,14 +12,14 @@ pub fn tables_fit(own_ids: usize, own_params: usize, ids: usize, params: usize) 
 }
 
 // Refusal 5, the own table first.
-pub fn asked_order(own_ids: &[u32], ids: &[u32]) -> Done
+pub fn asked_order(own_ids: &[u32], ids: &[u32]) -> Result<(), Refusal>
     ensures { result ≡ order_asked own_ids.now ids.now }
 {
     if !potentials_pair::species::is_rising(own_ids) {
-        return Done::Refused(Refusal::Order);
+        return Err(Refusal::Order);
     }
     if !potentials_pair::species::is_rising(ids) {
-        return Done::Refused(Refusal::HouseOrder);
+        return Err(Refusal::HouseOrder);
     }
-    Done::Answered
+    Ok(())
 }

@@ -1,4 +1,6 @@
 -- The loops over row numbers under way, the atoms of a row, and the term from zero in a prepared cell. Assumes nothing.
+use Rattle.std.specs.Prelude.{Option}
+use Rattle.cell.specs.declared.Lattice.{Lattice}
 use mathlib.Core.Path.{◌≡◌, ap, ◌∙◌}
 use mathlib.Core.Bool.{Bool, true, false, ◌&&◌}
 use mathlib.Core.List.{List, foldl}
@@ -11,7 +13,6 @@ use lib.ListN.{length}
 use Rattle.lists.specs.Lists.{numbers, up_to, every, first_where}
 use Rattle.lists.proofs.Cases.{and_both}
 use Rattle.lists.proofs.Walks.{numbers_next, numbers_end}
-use Rattle.cell.specs.declared.Cell.{Cell}
 use Rattle.cell.specs.declared.Vec3.{Vec3}
 use Rattle.cell.specs.declared.Image.{Image}
 use Rattle.cell_prepared.specs.declared.Prepared.{Prepared}
@@ -68,7 +69,7 @@ three_there n c e =
     let q = and_both a b p.0 in
     (ltb-true c.first n q.0, ltb-true c.apex n q.1, ltb-true c.last n p.1)
 
-module _ (cell : Cell) {p : Prepared} {sum : Sum} {forces : List Float} (room : ℕ) (P : p ≡ prepare_of cell) (S : sum ≡ zero_sum) (F : forces ≡ zero_forces room) where
+module _ (cell : Option Lattice) {p : Prepared} {sum : Sum} {forces : List Float} (room : ℕ) (P : p ≡ prepare_of cell) (S : sum ≡ zero_sum) (F : forces ≡ zero_forces room) where
   start : held sum forces ≡ zero_total room
   unfolding zero_total
   start = rw (S, F)

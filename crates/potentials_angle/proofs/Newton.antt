@@ -15,7 +15,7 @@ use Rattle.virial.proofs.Forces.{added_there, added_length}
 use Rattle.potentials_pair.specs.Newton.{Gains}
 use Rattle.potentials_pair.specs.Pull.{Total}
 use Rattle.potentials_angle.specs.declared.Corner.{Corner}
-use Rattle.potentials_angle.specs.declared.Bend.TheVariants.{Add}
+use Rattle.std.specs.Prelude.{Some}
 use Rattle.potentials_angle.specs.Bend.{forces_with_bend, bent}
 use Rattle.potentials_angle.specs.Newton.{Bends}
 
@@ -109,5 +109,5 @@ module _ (l : List Float) (s : Corner) (fi fk : Vec3) (hi : s.first < atoms_of l
 
 -- an angle that is not skipped: what it does to the forces
 pub angle_bends : (t : Total) (s : Corner) (energy : Float) (rij fi rkj fk : Vec3) → s.first < atoms_of t.forces → s.apex < atoms_of t.forces → s.last < atoms_of t.forces
-    → Bends t.forces (bent t s (Add energy rij fi rkj fk)).forces s fi fk
+    → Bends t.forces (bent t s (Some (record { energy = energy; rij = rij; fi = fi; rkj = rkj; fk = fk }))).forces s fi fk
 angle_bends t s energy rij fi rkj fk hi ha hk = force_bends t.forces s fi fk hi ha hk

@@ -1,4 +1,6 @@
 -- After passed tests every row's atoms are there, and so the term is the Rust's own loop. Assumes nothing.
+use Rattle.std.specs.Prelude.{Option}
+use Rattle.cell.specs.declared.Lattice.{Lattice}
 use Prim.Native.Nat.{ℕ, ◌/◌}
 use mathlib.Core.Path.{◌≡◌}
 use mathlib.Core.Bool.{false}
@@ -11,7 +13,6 @@ use Rattle.lists.specs.Exact.{◌∈◌}
 use Rattle.lists.specs.Lists.{up_to}
 use Rattle.lists.proofs.Exactness.{length_up_to}
 use Rattle.lists.proofs.First.{fold_same, none_passes}
-use Rattle.cell.specs.declared.Cell.{Cell}
 use Rattle.cell.specs.Cell.{image_of}
 use Rattle.potentials_pair.specs.Pull.{Total}
 use Rattle.potentials.specs.Terms.{zero_total}
@@ -23,7 +24,7 @@ use Rattle.potentials_angle.specs.Terms.{angle_bend, angle_step, angles_over}
 use Rattle.potentials_angle.specs.Calls.{angles_asked}
 use Rattle.potentials_angle.specs.Source.{AnglesAllBySource}
 
-module _ (angle : Angle) (cell : Cell) (angles : List ℕ) (per xs forces : List Float) where
+module _ (angle : Angle) (cell : Option Lattice) (angles : List ℕ) (per xs forces : List Float) where
   -- what row r adds, as in the source
   abbrev adds : Total → ℕ → Total
   adds t r = bent t (corner_at angles r) (angle_bend (λ d. image_of d cell) angle per xs r (corner_at angles r))

@@ -14,7 +14,7 @@ use Rattle.potentials_pair.specs.Pull.{Total}
 use Rattle.potentials_angle.specs.declared.Angle.{Angle}
 use Rattle.potentials_angle.specs.declared.Corner.{Corner}
 use Rattle.potentials_angle.specs.declared.Bend.{Bend}
-use Rattle.potentials_angle.specs.declared.Bend.TheVariants.{Skip, Add}
+use Rattle.std.specs.Prelude.{Option, Some, None}
 
 -- line 324: lij < 1e-9 || lkj < 1e-9
 unfoldable pub is_short_arm : (lij lkj : Float) → Bool
@@ -31,11 +31,17 @@ bend_near a rij rkj lij lkj =
     let c = clamp_of (dot_of rij rkj ⊘ both) (neg f1) f1 in
     let d = c ⊖ a.rest in
     let coef = neg (a.k ⊗ d) in
-    Add (half ⊗ a.k ⊗ d ⊗ d) rij (side_of rij rkj lij both c coef) rkj (side_of rkj rij lkj both c coef)
+    record {
+      energy = half ⊗ a.k ⊗ d ⊗ d;
+      rij = rij;
+      fi = side_of rij rkj lij both c coef;
+      rkj = rkj;
+      fk = side_of rkj rij lkj both c coef;
+    }
 
 -- lines 322 to 349
-unfoldable pub bend_of : Angle → (rij rkj : Vec3) → Bend
-bend_of a rij rkj = cond (is_short_arm (norm_of rij) (norm_of rkj)) Skip (bend_near a rij rkj (norm_of rij) (norm_of rkj))
+unfoldable pub bend_of : Angle → (rij rkj : Vec3) → Option Bend
+bend_of a rij rkj = cond (is_short_arm (norm_of rij) (norm_of rkj)) None (Some (bend_near a rij rkj (norm_of rij) (norm_of rkj)))
 
 -- lines 350 to 352: fi on the first atom, fk on the last, (fi + fk) times -1 on the apex
 unfoldable pub forces_with_bend : List Float → Corner → (fi fk : Vec3) → List Float
@@ -46,6 +52,6 @@ unfoldable pub sum_with_bend : Sum → Float → (rij fi rkj fk : Vec3) → Sum
 sum_with_bend s energy rij fi rkj fk = sum_with_pair (sum_with_pair (sum_with_energy s energy) rij fi) rkj fk
 
 -- what an angle adds to a sum and forces
-abbrev pub bent : Total → Corner → Bend → Total
-bent t c Skip = t
-bent t c (Add energy rij fi rkj fk) = record { sum = sum_with_bend t.sum energy rij fi rkj fk; forces = forces_with_bend t.forces c fi fk }
+abbrev pub bent : Total → Corner → Option Bend → Total
+bent t c None = t
+bent t c (Some b) = record { sum = sum_with_bend t.sum b.energy b.rij b.fi b.rkj b.fk; forces = forces_with_bend t.forces c b.fi b.fk }

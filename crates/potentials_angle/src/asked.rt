@@ -1,30 +1,35 @@
 // What is tested before the term is computed: refusals 1 to 4, in their order.
-ghost use Rattle.std.specs.Prelude.{◌≡◌};
-ghost use Rattle.answer.specs.declared.Done.TheVariants.{Answered};
+ghost use Rattle.std.specs.Prelude.{◌≡◌, Ok};
 ghost use Rattle.potentials.specs.Calls.{asked_by};
 ghost use Rattle.potentials_angle.specs.Calls.{angles_fit, angles_ranges, angles_asked};
 
 use crate::{Angle, ranged};
-use answer::{Done, Refusal};
-use cell::Cell;
+use answer::Refusal;
+use cell::Lattice;
 
 // `missing` is the first of the rows that names an atom not there.
-fn in_turn(fits: bool, atoms: usize, in_range: bool, rows: usize, missing: usize) -> Done
-    ensures { result ≡ asked_by fits atoms in_range rows missing Answered }
+fn in_turn(
+    fits: bool,
+    atoms: usize,
+    in_range: bool,
+    rows: usize,
+    missing: usize,
+) -> Result<(), Refusal>
+    ensures { result ≡ asked_by fits atoms in_range rows missing (Ok tt) }
 {
     if !fits {
-        return Done::Refused(Refusal::Lengths);
+        return Err(Refusal::Lengths);
     }
     if 16384 < atoms {
-        return Done::Refused(Refusal::TooMany { atoms: atoms });
+        return Err(Refusal::TooMany { atoms: atoms });
     }
     if !in_range {
-        return Done::Refused(Refusal::Range);
+        return Err(Refusal::Range);
     }
     if missing < rows {
-        return Done::Refused(Refusal::NotThere { row: missing });
+        return Err(Refusal::NotThere { row: missing });
     }
-    Done::Answered
+    Ok(())
 }
 
 fn fits(angles: usize, per_angle: usize, xs: usize, forces: usize) -> bool
@@ -33,7 +38,7 @@ fn fits(angles: usize, per_angle: usize, xs: usize, forces: usize) -> bool
     (xs % 3 == 0) & (angles % 3 == 0) & (per_angle % 2 == 0) & (forces == xs)
 }
 
-fn in_range(angle: Angle, cell: Cell, per_angle: &[f64], xs: &[f64]) -> bool
+fn in_range(angle: Angle, cell: Option<Lattice>, per_angle: &[f64], xs: &[f64]) -> bool
     ensures { result ≡ angles_ranges angle cell per_angle.now xs.now }
 {
     ranged::angle_in_range(angle)
@@ -44,13 +49,13 @@ fn in_range(angle: Angle, cell: Cell, per_angle: &[f64], xs: &[f64]) -> bool
 
 pub(crate) fn asked(
     angle: Angle,
-    cell: Cell,
+    cell: Option<Lattice>,
     angles: usize,
     per_angle: &[f64],
     xs: &[f64],
     forces: usize,
     missing: usize,
-) -> Done
+) -> Result<(), Refusal>
     ensures { result ≡ angles_asked angle cell angles per_angle.now xs.now forces missing }
 {
     let fit = fits(angles, per_angle.len(), xs.len(), forces);

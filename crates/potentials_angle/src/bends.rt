@@ -35,7 +35,7 @@ fn near(a: Angle, rij: Vec3, rkj: Vec3, lij: f64, lkj: f64) -> Bend
     let coef = -(a.k * d);
     let fi = side(rij, rkj, lij, both, c, coef);
     let fk = side(rkj, rij, lkj, both, c, coef);
-    Bend::Add {
+    Bend {
         energy: 0.5 * a.k * d * d,
         rij: rij,
         fi: fi,
@@ -44,15 +44,16 @@ fn near(a: Angle, rij: Vec3, rkj: Vec3, lij: f64, lkj: f64) -> Bend
     }
 }
 
-pub fn bend(a: Angle, rij: Vec3, rkj: Vec3) -> Bend
+// No bend where an arm is too short.
+pub fn bend(a: Angle, rij: Vec3, rkj: Vec3) -> Option<Bend>
     ensures { result ≡ bend_of a rij rkj }
 {
     let lij = vectors::norm(rij);
     let lkj = vectors::norm(rkj);
     if is_short_arm(lij, lkj) {
-        return Bend::Skip;
+        return None;
     }
-    near(a, rij, rkj, lij, lkj)
+    Some(near(a, rij, rkj, lij, lkj))
 }
 
 // fi on the first atom, fk on the last, and the sum of both times -1 on the apex; an atom that is not there gets nothing.
@@ -73,20 +74,14 @@ fn with_bend(sum: Sum, energy: f64, rij: Vec3, fi: Vec3, rkj: Vec3, fk: Vec3) ->
     virial::kernel::with_pair(t, rkj, fk)
 }
 
-pub fn apply(sum: Sum, forces: &mut [f64], c: Corner, bend: Bend) -> Sum
+pub fn apply(sum: Sum, forces: &mut [f64], c: Corner, bend: Option<Bend>) -> Sum
     ensures { held result forces.new ≡ bent (held sum forces.old) c bend }
 {
     match bend {
-        Bend::Skip => sum,
-        Bend::Add {
-            energy,
-            rij,
-            fi,
-            rkj,
-            fk,
-        } => {
-            push(forces, c, fi, fk);
-            with_bend(sum, energy, rij, fi, rkj, fk)
+        None => sum,
+        Some(b) => {
+            push(forces, c, b.fi, b.fk);
+            with_bend(sum, b.energy, b.rij, b.fi, b.rkj, b.fk)
         }
     }
 }

@@ -5,12 +5,12 @@ ghost use Rattle.potentials_pair.specs.Pull.{held};
 ghost use Rattle.potentials_angle.specs.Terms.{angles_over};
 
 use crate::Angle;
-use cell::Cell;
+use cell::Lattice;
 use virial::Sum;
 
 pub fn angles_all(
     angle: Angle,
-    cell: Cell,
+    cell: Option<Lattice>,
     angles: &[u32],
     per_angle: &[f64],
     positions: &[f64],

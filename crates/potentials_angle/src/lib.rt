@@ -4,9 +4,9 @@
 
 ghost use Rattle.potentials_angle.specs.Calls.{UniformAnglesSays, AnglesAllSays};
 
-use answer::{Done, Refusal};
-use cell::{Cell, Vec3};
-use virial::Summed;
+use answer::Refusal;
+use cell::{Lattice, Vec3};
+use virial::Sum;
 
 mod asked;
 pub mod bends;
@@ -23,18 +23,6 @@ pub struct Angle {
     pub rest: f64,
 }
 
-#[derive(Clone, Copy)]
-pub enum AngleTerm {
-    Absent,
-    Present(Angle),
-}
-
-#[derive(Drop)]
-pub enum AngleAnswer {
-    Answered(Angle),
-    Refused(Refusal),
-}
-
 // The three atoms of a row: the Rust's (i, apex, k).
 #[derive(Clone, Copy)]
 pub struct Corner {
@@ -43,43 +31,40 @@ pub struct Corner {
     pub last: usize,
 }
 
-// Nothing, or an energy and the forces on the two outer atoms, each with its arm from the apex.
-#[derive(Drop)]
-pub enum Bend {
-    Skip,
-    Add {
-        energy: f64,
-        rij: Vec3,
-        fi: Vec3,
-        rkj: Vec3,
-        fk: Vec3,
-    },
+// An energy and the forces on the two outer atoms, each with its arm from the apex.
+#[derive(Clone, Copy)]
+pub struct Bend {
+    pub energy: f64,
+    pub rij: Vec3,
+    pub fi: Vec3,
+    pub rkj: Vec3,
+    pub fk: Vec3,
 }
 
 // The same for each angle.
-pub fn uniform_angles(k: f64, rest: f64) -> AngleAnswer
+pub fn uniform_angles(k: f64, rest: f64) -> Result<Angle, Refusal>
     ensures { UniformAnglesSays k rest result }
 {
     let angle = Angle { k: k, rest: rest };
     if ranged::angle_in_range(angle) {
-        return AngleAnswer::Answered(angle);
+        return Ok(angle);
     }
-    AngleAnswer::Refused(Refusal::Range)
+    Err(Refusal::Range)
 }
 
 // Cosine angles, three atoms a row; one past the end of `per_angle`, which has k and rest a row, takes `angle`'s own numbers.
 pub fn angles_all(
     angle: Angle,
-    cell: Cell,
+    cell: Option<Lattice>,
     angles: &[u32],
     per_angle: &[f64],
     positions: &[f64],
     forces: &mut [f64],
-) -> Summed
+) -> Result<Sum, Refusal>
     ensures { AnglesAllSays angle cell angles.now per_angle.now positions.now forces.old result forces.new }
 {
     let missing = rows::first_missing(angles, positions.len() / 3);
-    let a = asked::asked(
+    asked::asked(
         angle,
         cell,
         angles.len(),
@@ -87,9 +72,6 @@ pub fn angles_all(
         positions,
         forces.len(),
         missing,
-    );
-    if let Done::Refused(why) = a {
-        return Summed::Refused(why);
-    }
-    Summed::Answered(kernel::angles_all(angle, cell, angles, per_angle, positions, forces))
+    )?;
+    Ok(kernel::angles_all(angle, cell, angles, per_angle, positions, forces))
 }

@@ -45,7 +45,14 @@ fn angle_at(per_angle: &[f64], r: usize, angle: Angle) -> Angle
     angle
 }
 
-fn bend_at(angle: Angle, p: Prepared, per_angle: &[f64], xs: &[f64], r: usize, c: Corner) -> Bend
+fn bend_at(
+    angle: Angle,
+    p: Prepared,
+    per_angle: &[f64],
+    xs: &[f64],
+    r: usize,
+    c: Corner,
+) -> Option<Bend>
     requires { (c.first < atoms_of xs.now) × (c.apex < atoms_of xs.now) × (c.last < atoms_of xs.now) }
     ensures { result ≡ angle_bend (λ d. image_in p d) angle per_angle.now xs.now r c }
 {
@@ -90,10 +97,8 @@ pub(crate) fn over(
     ensures { held result forces.new ≡ foldl (angle_step (λ d. image_in p d) angle angles.now per_angle.now xs.now) (held sum forces.old) (up_to (length angles.now / 3)) }
 {
     let mut s = sum;
-    let mut r = 0;
-    while r < angles.len() / 3 {
+    for r in 0..angles.len() / 3 {
         s = one(angle, p, angles, per_angle, xs, r, forces, s);
-        r += 1;
     }
     s
 }

@@ -26,13 +26,11 @@ pub fn per_angle_in_range(per_angle: &[f64]) -> bool
     ensures { result ≡ per_angle_in_range per_angle.now }
 {
     let m = per_angle.len() / 2;
-    let mut r = 0;
-    while r < m {
+    for r in 0..m {
         let a = angle_row(per_angle, r);
         if !angle_in_range(a) {
             return false;
         }
-        r += 1;
     }
     true
 }

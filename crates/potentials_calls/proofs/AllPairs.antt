@@ -1,4 +1,7 @@
 -- Every pair of n atoms as rows of a table: the next pair, a row stored, and the loop over tables. Assumes nothing.
+use Rattle.std.specs.Prelude.{Ok, Option, Result}
+use Rattle.answer.specs.declared.Refusal.{Refusal}
+use Rattle.cell.specs.declared.Lattice.{Lattice}
 use mathlib.Core.Path.{◌≡◌, sym, ap, ◌∙◌}
 use mathlib.Core.Bool.{true, ◌&&◌}
 use mathlib.Core.List.{List, [], ◌∷◌, ◌++◌, append_assoc, foldl, foldl-append}
@@ -11,15 +14,12 @@ use lib.Dec.{ltb}
 use lib.Ieee.{Float}
 use lib.ListN.{length, take, set, length-append}
 use lib.Seq.{take-suc-set, length-take-le}
-use Rattle.answer.specs.declared.Done.{Done}
-use Rattle.answer.specs.declared.Done.TheVariants.{Answered}
 use Rattle.lists.specs.Atoms.{atoms_of}
 use Rattle.lists.specs.Lists.{numbers, with_each, inside, all_pairs, rows}
 use Rattle.lists.proofs.Cases.{and_both}
 use Rattle.lists.proofs.Exactness.{ordered_rising}
 use Rattle.lists.proofs.Rows.{length_rows, take_rows, set_row}
 use Rattle.lists.proofs.Walks.{later_next, later_end, pairs_next, pairs_end}
-use Rattle.cell.specs.declared.Cell.{Cell}
 use Rattle.virial.specs.declared.Units.{Units}
 use Rattle.potentials_pair.specs.declared.Lj.{Lj}
 use Rattle.potentials_pair.specs.Species.{Tables}
@@ -104,11 +104,11 @@ module _ {B : Type 0} {f : B → ℕ × ℕ → B} (n : ℕ) where
   left_last {i} {j} {t} h w = ap (λ (x : List (ℕ × ℕ)). foldl f t x) (sym (none n i j h (w.spot.ends h))) ∙ w.same
 
 -- ---- an answered call has few atoms
-module _ {done : Done} where
-  pub lj_few : (lj : Lj) (cell : Cell) (tab : Tables) (species : ℕ) (xs : List Float) (forces : ℕ) → done ≡ lj_asked lj cell tab species xs forces 0 0 → done ≡ Answered → atoms_of xs ≤ 16384
+module _ {done : Result (Unit {0}) Refusal} where
+  pub lj_few : (lj : Lj) (cell : Option Lattice) (tab : Tables) (species : ℕ) (xs : List Float) (forces : ℕ) → done ≡ lj_asked lj cell tab species xs forces 0 0 → done ≡ Ok tt → atoms_of xs ≤ 16384
   unfolding lj_asked
   lj_few lj cell tab species xs forces A e = leb-true _ _ (asked_told _ _ _ _ _ _ (sym A ∙ e)).few
 
-  pub coulomb_few : (units : Units) (cutoff : Float) (cell : Cell) (charges xs : List Float) (forces : ℕ) → done ≡ coulomb_asked units cutoff cell charges xs forces 0 0 → done ≡ Answered → atoms_of xs ≤ 16384
+  pub coulomb_few : (units : Units) (cutoff : Float) (cell : Option Lattice) (charges xs : List Float) (forces : ℕ) → done ≡ coulomb_asked units cutoff cell charges xs forces 0 0 → done ≡ Ok tt → atoms_of xs ≤ 16384
   unfolding coulomb_asked
   coulomb_few units cutoff cell charges xs forces A e = leb-true _ _ (asked_told _ _ _ _ _ _ (sym A ∙ e)).few

@@ -3,27 +3,34 @@ ghost use Rattle.std.specs.Prelude.{◌≡◌};
 ghost use Rattle.potentials_pair.specs.Species.{tables};
 ghost use Rattle.potentials.specs.Calls.{asked_by, rows_asked, lj_fits, coulomb_fits, bonds_fit, lj_ranges, coulomb_ranges, bonds_ranges, lj_asked, coulomb_asked, bonds_asked};
 
-use answer::{Done, Refusal};
-use cell::Cell;
+use answer::Refusal;
+use cell::Lattice;
 use potentials::{Bond, ranged, species};
 use potentials_pair::Lj;
 use virial::Units;
 
 // `absent` is the first of the rows that names an atom not there.
-fn asked(fits: bool, atoms: usize, in_range: bool, rows: usize, absent: usize, order: Done) -> Done
+fn asked(
+    fits: bool,
+    atoms: usize,
+    in_range: bool,
+    rows: usize,
+    absent: usize,
+    order: Result<(), Refusal>,
+) -> Result<(), Refusal>
     ensures { result ≡ asked_by fits atoms in_range rows absent order }
 {
     if !fits {
-        return Done::Refused(Refusal::Lengths);
+        return Err(Refusal::Lengths);
     }
     if 16384 < atoms {
-        return Done::Refused(Refusal::TooMany { atoms: atoms });
+        return Err(Refusal::TooMany { atoms: atoms });
     }
     if !in_range {
-        return Done::Refused(Refusal::Range);
+        return Err(Refusal::Range);
     }
     if absent < rows {
-        return Done::Refused(Refusal::NotThere { row: absent });
+        return Err(Refusal::NotThere { row: absent });
     }
     order
 }
@@ -46,7 +53,7 @@ fn bonds_fit(xs: usize, bonds: usize, forces: usize) -> bool
     (xs % 3 == 0) & (bonds % 2 == 0) & (forces == xs)
 }
 
-fn lj_ranges(lj: Lj, cell: Cell, own_params: &[f64], params: &[f64], xs: &[f64]) -> bool
+fn lj_ranges(lj: Lj, cell: Option<Lattice>, own_params: &[f64], params: &[f64], xs: &[f64]) -> bool
     ensures { result ≡ lj_ranges lj cell own_params.now params.now xs.now }
 {
     ranged::lj_in_range(lj)
@@ -55,7 +62,13 @@ fn lj_ranges(lj: Lj, cell: Cell, own_params: &[f64], params: &[f64], xs: &[f64])
         & ranged::entries_in_range(xs)
 }
 
-fn coulomb_ranges(units: Units, cutoff: f64, cell: Cell, charges: &[f64], xs: &[f64]) -> bool
+fn coulomb_ranges(
+    units: Units,
+    cutoff: f64,
+    cell: Option<Lattice>,
+    charges: &[f64],
+    xs: &[f64],
+) -> bool
     ensures { result ≡ coulomb_ranges units cutoff cell charges.now xs.now }
 {
     virial::ranged::units_in_range(units)
@@ -65,7 +78,7 @@ fn coulomb_ranges(units: Units, cutoff: f64, cell: Cell, charges: &[f64], xs: &[
         & ranged::entries_in_range(xs)
 }
 
-fn bonds_ranges(bond: Bond, cell: Cell, lengths: &[f64], ks: &[f64], xs: &[f64]) -> bool
+fn bonds_ranges(bond: Bond, cell: Option<Lattice>, lengths: &[f64], ks: &[f64], xs: &[f64]) -> bool
     ensures { result ≡ bonds_ranges bond cell lengths.now ks.now xs.now }
 {
     ranged::bond_in_range(bond)
@@ -77,7 +90,7 @@ fn bonds_ranges(bond: Bond, cell: Cell, lengths: &[f64], ks: &[f64], xs: &[f64])
 
 pub(crate) fn lj_asked(
     lj: Lj,
-    cell: Cell,
+    cell: Option<Lattice>,
     own_ids: &[u32],
     own_params: &[f64],
     ids: &[u32],
@@ -87,7 +100,7 @@ pub(crate) fn lj_asked(
     forces: usize,
     pairs: usize,
     absent: usize,
-) -> Done
+) -> Result<(), Refusal>
     ensures { result ≡ lj_asked lj cell (tables own_ids.now own_params.now ids.now params.now) species xs.now forces pairs absent }
 {
     let tables = species::tables_fit(own_ids.len(), own_params.len(), ids.len(), params.len());
@@ -98,7 +111,12 @@ pub(crate) fn lj_asked(
 }
 
 // Refusals 1, 3, 5 of the tables alone.
-pub(crate) fn rows_asked(own_ids: &[u32], own_params: &[f64], ids: &[u32], params: &[f64]) -> Done
+pub(crate) fn rows_asked(
+    own_ids: &[u32],
+    own_params: &[f64],
+    ids: &[u32],
+    params: &[f64],
+) -> Result<(), Refusal>
     ensures { result ≡ rows_asked (tables own_ids.now own_params.now ids.now params.now) }
 {
     let fits = species::tables_fit(own_ids.len(), own_params.len(), ids.len(), params.len());
@@ -110,47 +128,33 @@ pub(crate) fn rows_asked(own_ids: &[u32], own_params: &[f64], ids: &[u32], param
 pub(crate) fn coulomb_asked(
     units: Units,
     cutoff: f64,
-    cell: Cell,
+    cell: Option<Lattice>,
     charges: &[f64],
     xs: &[f64],
     forces: usize,
     pairs: usize,
     absent: usize,
-) -> Done
+) -> Result<(), Refusal>
     ensures { result ≡ coulomb_asked units cutoff cell charges.now xs.now forces pairs absent }
 {
     let fits = coulomb_fits(charges.len(), xs.len(), pairs, forces);
     let in_range = coulomb_ranges(units, cutoff, cell, charges, xs);
-    asked(
-        fits,
-        xs.len() / 3,
-        in_range,
-        pairs / 2,
-        absent,
-        Done::Answered,
-    )
+    asked(fits, xs.len() / 3, in_range, pairs / 2, absent, Ok(()))
 }
 
 pub(crate) fn bonds_asked(
     bond: Bond,
-    cell: Cell,
+    cell: Option<Lattice>,
     bonds: usize,
     lengths: &[f64],
     ks: &[f64],
     xs: &[f64],
     forces: usize,
     absent: usize,
-) -> Done
+) -> Result<(), Refusal>
     ensures { result ≡ bonds_asked bond cell bonds lengths.now ks.now xs.now forces absent }
 {
     let fits = bonds_fit(xs.len(), bonds, forces);
     let in_range = bonds_ranges(bond, cell, lengths, ks, xs);
-    asked(
-        fits,
-        xs.len() / 3,
-        in_range,
-        bonds / 2,
-        absent,
-        Done::Answered,
-    )
+    asked(fits, xs.len() / 3, in_range, bonds / 2, absent, Ok(()))
 }

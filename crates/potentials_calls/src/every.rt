@@ -9,7 +9,7 @@ ghost use Rattle.potentials.specs.Terms.{lj_over, coulomb_over};
 ghost use Rattle.potentials.specs.Steps.{lj_step, coulomb_step};
 ghost use Rattle.potentials_calls.specs.AllPairs.{PairPut, PairsFilled};
 
-use cell::Cell;
+use cell::Lattice;
 use cell_prepared::Prepared;
 use potentials_pair::Lj;
 use virial::{Sum, Units};
@@ -111,7 +111,7 @@ fn lj_from(
 
 pub(crate) fn lj_all(
     lj: Lj,
-    cell: Cell,
+    cell: Option<Lattice>,
     own_ids: &[u32],
     own_params: &[f64],
     ids: &[u32],
@@ -161,7 +161,7 @@ fn coulomb_from(
 pub(crate) fn coulomb_all(
     units: Units,
     cutoff: f64,
-    cell: Cell,
+    cell: Option<Lattice>,
     charges: &[f64],
     positions: &[f64],
     forces: &mut [f64],

@@ -6,24 +6,24 @@ ghost use Rattle.std.specs.Prelude.{◌≡◌};
 ghost use Rattle.potentials_pair.specs.Species.{tables};
 ghost use Rattle.potentials.specs.Calls.{MonatomicSays, UniformSays, argon_of, SpeciesRowSays, SpeciesRowAskedSays, LjPairsSays, LjAllSays, CoulombPairsSays, CoulombAllSays, BondsAllSays};
 
-use answer::{Done, Refusal};
-use cell::Cell;
-use potentials::{Bond, BondAnswer, LjAnswer, kernel, ranged};
+use answer::Refusal;
+use cell::Lattice;
+use potentials::{Bond, kernel, ranged};
 use potentials_pair::Lj;
-use virial::{Summed, Units};
+use virial::{Sum, Units};
 
 mod asked;
 mod every;
 
 // A single species.
-pub fn monatomic(epsilon: f64, sigma: f64, cutoff: f64) -> LjAnswer
+pub fn monatomic(epsilon: f64, sigma: f64, cutoff: f64) -> Result<Lj, Refusal>
     ensures { MonatomicSays epsilon sigma cutoff result }
 {
     let lj = kernel::monatomic(epsilon, sigma, cutoff);
     if ranged::lj_in_range(lj) {
-        return LjAnswer::Answered(lj);
+        return Ok(lj);
     }
-    LjAnswer::Refused(Refusal::Range)
+    Err(Refusal::Range)
 }
 
 pub fn argon() -> Lj
@@ -33,21 +33,21 @@ pub fn argon() -> Lj
 }
 
 // The same for each bond.
-pub fn uniform(k: f64, r0: f64) -> BondAnswer
+pub fn uniform(k: f64, r0: f64) -> Result<Bond, Refusal>
     ensures { UniformSays k r0 result }
 {
     let bond = Bond { k: k, r0: r0 };
     if ranged::bond_in_range(bond) {
-        return BondAnswer::Answered(bond);
+        return Ok(bond);
     }
-    BondAnswer::Refused(Refusal::Range)
+    Err(Refusal::Range)
 }
 
 // Lennard-Jones over the listed pairs. `own_ids` and `ids` are the species that `own_params` and `params` have epsilon and sigma of, a desk's own and the house's;
 // `species` an id an atom.
 pub fn lj_pairs(
     lj: Lj,
-    cell: Cell,
+    cell: Option<Lattice>,
     own_ids: &[u32],
     own_params: &[f64],
     ids: &[u32],
@@ -56,11 +56,11 @@ pub fn lj_pairs(
     positions: &[f64],
     pairs: &[u32],
     forces: &mut [f64],
-) -> Summed
+) -> Result<Sum, Refusal>
     ensures { LjPairsSays lj cell (tables own_ids.now own_params.now ids.now params.now) species.now positions.now pairs.now forces.old result forces.new }
 {
     let absent = ranges::rows::first_absent(pairs, positions.len() / 3);
-    let a = asked::lj_asked(
+    asked::lj_asked(
         lj,
         cell,
         own_ids,
@@ -72,11 +72,8 @@ pub fn lj_pairs(
         forces.len(),
         pairs.len(),
         absent,
-    );
-    if let Done::Refused(why) = a {
-        return Summed::Refused(why);
-    }
-    Summed::Answered(kernel::lj_pairs(
+    )?;
+    Ok(kernel::lj_pairs(
         lj, cell, own_ids, own_params, ids, params, species, positions, pairs, forces,
     ))
 }
@@ -84,7 +81,7 @@ pub fn lj_pairs(
 // The same over every pair, i, then j, rising.
 pub fn lj_all(
     lj: Lj,
-    cell: Cell,
+    cell: Option<Lattice>,
     own_ids: &[u32],
     own_params: &[f64],
     ids: &[u32],
@@ -92,10 +89,10 @@ pub fn lj_all(
     species: &[u32],
     positions: &[f64],
     forces: &mut [f64],
-) -> Summed
+) -> Result<Sum, Refusal>
     ensures { LjAllSays lj cell (tables own_ids.now own_params.now ids.now params.now) species.now positions.now forces.old result forces.new }
 {
-    let a = asked::lj_asked(
+    asked::lj_asked(
         lj,
         cell,
         own_ids,
@@ -107,11 +104,8 @@ pub fn lj_all(
         forces.len(),
         0,
         0,
-    );
-    if let Done::Refused(why) = a {
-        return Summed::Refused(why);
-    }
-    Summed::Answered(every::lj_all(
+    )?;
+    Ok(every::lj_all(
         lj, cell, own_ids, own_params, ids, params, species, positions, forces,
     ))
 }
@@ -128,7 +122,7 @@ pub fn species_row<'a>(
     ensures { SpeciesRowSays (tables own_ids.now own_params.now ids.now params.now) species result.now }
 {
     let a = asked::rows_asked(own_ids, own_params, ids, params);
-    if let Done::Refused(_) = a {
+    if let Err(_) = a {
         return &params[0..0];
     }
     potentials_pair::species::row_of(own_ids, own_params, ids, params, species)
@@ -141,7 +135,7 @@ pub fn species_row_asked(
     ids: &[u32],
     params: &[f64],
     species: u32,
-) -> Done
+) -> Result<(), Refusal>
     ensures { SpeciesRowAskedSays (tables own_ids.now own_params.now ids.now params.now) result }
 {
     asked::rows_asked(own_ids, own_params, ids, params)
@@ -151,16 +145,16 @@ pub fn species_row_asked(
 pub fn coulomb_pairs(
     units: Units,
     cutoff: f64,
-    cell: Cell,
+    cell: Option<Lattice>,
     charges: &[f64],
     positions: &[f64],
     pairs: &[u32],
     forces: &mut [f64],
-) -> Summed
+) -> Result<Sum, Refusal>
     ensures { CoulombPairsSays units cutoff cell charges.now positions.now pairs.now forces.old result forces.new }
 {
     let absent = ranges::rows::first_absent(pairs, positions.len() / 3);
-    let a = asked::coulomb_asked(
+    asked::coulomb_asked(
         units,
         cutoff,
         cell,
@@ -169,45 +163,39 @@ pub fn coulomb_pairs(
         forces.len(),
         pairs.len(),
         absent,
-    );
-    if let Done::Refused(why) = a {
-        return Summed::Refused(why);
-    }
-    Summed::Answered(kernel::coulomb_pairs(units, cutoff, cell, charges, positions, pairs, forces))
+    )?;
+    Ok(kernel::coulomb_pairs(units, cutoff, cell, charges, positions, pairs, forces))
 }
 
 // The same over every pair, i, then j, rising.
 pub fn coulomb_all(
     units: Units,
     cutoff: f64,
-    cell: Cell,
+    cell: Option<Lattice>,
     charges: &[f64],
     positions: &[f64],
     forces: &mut [f64],
-) -> Summed
+) -> Result<Sum, Refusal>
     ensures { CoulombAllSays units cutoff cell charges.now positions.now forces.old result forces.new }
 {
-    let a = asked::coulomb_asked(units, cutoff, cell, charges, positions, forces.len(), 0, 0);
-    if let Done::Refused(why) = a {
-        return Summed::Refused(why);
-    }
-    Summed::Answered(every::coulomb_all(units, cutoff, cell, charges, positions, forces))
+    asked::coulomb_asked(units, cutoff, cell, charges, positions, forces.len(), 0, 0)?;
+    Ok(every::coulomb_all(units, cutoff, cell, charges, positions, forces))
 }
 
 // Harmonic bonds, two atoms a row; a bond past the end of a table takes `bond`'s own number.
 pub fn bonds_all(
     bond: Bond,
-    cell: Cell,
+    cell: Option<Lattice>,
     bonds: &[u32],
     per_bond: &[f64],
     per_bond_k: &[f64],
     positions: &[f64],
     forces: &mut [f64],
-) -> Summed
+) -> Result<Sum, Refusal>
     ensures { BondsAllSays bond cell bonds.now per_bond.now per_bond_k.now positions.now forces.old result forces.new }
 {
     let absent = ranges::rows::first_absent(bonds, positions.len() / 3);
-    let a = asked::bonds_asked(
+    asked::bonds_asked(
         bond,
         cell,
         bonds.len(),
@@ -216,9 +204,6 @@ pub fn bonds_all(
         positions,
         forces.len(),
         absent,
-    );
-    if let Done::Refused(why) = a {
-        return Summed::Refused(why);
-    }
-    Summed::Answered(kernel::bonds_all(bond, cell, bonds, per_bond, per_bond_k, positions, forces))
+    )?;
+    Ok(kernel::bonds_all(bond, cell, bonds, per_bond, per_bond_k, positions, forces))
 }

@@ -1,4 +1,5 @@
 -- A pair of two atoms that are there gives the first its force and the second that force times -1, and touches nothing else. Assumes nothing.
+use Rattle.std.specs.Prelude.{Some}
 use mathlib.Core.Path.{◌≡◌, ap, ◌∙◌}
 use mathlib.Core.List.{List}
 use Prim.Native.Nat.{ℕ, ◌+◌, ◌*◌, ◌/◌, ◌<◌}
@@ -12,7 +13,6 @@ use Rattle.float.specs.Arith.{◌⊕◌, at}
 use Rattle.lists.proofs.Rows.{set_three, three_first, three_second, three_third, three_other}
 use Rattle.virial.specs.Virial.{added_at, forces_with_pair}
 use Rattle.virial.proofs.Forces.{added_there, added_length, pair_length}
-use Rattle.potentials_pair.specs.declared.Pull.TheVariants.{Add}
 use Rattle.potentials_pair.specs.Newton.{Gains, Acts}
 use Rattle.potentials_pair.specs.Pull.{Total, after}
 
@@ -84,5 +84,5 @@ module _ (l : List Float) (i j : ℕ) (f : Vec3) (hi : i < atoms_of l) (hj : j <
 
 -- a pair that is not skipped: what it does to the forces
 pub pair_acts : (t : Total) (i j : ℕ) (energy : Float) (d f : Vec3) → i < atoms_of t.forces → j < atoms_of t.forces → (i ≡ j → ⊥)
-    → Acts t.forces (after t (i, j) (Add energy d f)).forces i j f
+    → Acts t.forces (after t (i, j) (Some (record { energy = energy; d = d; f = f }))).forces i j f
 pair_acts t i j energy d f hi hj apart = force_acts t.forces i j f hi hj apart

@@ -1,4 +1,5 @@
 -- Lennard-Jones for one pair, in the source's order, one rounding an operation. Definitions only.
+use Rattle.std.specs.Prelude.{Option, Some, None}
 use Rattle.std.specs.Prelude.{cond, Float}
 use Rattle.std.specs.Float.Ieee.{neg}
 use Rattle.float.specs.Literals.{f1, f2, f3, f4, f6, half}
@@ -10,9 +11,7 @@ use Rattle.potentials_pair.specs.declared.Lj.{Lj}
 use Rattle.potentials_pair.specs.declared.Mixed.{Mixed}
 use Rattle.potentials_pair.specs.declared.Mixing.{Mixing}
 use Rattle.potentials_pair.specs.declared.Mixing.TheVariants.{HalfSum, Geometric}
-use Rattle.potentials_pair.specs.declared.Pull.{Pull}
-use Rattle.potentials_pair.specs.declared.Pull.TheVariants.{Skip, Add}
-use Rattle.potentials_pair.specs.Pull.{skips}
+use Rattle.potentials_pair.specs.Pull.{Pull, skips}
 
 -- 02, No. 10: "mix sigma by the geometric mean, root of the product, where the Rust takes the half sum"
 unfoldable pub sigma_of : Mixing → Float → Float → Float
@@ -35,14 +34,14 @@ lj_energy lj m s6 s12 =
     cond lj.shift (e ⊖ f4 ⊗ m.epsilon ⊗ (sc6 ⊗ sc6 ⊖ sc6)) e
 
 -- lines 140 to 156: r2 is the square of d
-unfoldable pub lj_near : Lj → Mixed → Vec3 → Float → Pull
+unfoldable pub lj_near : Lj → Mixed → Vec3 → Float → Option Pull
 lj_near lj m d r2 =
     let inverse = f1 ⊘ r2 in
     let s6 = cube (m.sigma ⊗ m.sigma ⊗ inverse) in
     let s12 = s6 ⊗ s6 in
     let slope = f4 ⊗ m.epsilon ⊗ (neg f6 ⊗ s12 ⊕ f3 ⊗ s6) ⊗ inverse in
-    Add (lj_energy lj m s6 s12) d (scale_of d (neg f2 ⊗ slope))
+    Some (record { energy = lj_energy lj m s6 s12; d = d; f = scale_of d (neg f2 ⊗ slope) })
 
 -- lines 135 to 156, over the mixed numbers
-unfoldable pub lj_pull : Lj → Mixed → Vec3 → Pull
-lj_pull lj m d = cond (skips lj.cutoff (norm2_of d)) Skip (lj_near lj m d (norm2_of d))
+unfoldable pub lj_pull : Lj → Mixed → Vec3 → Option Pull
+lj_pull lj m d = cond (skips lj.cutoff (norm2_of d)) None (lj_near lj m d (norm2_of d))

@@ -1,4 +1,6 @@
 -- Lennard-Jones with all that depends on the two species alone computed once. Nobody has to believe it: proofs/Once.antt shows that it is `ljNear`. Definitions only.
+use Rattle.std.specs.Prelude.{Option, Some}
+use Rattle.potentials_pair.specs.Pull.{Pull}
 use Rattle.std.specs.Prelude.{Bool, cond, Float}
 use Rattle.std.specs.Float.Ieee.{neg}
 use Rattle.float.specs.Literals.{f1, f2, f3, f4, f6}
@@ -8,8 +10,6 @@ use Rattle.cell.specs.Vec.{scale_of}
 use Rattle.potentials_pair.specs.declared.Lj.{Lj}
 use Rattle.potentials_pair.specs.declared.Mixed.{Mixed}
 use Rattle.potentials_pair.specs.declared.Numbers.{Numbers}
-use Rattle.potentials_pair.specs.declared.Pull.{Pull}
-use Rattle.potentials_pair.specs.declared.Pull.TheVariants.{Add}
 use Rattle.potentials_pair.specs.Lj.{cube}
 
 unfoldable pub numbers_of : Lj → Mixed → Numbers
@@ -29,5 +29,5 @@ slope_by n r2 =
     let s6 = cube (n.square ⊗ inverse) in
     neg f2 ⊗ (n.depth ⊗ (neg f6 ⊗ (s6 ⊗ s6) ⊕ f3 ⊗ s6) ⊗ inverse)
 
-unfoldable pub near_by : Bool → Numbers → Vec3 → Float → Pull
-near_by shift n d r2 = Add (energy_by shift n r2) d (scale_of d (slope_by n r2))
+unfoldable pub near_by : Bool → Numbers → Vec3 → Float → Option Pull
+near_by shift n d r2 = Some (record { energy = energy_by shift n r2; d = d; f = scale_of d (slope_by n r2) })

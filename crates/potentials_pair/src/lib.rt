@@ -1,20 +1,11 @@
 // What one pair of atoms adds: the kernels of potentials.rs over a pair's numbers, and the species table. Total, and no public call.
 #![tactic(auto)]
 
-use cell::Vec3;
-
 pub mod bonds;
 pub mod coulomb;
 pub mod kernel;
 pub mod lennard_jones;
 pub mod species;
-
-// Nothing, or an energy and a force f on the first atom, d apart: the specs' word for what a pair adds; the loops hold its numbers in arrays.
-#[derive(Drop)]
-pub enum Pull {
-    Skip,
-    Add { energy: f64, d: Vec3, f: Vec3 },
-}
 
 // The Lennard-Jones numbers of a species, or of two that are mixed.
 #[derive(Drop)]

@@ -16,17 +16,15 @@ fn is_below(ids: &[u32], k: usize) -> bool
 pub fn is_rising(ids: &[u32]) -> bool
     ensures { result ≡ rising ids.now }
 {
-    let mut k = 0;
-    while k + 1 < ids.len() {
+    for k in 0..ids.len().saturating_sub(1) {
         if !is_below(ids, k) {
             return false;
         }
-        k += 1;
     }
     true
 }
 
-// The first id that is not below z, by halving.
+// The first id that is not below z, by halving. `while`, since each turn leaves one half of the range, and a `for` takes each number of a range.
 fn place_in(ids: &[u32], z: u32) -> usize
     ensures { result ≡ place_in ids.now z }
 {

@@ -24,10 +24,8 @@ pub fn all_within(limit: f64, xs: &[f64]) -> bool
     ensures { result ≡ every (within limit) xs.now }
 {
     let mut ok = true;
-    let mut i = 0;
-    while i < xs.len() {
-        ok = ok & is_within(limit, xs[i]);
-        i += 1;
+    for x in xs {
+        ok = ok & is_within(limit, *x);
     }
     ok
 }
@@ -36,10 +34,8 @@ pub fn all_between(low: f64, high: f64, xs: &[f64]) -> bool
     ensures { result ≡ every (between low high) xs.now }
 {
     let mut ok = true;
-    let mut i = 0;
-    while i < xs.len() {
-        ok = ok & is_between(low, high, xs[i]);
-        i += 1;
+    for x in xs {
+        ok = ok & is_between(low, high, *x);
     }
     ok
 }

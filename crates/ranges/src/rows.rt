@@ -24,10 +24,8 @@ fn all_below(table: &[u32], n: u32) -> bool
     ensures { result ≡ every (is_below n) table.now }
 {
     let mut ok = true;
-    let mut k = 0;
-    while k < table.len() {
-        ok = ok & (table[k] < n);
-        k += 1;
+    for x in table {
+        ok = ok & (*x < n);
     }
     ok
 }
@@ -50,12 +48,10 @@ pub fn first_absent(table: &[u32], n: usize) -> usize
     if all_there(table, n) {
         return m;
     }
-    let mut k = 0;
-    while k < m {
+    for k in 0..m {
         if is_absent(table, n, k) {
             return k;
         }
-        k += 1;
     }
-    k
+    m
 }

@@ -1,6 +1,5 @@
 // Two species tables: 58 and 59, the calls 50 and 53 with a mask, and 5a, `species_row`.
 use crate::forces;
-use answer::Done;
 use replay_melts::masks;
 use replay_words::{plain, tables};
 
@@ -55,7 +54,7 @@ fn species_row_case(ws: &[u64], out: &mut [u64; 8208]) -> usize {
     let params = tables::part(&fs, d);
     let asked = potentials_calls::species_row_asked(own_ids, own_params, ids, params, z.value);
     let head = plain::put_done(out, asked);
-    if let Done::Refused(_) = asked {
+    if let Err(_) = asked {
         return head;
     }
     let own = potentials_calls::species_row(own_ids, own_params, &[], &[], z.value);

@@ -70,10 +70,8 @@ fn hear_all(
     start: Pending,
 ) -> Pending {
     let mut p = start;
-    let mut i = 0;
-    while i < bytes.len() {
-        p = hear(bytes[i], line, words, answer, out, p);
-        i += 1;
+    for byte in bytes {
+        p = hear(*byte, line, words, answer, out, p);
     }
     p
 }

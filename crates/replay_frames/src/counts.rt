@@ -2,9 +2,9 @@
 ghost use Rattle.std.specs.Prelude.{◌≤◌};
 
 use crate::frames;
-use frame::Frame;
+use frame::{Built, Frame};
 use replay_words::{Table, plain, tables};
-use shells::Counted;
+use shells::CountError;
 
 // The words of a case, and room for them: the totals are a part of it.
 fn words(ws: &[u64]) -> [u64; 8192] {
@@ -46,22 +46,18 @@ fn put_u64s(out: &mut [u64; 8208], at: usize, xs: &[u64]) -> usize
     replay_words::put_words(out, next, xs)
 }
 
-fn tell_counted(out: &mut [u64; 8208], answer: Counted) -> usize
+fn tell_counted(out: &mut [u64; 8208], answer: Result<Built, CountError>) -> usize
     ensures { result ≤ 8208 }
 {
     match answer {
-        Counted::Answered {
-            pairs,
-            checks,
-            fallback,
-        } => {
-            let listed = pairs as u64;
-            let measured = checks as u64;
-            let whole = replay_words::flag_word(fallback);
+        Ok(b) => {
+            let listed = b.pairs as u64;
+            let measured = b.checks as u64;
+            let whole = replay_words::flag_word(b.fallback);
             replay_words::put_words(out, 0, &[0, 0, listed, measured, whole])
         }
-        Counted::Refused(why) => plain::put_refusal(out, why),
-        Counted::Full => replay_words::put_words(out, 0, &[13, 0]),
+        Err(CountError::Refused(why)) => plain::put_refusal(out, why),
+        Err(CountError::Full) => replay_words::put_words(out, 0, &[13, 0]),
     }
 }
 

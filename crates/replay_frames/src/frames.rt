@@ -1,6 +1,7 @@
 // The calls of `frame`, 40 and 41.
 ghost use Rattle.std.specs.Prelude.{◌≤◌};
 
+use answer::Refusal;
 use frame::{Built, Frame, Side, Spot};
 use replay_words::{Table, plain, tables};
 
@@ -60,21 +61,17 @@ fn take_spot(ws: &[u64], at: usize) -> SpotArg {
     }
 }
 
-fn tell_built(out: &mut [u64; 8208], answer: Built) -> usize
+fn tell_built(out: &mut [u64; 8208], answer: Result<Built, Refusal>) -> usize
     ensures { result ≤ 8208 }
 {
     match answer {
-        Built::Answered {
-            pairs,
-            checks,
-            fallback,
-        } => {
-            let listed = pairs as u64;
-            let measured = checks as u64;
-            let whole = replay_words::flag_word(fallback);
+        Ok(b) => {
+            let listed = b.pairs as u64;
+            let measured = b.checks as u64;
+            let whole = replay_words::flag_word(b.fallback);
             replay_words::put_words(out, 0, &[0, 0, listed, measured, whole])
         }
-        Built::Refused(why) => plain::put_refusal(out, why),
+        Err(why) => plain::put_refusal(out, why),
     }
 }
 

@@ -16,21 +16,17 @@ fn bytes(ws: &[u64]) -> [u8; 8192] {
 
 fn widened(xs: [u8; 8192]) -> [u32; 8192] {
     let mut us = [0u32; 8192];
-    let mut i = 0;
-    while i < 8192 {
+    for i in 0..8192 {
         us[i] = xs[i] as u32;
-        i += 1;
     }
     us
 }
 
 fn all_bytes(us: &[u32]) -> bool {
-    let mut i = 0;
-    while i < us.len() {
-        if 255 < us[i] {
+    for u in us {
+        if 255 < *u {
             return false;
         }
-        i += 1;
     }
     true
 }

@@ -1,42 +1,44 @@
 // An answer's values as words. Each call writes from a place on, and answers the place after.
 ghost use Rattle.std.specs.Prelude.{◌≤◌};
 
-use answer::Done;
-use cell::{Cell, Lattice, Rows, RowsAnswer, Vec3};
+use answer::Refusal;
+use cell::{Lattice, Rows, Vec3};
 use neighbor::State;
 use replay_words::plain;
-use virial::{Sum, Summed};
+use virial::Sum;
 
 // Three rows of three floats, or the refusal.
-pub fn put_rows_answer(out: &mut [u64; 8208], answer: RowsAnswer) -> usize
+pub fn put_rows_answer(out: &mut [u64; 8208], answer: Result<Rows, Refusal>) -> usize
     ensures { result ≤ 8208 }
 {
-    let done = answer.done;
-    let rows = answer.rows;
-    match done {
-        Done::Answered => {
+    match answer {
+        Ok(rows) => {
             let at = plain::put_answered(out);
             put_rows(out, at, rows)
         }
-        Done::Refused(why) => plain::put_refusal(out, why),
+        Err(why) => plain::put_refusal(out, why),
     }
 }
 
 // A sum, or the refusal.
-pub fn put_summed(out: &mut [u64; 8208], answer: Summed) -> usize
+pub fn put_summed(out: &mut [u64; 8208], answer: Result<Sum, Refusal>) -> usize
     ensures { result ≤ 8208 }
 {
     match answer {
-        Summed::Answered(sum) => {
+        Ok(sum) => {
             let at = plain::put_answered(out);
             put_sum(out, at, sum)
         }
-        Summed::Refused(why) => plain::put_refusal(out, why),
+        Err(why) => plain::put_refusal(out, why),
     }
 }
 
 // A sum or the refusal, then the forces, whatever became of them.
-pub fn put_summed_forces(out: &mut [u64; 8208], answer: Summed, forces: &[f64]) -> usize
+pub fn put_summed_forces(
+    out: &mut [u64; 8208],
+    answer: Result<Sum, Refusal>,
+    forces: &[f64],
+) -> usize
     ensures { result ≤ 8208 }
 {
     let at = put_summed(out, answer);
@@ -97,12 +99,12 @@ pub fn put_state(out: &mut [u64; 8208], at: usize, s: State) -> usize
     replay_words::put_words(out, next, &[pairs, references, checks, fallback, builds])
 }
 
-fn put_cell(out: &mut [u64; 8208], at: usize, cell: Cell) -> usize
+fn put_cell(out: &mut [u64; 8208], at: usize, cell: Option<Lattice>) -> usize
     ensures { result ≤ 8208 }
 {
     match cell {
-        Cell::Absent => replay_words::put_word(out, at, 0),
-        Cell::Present(l) => {
+        None => replay_words::put_word(out, at, 0),
+        Some(l) => {
             let next = replay_words::put_word(out, at, 1);
             put_lattice(out, next, l)
         }

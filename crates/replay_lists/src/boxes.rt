@@ -2,7 +2,8 @@
 ghost use Rattle.std.specs.Prelude.{◌≤◌};
 
 use crate::{answers, records};
-use cell::{Boxes, ImageAnswer};
+use answer::Refusal;
+use cell::{Image, Triple, Uncounted};
 use replay_words::plain;
 
 fn wide(x: i32) -> i64 {
@@ -18,28 +19,28 @@ fn put_kind(out: &mut [u64; 8208], at: usize, kind: u64, x: i32, y: i32, z: i32)
     replay_words::put_i64(out, two, wide(z))
 }
 
-fn put_boxes(out: &mut [u64; 8208], at: usize, counts: Boxes) -> usize
+fn put_boxes(out: &mut [u64; 8208], at: usize, counts: Result<Triple, Uncounted>) -> usize
     ensures { result ≤ 8208 }
 {
     match counts {
-        Boxes::Counted(n) => put_kind(out, at, 0, n.x, n.y, n.z),
-        Boxes::NoFit => put_kind(out, at, 1, 0, 0, 0),
-        Boxes::NoInverse => put_kind(out, at, 2, 0, 0, 0),
+        Ok(n) => put_kind(out, at, 0, n.x, n.y, n.z),
+        Err(Uncounted::NoFit) => put_kind(out, at, 1, 0, 0, 0),
+        Err(Uncounted::NoInverse) => put_kind(out, at, 2, 0, 0, 0),
     }
 }
 
-fn tell_image(out: &mut [u64; 8208], answer: ImageAnswer) -> usize
+fn tell_image(out: &mut [u64; 8208], answer: Result<Image, Refusal>) -> usize
     ensures { result ≤ 8208 }
 {
     match answer {
-        ImageAnswer::Answered(image) => {
+        Ok(image) => {
             let diff = image.diff;
             let counts = image.counts;
             let at = plain::put_answered(out);
             let told = answers::put_vec3(out, at, diff);
             put_boxes(out, told, counts)
         }
-        ImageAnswer::Refused(why) => plain::put_refusal(out, why),
+        Err(why) => plain::put_refusal(out, why),
     }
 }
 

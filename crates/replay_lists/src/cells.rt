@@ -2,65 +2,65 @@
 ghost use Rattle.std.specs.Prelude.{◌≤◌};
 
 use crate::{answers, records};
-use answer::YesNo;
-use cell::{ImageAnswer, InverseAnswer, LatticeAnswer, Vector};
+use answer::Refusal;
+use cell::{Image, Lattice, Rows, Vec3};
 use replay_words::plain;
 
 // ---- answers as words
 
-fn tell_lattice(out: &mut [u64; 8208], answer: LatticeAnswer) -> usize
+fn tell_lattice(out: &mut [u64; 8208], answer: Result<Lattice, Refusal>) -> usize
     ensures { result ≤ 8208 }
 {
     match answer {
-        LatticeAnswer::Answered(l) => {
+        Ok(l) => {
             let at = plain::put_answered(out);
             answers::put_lattice(out, at, l)
         }
-        LatticeAnswer::Refused(why) => plain::put_refusal(out, why),
+        Err(why) => plain::put_refusal(out, why),
     }
 }
 
-fn tell_vector(out: &mut [u64; 8208], answer: Vector) -> usize
+fn tell_vector(out: &mut [u64; 8208], answer: Result<Vec3, Refusal>) -> usize
     ensures { result ≤ 8208 }
 {
     match answer {
-        Vector::Answered(v) => {
+        Ok(v) => {
             let at = plain::put_answered(out);
             answers::put_vec3(out, at, v)
         }
-        Vector::Refused(why) => plain::put_refusal(out, why),
+        Err(why) => plain::put_refusal(out, why),
     }
 }
 
-fn tell_image(out: &mut [u64; 8208], answer: ImageAnswer) -> usize
+fn tell_image(out: &mut [u64; 8208], answer: Result<Image, Refusal>) -> usize
     ensures { result ≤ 8208 }
 {
     match answer {
-        ImageAnswer::Answered(image) => {
+        Ok(image) => {
             let diff = image.diff;
             let at = plain::put_answered(out);
             answers::put_vec3(out, at, diff)
         }
-        ImageAnswer::Refused(why) => plain::put_refusal(out, why),
+        Err(why) => plain::put_refusal(out, why),
     }
 }
 
 // 0 where there is no inverse, or 1 and its rows.
-fn tell_inverse(out: &mut [u64; 8208], answer: InverseAnswer) -> usize
+fn tell_inverse(out: &mut [u64; 8208], answer: Result<Option<Rows>, Refusal>) -> usize
     ensures { result ≤ 8208 }
 {
-    let found = answer.found;
-    let rows = answer.rows;
-    match found {
-        YesNo::Answered(there) => {
+    match answer {
+        Ok(found) => {
             let at = plain::put_answered(out);
-            let told = replay_words::put_word(out, at, replay_words::flag_word(there));
-            if there {
-                return answers::put_rows(out, told, rows);
+            match found {
+                Some(rows) => {
+                    let told = replay_words::put_word(out, at, replay_words::flag_word(true));
+                    answers::put_rows(out, told, rows)
+                }
+                None => replay_words::put_word(out, at, replay_words::flag_word(false)),
             }
-            told
         }
-        YesNo::Refused(why) => plain::put_refusal(out, why),
+        Err(why) => plain::put_refusal(out, why),
     }
 }
 

@@ -1,11 +1,11 @@
 // The calls of `exclusions`, 32 and 33.
 ghost use Rattle.std.specs.Prelude.{◌≤◌};
 
-use answer::Whole;
+use answer::Refusal;
 use replay_words::{plain, tables};
 
 // The answer, then the table, whatever became of it.
-fn tell_whole_table(out: &mut [u64; 8208], answer: Whole, table: &[u32]) -> usize
+fn tell_whole_table(out: &mut [u64; 8208], answer: Result<u64, Refusal>, table: &[u32]) -> usize
     ensures { result ≤ 8208 }
 {
     let at = plain::put_whole(out, answer);

@@ -2,20 +2,20 @@
 ghost use Rattle.std.specs.Prelude.{◌≤◌};
 
 use crate::{answers, records};
-use answer::YesNo;
-use cell::Cell;
-use neighbor::{State, StateAnswer, Updated};
+use answer::Refusal;
+use cell::Lattice;
+use neighbor::{State, Updated};
 use replay_words::{Table, plain, tables};
 
-fn tell_state(out: &mut [u64; 8208], answer: StateAnswer) -> usize
+fn tell_state(out: &mut [u64; 8208], answer: Result<State, Refusal>) -> usize
     ensures { result ≤ 8208 }
 {
     match answer {
-        StateAnswer::Answered(s) => {
+        Ok(s) => {
             let at = plain::put_answered(out);
             answers::put_state(out, at, s)
         }
-        StateAnswer::Refused(why) => plain::put_refusal(out, why),
+        Err(why) => plain::put_refusal(out, why),
     }
 }
 
@@ -54,7 +54,13 @@ fn builds_since_case(ws: &[u64], out: &mut [u64; 8208]) -> usize
 }
 
 // The Rust's question, or the second one.
-fn asked(second: bool, s: State, cell: Cell, positions: &[f64], references: &[f64]) -> YesNo {
+fn asked(
+    second: bool,
+    s: State,
+    cell: Option<Lattice>,
+    positions: &[f64],
+    references: &[f64],
+) -> Result<bool, Refusal> {
     if second {
         return neighbor::outdated(s, cell, positions, references);
     }
@@ -90,7 +96,7 @@ fn question_case(second: bool, ws: &[u64], out: &mut [u64; 8208]) -> usize
 fn brought(
     question: bool,
     s: State,
-    cell: Cell,
+    cell: Option<Lattice>,
     positions: &[f64],
     exclusions: &[u32],
     pairs: &mut [u32],
@@ -135,7 +141,7 @@ fn told(
     question: bool,
     remembers: bool,
     state: State,
-    cell: Cell,
+    cell: Option<Lattice>,
     x: Table,
     e: Table,
     t: Lent,

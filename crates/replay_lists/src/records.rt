@@ -1,7 +1,7 @@
 // The library's records taken out of a case's words, one after the other.
 ghost use Rattle.std.specs.Prelude.{◌+◌, ◌≤◌, length, ◌≡◌};
 
-use cell::{Cell, Lattice, Vec3};
+use cell::{Lattice, Vec3};
 use neighbor::State;
 use virial::{Sum, Units};
 
@@ -20,7 +20,7 @@ pub struct LatticeArg {
 
 #[derive(Drop)]
 pub struct CellArg {
-    pub value: Cell,
+    pub value: Option<Lattice>,
     pub next: usize,
 }
 
@@ -92,12 +92,12 @@ pub fn take_cell(ws: &[u64], at: usize) -> CellArg
         let l = take_lattice(ws, there.next);
         let lattice = l.value;
         return CellArg {
-            value: Cell::Present(lattice),
+            value: Some(lattice),
             next: l.next,
         };
     }
     CellArg {
-        value: Cell::Absent,
+        value: None,
         next: there.next,
     }
 }
@@ -169,7 +169,7 @@ pub fn take_state(ws: &[u64], at: usize) -> StateArg
             checks: checks.value,
             fallback: fallback.value,
             builds: builds.value,
-            built_in: Cell::Absent,
+            built_in: None,
         },
         next: builds.next,
     }
@@ -192,7 +192,7 @@ pub fn take_state_and(cell: bool, ws: &[u64], at: usize) -> StateArg
     }
 }
 
-pub fn remembering(s: State, cell: Cell) -> State
+pub fn remembering(s: State, cell: Option<Lattice>) -> State
     ensures { result ≡ record { cutoff = s.cutoff; skin = s.skin; pairs = s.pairs; references = s.references; checks = s.checks; fallback = s.fallback; builds = s.builds; built_in = cell } }
 {
     State {

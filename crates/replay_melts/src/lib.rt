@@ -8,7 +8,6 @@ pub mod works;
 
 ghost use Rattle.std.specs.Prelude.{◌≤◌};
 
-use answer::Done;
 use neighbor::State;
 use replay_lists::answers;
 use replay_words::{Table, plain, tables};
@@ -97,8 +96,8 @@ fn put_struck(out: &mut [u64; 8208], r: Struck) -> usize
     let head = plain::put_done(out, done);
     let next = answers::put_state(out, head, state);
     match done {
-        Done::Answered => put_left(out, next, left),
-        Done::Refused(_) => next,
+        Ok(()) => put_left(out, next, left),
+        Err(_) => next,
     }
 }
 
@@ -111,8 +110,8 @@ fn put_placed(out: &mut [u64; 8208], r: Entered) -> usize
     let head = plain::put_done(out, done);
     let next = answers::put_state(out, head, state);
     match done {
-        Done::Answered => replay_words::put_word(out, next, count),
-        Done::Refused(_) => next,
+        Ok(()) => replay_words::put_word(out, next, count),
+        Err(_) => next,
     }
 }
 

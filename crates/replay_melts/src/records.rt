@@ -2,11 +2,12 @@
 ghost use Rattle.std.specs.Prelude.{◌+◌, ◌≤◌, length};
 
 use crate::masks::Parts;
-use cell::Cell;
+use cell::Lattice;
 use evaluate::Setting;
 use neighbor::State;
-use potentials::{Bond, BondTerm, CoulombTerm, LjTerm};
-use potentials_angle::{Angle, AngleTerm};
+use potentials::Bond;
+use potentials::coulomb::Coulomb;
+use potentials_angle::Angle;
 use potentials_pair::{Lj, Mixing};
 use replay_lists::records::{remembering, take_cell, take_state_and, take_units};
 
@@ -24,25 +25,25 @@ pub struct LjArg {
 
 #[derive(Drop)]
 pub struct LjTermArg {
-    pub value: LjTerm,
+    pub value: Option<Lj>,
     pub next: usize,
 }
 
 #[derive(Drop)]
 pub struct CoulombTermArg {
-    pub value: CoulombTerm,
+    pub value: Option<Coulomb>,
     pub next: usize,
 }
 
 #[derive(Drop)]
 pub struct BondTermArg {
-    pub value: BondTerm,
+    pub value: Option<Bond>,
     pub next: usize,
 }
 
 #[derive(Drop)]
 pub struct AngleTermArg {
-    pub value: AngleTerm,
+    pub value: Option<Angle>,
     pub next: usize,
 }
 
@@ -107,14 +108,14 @@ pub fn take_lj(ruled: bool, ws: &[u64], at: usize) -> LjArg
 }
 
 // What a State without its cell stands for: built in the case's own cell, where that is in range.
-fn in_own(s: State, cell: Cell) -> State {
+fn in_own(s: State, cell: Option<Lattice>) -> State {
     if cell::ranged::cell_in_range(cell) {
         return remembering(s, cell);
     }
     s
 }
 
-fn remembered(parts: Parts, s: State, cell: Cell) -> State {
+fn remembered(parts: Parts, s: State, cell: Option<Lattice>) -> State {
     if parts.cell {
         return s;
     }
@@ -127,12 +128,12 @@ fn take_lj_term(ruled: bool, ws: &[u64], at: usize) -> LjTermArg {
         let lj = take_lj(ruled, ws, there.next);
         let value = lj.value;
         return LjTermArg {
-            value: LjTerm::Present(value),
+            value: Some(value),
             next: lj.next,
         };
     }
     LjTermArg {
-        value: LjTerm::Absent,
+        value: None,
         next: there.next,
     }
 }
@@ -143,12 +144,12 @@ fn take_coulomb_term(ws: &[u64], at: usize) -> CoulombTermArg {
         let cutoff = replay_words::take_float(ws, there.next);
         let value = cutoff.value;
         return CoulombTermArg {
-            value: CoulombTerm::Present { cutoff: value },
+            value: Some(Coulomb { cutoff: value }),
             next: cutoff.next,
         };
     }
     CoulombTermArg {
-        value: CoulombTerm::Absent,
+        value: None,
         next: there.next,
     }
 }
@@ -163,12 +164,12 @@ fn take_bond_term(ws: &[u64], at: usize) -> BondTermArg {
             r0: r0.value,
         };
         return BondTermArg {
-            value: BondTerm::Present(bond),
+            value: Some(bond),
             next: r0.next,
         };
     }
     BondTermArg {
-        value: BondTerm::Absent,
+        value: None,
         next: there.next,
     }
 }
@@ -183,12 +184,12 @@ fn take_angle_term(ws: &[u64], at: usize) -> AngleTermArg {
             rest: rest.value,
         };
         return AngleTermArg {
-            value: AngleTerm::Present(angle),
+            value: Some(angle),
             next: rest.next,
         };
     }
     AngleTermArg {
-        value: AngleTerm::Absent,
+        value: None,
         next: there.next,
     }
 }
@@ -199,7 +200,7 @@ fn take_angle_term_if(there: bool, ws: &[u64], at: usize) -> AngleTermArg {
         return take_angle_term(ws, at);
     }
     AngleTermArg {
-        value: AngleTerm::Absent,
+        value: None,
         next: at,
     }
 }

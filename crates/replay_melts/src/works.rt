@@ -5,7 +5,7 @@ ghost use Rattle.std.specs.Prelude.{◌≤◌};
 use crate::masks::Parts;
 use crate::records::SettingsArg;
 use crate::{masks, records};
-use answer::Done;
+use answer::Refusal;
 use evaluate::Evaluated;
 use fire::{FireOptions, Fired};
 use replay_lists::answers;
@@ -44,13 +44,13 @@ fn take_options(ws: &[u64], at: usize) -> Front {
         },
         pace: Pace {
             dt: 0.0,
-            thermostat: Thermostat::Absent,
+            thermostat: None,
         },
         next: most.next,
     }
 }
 
-fn paced(dt: f64, thermostat: Thermostat, next: usize) -> Front {
+fn paced(dt: f64, thermostat: Option<Thermostat>, next: usize) -> Front {
     Front {
         options: FireOptions {
             max_iters: 0,
@@ -72,14 +72,14 @@ fn take_pace(ws: &[u64], at: usize) -> Front {
         let tau = replay_words::take_float(ws, target.next);
         let target_k = target.value;
         let tau_fs = tau.value;
-        return paced(dt.value, Thermostat::Present { target_k, tau_fs }, tau.next);
+        return paced(dt.value, Some(Thermostat { target_k, tau_fs }), tau.next);
     }
-    paced(dt.value, Thermostat::Absent, there.next)
+    paced(dt.value, None, there.next)
 }
 
 fn take_front(work: Work, ws: &[u64], at: usize) -> Front {
     match work {
-        Work::Evaluate => paced(0.0, Thermostat::Absent, at),
+        Work::Evaluate => paced(0.0, None, at),
         Work::Settle => take_options(ws, at),
         _ => take_pace(ws, at),
     }
@@ -220,12 +220,12 @@ fn take_rooms(k: Form, masses: Table, ws: &[u64], at: usize) -> Rooms {
 }
 
 // The sum, where there is one.
-fn tell_sum(out: &mut [u64; 8208], at: usize, answer: Done, sum: Sum) -> usize
+fn tell_sum(out: &mut [u64; 8208], at: usize, answer: Result<(), Refusal>, sum: Sum) -> usize
     ensures { result ≤ 8208 }
 {
     match answer {
-        Done::Answered => answers::put_sum(out, at, sum),
-        Done::Refused(_) => replay_words::put_words(out, at, &[]),
+        Ok(()) => answers::put_sum(out, at, sum),
+        Err(_) => replay_words::put_words(out, at, &[]),
     }
 }
 

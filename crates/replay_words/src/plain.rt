@@ -1,7 +1,7 @@
 // The answers that are no record of the library: a refusal, or one number. Each writes from the front, and answers the place after.
 ghost use Rattle.std.specs.Prelude.{◌≤◌};
 
-use answer::{Done, Number, Refusal, Whole, YesNo};
+use answer::Refusal;
 
 // Number 0, place 0.
 pub fn put_answered(out: &mut [u64; 8208]) -> usize
@@ -19,47 +19,47 @@ pub fn put_refusal(out: &mut [u64; 8208], why: Refusal) -> usize
 }
 
 // A call without a value of its own.
-pub fn put_done(out: &mut [u64; 8208], answer: Done) -> usize
+pub fn put_done(out: &mut [u64; 8208], answer: Result<(), Refusal>) -> usize
     ensures { result ≤ 8208 }
 {
     match answer {
-        Done::Answered => put_answered(out),
-        Done::Refused(why) => put_refusal(out, why),
+        Ok(()) => put_answered(out),
+        Err(why) => put_refusal(out, why),
     }
 }
 
 // A whole number, or the refusal.
-pub fn put_whole(out: &mut [u64; 8208], answer: Whole) -> usize
+pub fn put_whole(out: &mut [u64; 8208], answer: Result<u64, Refusal>) -> usize
     ensures { result ≤ 8208 }
 {
     match answer {
-        Whole::Answered(n) => crate::put_words(out, 0, &[0, 0, n]),
-        Whole::Refused(why) => put_refusal(out, why),
+        Ok(n) => crate::put_words(out, 0, &[0, 0, n]),
+        Err(why) => put_refusal(out, why),
     }
 }
 
 // A float, or the refusal.
-pub fn put_number(out: &mut [u64; 8208], answer: Number) -> usize
+pub fn put_number(out: &mut [u64; 8208], answer: Result<f64, Refusal>) -> usize
     ensures { result ≤ 8208 }
 {
     match answer {
-        Number::Answered(x) => {
+        Ok(x) => {
             let w = float::to_bits(x);
             crate::put_words(out, 0, &[0, 0, w])
         }
-        Number::Refused(why) => put_refusal(out, why),
+        Err(why) => put_refusal(out, why),
     }
 }
 
 // A flag, or the refusal.
-pub fn put_yes_no(out: &mut [u64; 8208], answer: YesNo) -> usize
+pub fn put_yes_no(out: &mut [u64; 8208], answer: Result<bool, Refusal>) -> usize
     ensures { result ≤ 8208 }
 {
     match answer {
-        YesNo::Answered(yes) => {
+        Ok(yes) => {
             let w = crate::flag_word(yes);
             crate::put_words(out, 0, &[0, 0, w])
         }
-        YesNo::Refused(why) => put_refusal(out, why),
+        Err(why) => put_refusal(out, why),
     }
 }

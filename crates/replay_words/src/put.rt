@@ -51,10 +51,8 @@ pub fn put_words(out: &mut [u64; 8208], at: usize, ws: &[u64]) -> usize
         return 8208;
     }
     let mut next = at;
-    let mut i = 0;
-    while i < ws.len() {
-        next = put_word(out, next, ws[i]);
-        i += 1;
+    for w in ws {
+        next = put_word(out, next, *w);
     }
     next
 }
@@ -67,10 +65,8 @@ pub fn put_reals(out: &mut [u64; 8208], at: usize, xs: &[f64]) -> usize
         return 8208;
     }
     let mut next = at;
-    let mut i = 0;
-    while i < xs.len() {
-        next = put_float(out, next, xs[i]);
-        i += 1;
+    for x in xs {
+        next = put_float(out, next, *x);
     }
     next
 }
@@ -91,10 +87,8 @@ pub fn put_u32s(out: &mut [u64; 8208], at: usize, xs: &[u32]) -> usize
     ensures { result ≤ 8208 }
 {
     let mut next = put_word(out, at, xs.len() as u64);
-    let mut i = 0;
-    while i < xs.len() {
-        next = put_word(out, next, wide(xs[i]));
-        i += 1;
+    for x in xs {
+        next = put_word(out, next, wide(*x));
     }
     next
 }

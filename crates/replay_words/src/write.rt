@@ -45,10 +45,8 @@ pub fn print(out: &mut [u8], at: usize, call: u64, words: &[u64]) -> usize
     ensures { result ≤ length out.new }
 {
     let mut next = put_call(out, at, call);
-    let mut i = 0;
-    while i < words.len() {
-        next = put_text(out, next, words[i]);
-        i += 1;
+    for word in words {
+        next = put_text(out, next, *word);
     }
     put_byte(out, next, 10)
 }

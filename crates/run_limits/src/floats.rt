@@ -7,10 +7,8 @@ fn spot(k: usize) -> f64 {
 }
 
 pub(crate) fn spread(xs: &mut [f64]) {
-    let mut k = 0;
-    while k < xs.len() {
-        xs[k] = spot(k);
-        k += 1;
+    for (k, x) in xs.iter_mut().enumerate() {
+        *x = spot(k);
     }
 }
 
@@ -25,10 +23,8 @@ fn step(h: u64, x: f64) -> u64 {
 
 pub(crate) fn digest(xs: &[f64]) -> u64 {
     let mut h: u64 = 7;
-    let mut k = 0;
-    while k < xs.len() {
-        h = step(h, xs[k]);
-        k += 1;
+    for x in xs {
+        h = step(h, *x);
     }
     h
 }

@@ -1,6 +1,7 @@
 // The limits of the whole-number frame. A line a build: the refusal's number and place, then the pairs, the checks, the fallback where it is answered, and a
 // digest of each lent memory, which holds MARK before.
 use crate::{rooms, show};
+use answer::Refusal;
 use frame::{Built, Frame, Side};
 
 // A number that a build is not to leave where it writes.
@@ -36,10 +37,8 @@ fn spot(k: usize) -> u32 {
 }
 
 fn spread(xs: &mut [u32]) {
-    let mut k = 0;
-    while k < xs.len() {
-        xs[k] = spot(k);
-        k += 1;
+    for (k, x) in xs.iter_mut().enumerate() {
+        *x = spot(k);
     }
 }
 
@@ -49,28 +48,22 @@ pub(crate) fn step(h: u64, x: u32) -> u64 {
 
 pub(crate) fn digest(xs: &[u32]) -> u64 {
     let mut h: u64 = 7;
-    let mut k = 0;
-    while k < xs.len() {
-        h = step(h, xs[k]);
-        k += 1;
+    for x in xs {
+        h = step(h, *x);
     }
     h
 }
 
-pub(crate) fn put_built(b: Built) {
+pub(crate) fn put_built(b: Result<Built, Refusal>) {
     match b {
-        Built::Answered {
-            pairs,
-            checks,
-            fallback,
-        } => {
+        Ok(b) => {
             show::put(0);
             show::put(0);
-            show::put(pairs as u64);
-            show::put(checks as u64);
-            show::put_flag(fallback);
+            show::put(b.pairs as u64);
+            show::put(b.checks as u64);
+            show::put_flag(b.fallback);
         }
-        Built::Refused(why) => {
+        Err(why) => {
             show::put(why.number());
             show::put(why.place());
         }

@@ -2,9 +2,8 @@
 // A line a build: number, place, rebuilt, the state's counts, a digest of each lent memory; a line a question: number, place and the answer.
 use crate::frames::MARK;
 use crate::{floats, frames, rooms, show};
-use answer::YesNo;
-use cell::{Cell, Lattice, Vec3};
-use neighbor::{State, StateAnswer, Updated};
+use cell::{Lattice, Vec3};
+use neighbor::{State, Updated};
 
 fn put_state(s: State) {
     show::put(s.pairs as u64);
@@ -32,7 +31,7 @@ fn put_rooms(pairs: &[u32], refs: &[f64], starts: &[u32], items: &[u32]) {
 // A build, and the state after it.
 fn build(
     s: State,
-    cell: Cell,
+    cell: Option<Lattice>,
     xs: &[f64],
     pairs: &mut [u32],
     refs: &mut [f64],
@@ -46,15 +45,15 @@ fn build(
     state
 }
 
-fn ask(s: State, cell: Cell, xs: &[f64], refs: &[f64]) {
+fn ask(s: State, cell: Option<Lattice>, xs: &[f64], refs: &[f64]) {
     let a = neighbor::needs_rebuild(s, cell, xs, refs);
     match a {
-        YesNo::Answered(b) => {
+        Ok(b) => {
             show::put(0);
             show::put(0);
             show::put_flag(b);
         }
-        YesNo::Refused(why) => {
+        Err(why) => {
             show::put(why.number());
             show::put(why.place());
         }
@@ -62,8 +61,8 @@ fn ask(s: State, cell: Cell, xs: &[f64], refs: &[f64]) {
     show::end_line();
 }
 
-fn boxed(x: f64, y: f64, z: f64) -> Cell {
-    Cell::Present(Lattice {
+fn boxed(x: f64, y: f64, z: f64) -> Option<Lattice> {
+    Some(Lattice {
         a: Vec3 { x, y: 0.0, z: 0.0 },
         b: Vec3 { x: 0.0, y, z: 0.0 },
         c: Vec3 { x: 0.0, y: 0.0, z },
@@ -73,7 +72,7 @@ fn boxed(x: f64, y: f64, z: f64) -> Cell {
     })
 }
 
-fn cube() -> Cell {
+fn cube() -> Option<Lattice> {
     boxed(256.0, 256.0, 256.0)
 }
 
@@ -132,10 +131,10 @@ fn long(s: State) {
 }
 
 pub(crate) fn all() {
-    let StateAnswer::Answered(s) = neighbor::new(7.5, 0.5) else {
+    let Ok(s) = neighbor::new(7.5, 0.5) else {
         return;
     };
-    let StateAnswer::Answered(thin) = neighbor::new(1.0, 0.0) else {
+    let Ok(thin) = neighbor::new(1.0, 0.0) else {
         return;
     };
     cubes(s);

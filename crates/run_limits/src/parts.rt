@@ -1,8 +1,7 @@
 // Calls that no line of the replay asks for: `of_bits`, a line of the bits of each float made; `argon`, its numbers; `listed` and `atoms_in`, for each part
 // the number and place of its `.._asked`, its length and a digest.
 use crate::{frames, show};
-use answer::Done;
-use cell::Cell;
+use answer::Refusal;
 use neighbor::State;
 
 fn back(w: u64) -> u64 {
@@ -30,7 +29,7 @@ fn argon() {
     show::end_line();
 }
 
-fn put_part(asked: Done, part: &[u32]) {
+fn put_part(asked: Result<(), Refusal>, part: &[u32]) {
     show::put_done(asked);
     show::put(part.len() as u64);
     show::end(frames::digest(part));
@@ -45,7 +44,7 @@ fn claiming(pairs: u32) -> State {
         checks: 0,
         fallback: false,
         builds: 0,
-        built_in: Cell::Absent,
+        built_in: None,
     }
 }
 

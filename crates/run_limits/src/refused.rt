@@ -1,20 +1,21 @@
 // 16,385 atoms of each other call that takes atoms. A line a call: number, place, and a digest of the forces, or velocities, that were lent.
 use crate::{floats, rooms, show, speeds};
-use cell::{Cell, Vec3};
+use answer::Refusal;
+use cell::Vec3;
 use evaluate::Setting;
 use neighbor::State;
-use potentials::{Bond, BondTerm, CoulombTerm, LjTerm};
-use potentials_angle::AngleTerm;
+use potentials::Bond;
+use potentials::coulomb::Coulomb;
 use potentials_pair::{Lj, Mixing};
-use virial::{Sum, Summed};
+use virial::Sum;
 
-fn put_refused(r: Summed, forces: &[f64]) {
+fn put_refused(r: Result<Sum, Refusal>, forces: &[f64]) {
     match r {
-        Summed::Answered(sum) => {
+        Ok(sum) => {
             show::put(0);
             show::put(float::to_bits(sum.energy));
         }
-        Summed::Refused(why) => {
+        Err(why) => {
             show::put(why.number());
             show::put(why.place());
         }
@@ -49,8 +50,7 @@ fn add_pair_force(forces: &mut [f64]) {
 fn pressure_tensor(velocities: &[f64], masses: &[f64]) {
     let none = [[0.0; 3]; 3];
     let r = virial::pressure_tensor(speeds::ones(), 1.0, none, velocities, masses);
-    let done = r.done;
-    show::put_done(done);
+    show::put_done(r.and(Ok(())));
     show::end(floats::digest(velocities));
 }
 
@@ -69,56 +69,37 @@ fn bond() -> Bond {
 }
 
 fn lj_pairs(species: &[u32], xs: &[f64], forces: &mut [f64]) {
-    let r = potentials_calls::lj_pairs(
-        lj(),
-        Cell::Absent,
-        &[],
-        &[],
-        &[],
-        &[],
-        species,
-        xs,
-        &[],
-        forces,
-    );
+    let r = potentials_calls::lj_pairs(lj(), None, &[], &[], &[], &[], species, xs, &[], forces);
     put_refused(r, forces);
 }
 
 fn lj_all(species: &[u32], xs: &[f64], forces: &mut [f64]) {
-    let r = potentials_calls::lj_all(lj(), Cell::Absent, &[], &[], &[], &[], species, xs, forces);
+    let r = potentials_calls::lj_all(lj(), None, &[], &[], &[], &[], species, xs, forces);
     put_refused(r, forces);
 }
 
 fn coulomb_pairs(charges: &[f64], xs: &[f64], forces: &mut [f64]) {
-    let r = potentials_calls::coulomb_pairs(
-        speeds::ones(),
-        1.0,
-        Cell::Absent,
-        charges,
-        xs,
-        &[],
-        forces,
-    );
+    let r = potentials_calls::coulomb_pairs(speeds::ones(), 1.0, None, charges, xs, &[], forces);
     put_refused(r, forces);
 }
 
 fn coulomb_all(charges: &[f64], xs: &[f64], forces: &mut [f64]) {
-    let r = potentials_calls::coulomb_all(speeds::ones(), 1.0, Cell::Absent, charges, xs, forces);
+    let r = potentials_calls::coulomb_all(speeds::ones(), 1.0, None, charges, xs, forces);
     put_refused(r, forces);
 }
 
 fn bonds_all(xs: &[f64], forces: &mut [f64]) {
-    let r = potentials_calls::bonds_all(bond(), Cell::Absent, &[], &[], &[], xs, forces);
+    let r = potentials_calls::bonds_all(bond(), None, &[], &[], &[], xs, forces);
     put_refused(r, forces);
 }
 
 fn setting() -> Setting {
-    let lj = LjTerm::Present(lj());
-    let coulomb = CoulombTerm::Present { cutoff: 1.0 };
-    let bond = BondTerm::Present(bond());
-    let angle = AngleTerm::Absent;
+    let lj = Some(lj());
+    let coulomb = Some(Coulomb { cutoff: 1.0 });
+    let bond = Some(bond());
+    let angle = None;
     let units = speeds::ones();
-    let cell = Cell::Absent;
+    let cell = None;
     Setting {
         lj,
         coulomb,
@@ -138,7 +119,7 @@ fn list() -> State {
         checks: 0,
         fallback: false,
         builds: 0,
-        built_in: Cell::Absent,
+        built_in: None,
     }
 }
 

@@ -1,8 +1,9 @@
 // A line's words on standard output, a blank after each. (No contract speaks of what is written: the program's output is compared.)
-use answer::Done;
 
 // The number of standard output.
 const STDOUT: i32 = 1;
+
+use answer::Refusal;
 
 pub(crate) fn put(n: u64) {
     io::print_decimal(STDOUT, n);
@@ -14,13 +15,13 @@ pub(crate) fn put_flag(b: bool) {
 }
 
 // Refusal and place, 0 0 where answered.
-pub(crate) fn put_done(done: Done) {
+pub(crate) fn put_done(done: Result<(), Refusal>) {
     match done {
-        Done::Answered => {
+        Ok(()) => {
             put(0);
             put(0);
         }
-        Done::Refused(why) => {
+        Err(why) => {
             put(why.number());
             put(why.place());
         }

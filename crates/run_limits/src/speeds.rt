@@ -1,7 +1,7 @@
 // 16,384 masses and one more for kinetic_energy, temperature and berendsen. Masses, velocities and units are powers of two, so that no operation rounds.
 // A line a size: number and place of each call, an answer's bits, and a digest of the velocities after the last.
 use crate::{floats, rooms, show};
-use answer::Number;
+use answer::Refusal;
 use virial::Units;
 
 pub(crate) fn ones() -> Units {
@@ -13,14 +13,14 @@ pub(crate) fn ones() -> Units {
     }
 }
 
-fn put_number(n: Number) {
+fn put_number(n: Result<f64, Refusal>) {
     match n {
-        Number::Answered(x) => {
+        Ok(x) => {
             show::put(0);
             show::put(0);
             show::put(float::to_bits(x));
         }
-        Number::Refused(why) => {
+        Err(why) => {
             show::put(why.number());
             show::put(why.place());
         }

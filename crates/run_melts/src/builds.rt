@@ -2,7 +2,7 @@
 // A line a build: refusal and place, the pairs, the checks, the fallback, and a digest of the pairs in their order. `tools/digests.rs` is the same over the Rust.
 use crate::liquid::{Form, Table};
 use crate::{liquid, rooms, show};
-use cell::Cell;
+use cell::Lattice;
 use neighbor::{State, Updated};
 
 fn put_built(u: Updated, pairs: &[u32]) {
@@ -24,11 +24,11 @@ fn list(cutoff: f64) -> State {
         checks: 0,
         fallback: false,
         builds: 0,
-        built_in: Cell::Absent,
+        built_in: None,
     }
 }
 
-fn build(cell: Cell, cutoff: f64, xs: &[f64], table: &[u32]) {
+fn build(cell: Option<Lattice>, cutoff: f64, xs: &[f64], table: &[u32]) {
     let mut pairs = rooms::pairs();
     let mut refs = rooms::floats();
     let mut starts = rooms::starts();
@@ -47,7 +47,7 @@ fn build(cell: Cell, cutoff: f64, xs: &[f64], table: &[u32]) {
 }
 
 // Without exclusions and with them.
-fn both(cell: Cell, xs: &[f64], table: &[u32]) {
+fn both(cell: Option<Lattice>, xs: &[f64], table: &[u32]) {
     build(cell, 2.5, xs, &[]);
     build(cell, 2.5, xs, table);
 }
@@ -55,7 +55,7 @@ fn both(cell: Cell, xs: &[f64], table: &[u32]) {
 fn all_cells(edge: f64, xs: &[f64], table: &[u32]) {
     both(liquid::cubic(edge), xs, table);
     both(liquid::tilted(edge), xs, table);
-    both(Cell::Absent, xs, table);
+    both(None, xs, table);
 }
 
 fn draw(edge: f64, xs: &mut [f64], table: &mut [u32]) {

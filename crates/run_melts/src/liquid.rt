@@ -1,5 +1,5 @@
 // A liquid of molecules of three atoms, made by whole-number arithmetic; its cells; digests. `tools/liquid.rs` and `tools/digests.rs` have the same formulas.
-use cell::{Cell, Lattice, Vec3};
+use cell::{Lattice, Vec3};
 
 // What a list of floats is filled with.
 #[derive(Clone, Copy)]
@@ -111,11 +111,9 @@ pub(crate) fn fill(form: Form, xs: &mut [f64]) {
         b: 0.0,
         c: 0.0,
     };
-    let mut k = 0;
-    while k < xs.len() {
-        row = next(form, row, k, xs[k]);
-        xs[k] = row.c;
-        k += 1;
+    for (k, x) in xs.iter_mut().enumerate() {
+        row = next(form, row, k, *x);
+        *x = row.c;
     }
 }
 
@@ -139,16 +137,14 @@ fn entry(table: Table, k: usize) -> u32 {
 }
 
 pub(crate) fn tabulate(table: Table, xs: &mut [u32]) {
-    let mut k = 0;
-    while k < xs.len() {
-        xs[k] = entry(table, k);
-        k += 1;
+    for (k, x) in xs.iter_mut().enumerate() {
+        *x = entry(table, k);
     }
 }
 
 // No right angle, so that the general way of the minimum image is taken.
-pub(crate) fn tilted(edge: f64) -> Cell {
-    Cell::Present(Lattice {
+pub(crate) fn tilted(edge: f64) -> Option<Lattice> {
+    Some(Lattice {
         a: Vec3 {
             x: edge,
             y: 0.0,
@@ -170,12 +166,12 @@ pub(crate) fn tilted(edge: f64) -> Cell {
     })
 }
 
-pub(crate) fn cubic(edge: f64) -> Cell {
-    Cell::Present(cell::kernel::cubic(edge))
+pub(crate) fn cubic(edge: f64) -> Option<Lattice> {
+    Some(cell::kernel::cubic(edge))
 }
 
 // The cubic cell, or the tilted one.
-pub(crate) fn boxed(is_cubic: bool, edge: f64) -> Cell {
+pub(crate) fn boxed(is_cubic: bool, edge: f64) -> Option<Lattice> {
     if is_cubic {
         return cubic(edge);
     }
@@ -188,10 +184,8 @@ fn step(h: u64, x: u32) -> u64 {
 
 pub(crate) fn digest(xs: &[u32]) -> u64 {
     let mut h: u64 = 7;
-    let mut k = 0;
-    while k < xs.len() {
-        h = step(h, xs[k]);
-        k += 1;
+    for x in xs {
+        h = step(h, *x);
     }
     h
 }
@@ -203,10 +197,8 @@ fn step_float(h: u64, x: f64) -> u64 {
 
 pub(crate) fn digest_floats(xs: &[f64]) -> u64 {
     let mut h: u64 = 7;
-    let mut k = 0;
-    while k < xs.len() {
-        h = step_float(h, xs[k]);
-        k += 1;
+    for x in xs {
+        h = step_float(h, *x);
     }
     h
 }

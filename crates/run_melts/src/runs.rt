@@ -12,7 +12,7 @@
 // All by one loop, over arrays of its own, with the call that the replay answers by: what comes back stands in words, as in an answer of the replay.
 use crate::liquid::Form;
 use crate::{liquid, rooms, show, terms};
-use answer::Number;
+use answer::Refusal;
 use neighbor::State;
 use replay_melts::works;
 use replay_melts::works::{Given, Work};
@@ -225,12 +225,12 @@ fn put_evaluated(ws: &[u64], forces: &[f64]) {
     show::end(liquid::digest_floats(forces));
 }
 
-fn put_number(n: Number) {
+fn put_number(n: Result<f64, Refusal>) {
     match n {
-        Number::Answered(x) => {
+        Ok(x) => {
             show::put_float(x);
         }
-        Number::Refused(why) => {
+        Err(why) => {
             show::put(why.number());
         }
     }

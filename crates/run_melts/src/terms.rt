@@ -1,12 +1,11 @@
 // The numbers of the terms and of the list.
 use crate::liquid::{Form, Table};
 use crate::{liquid, rooms};
-use cell::Cell;
 use evaluate::Setting;
 use fire::FireOptions;
 use neighbor::State;
-use potentials::{Bond, BondTerm, CoulombTerm, LjTerm};
-use potentials_angle::AngleTerm;
+use potentials::Bond;
+use potentials::coulomb::Coulomb;
 use potentials_pair::{Lj, Mixing};
 use replay_melts::masks::Parts;
 use replay_melts::records::SettingsArg;
@@ -26,8 +25,8 @@ pub(crate) fn units() -> Units {
 }
 
 // Lennard-Jones for a species that the table lacks.
-pub(crate) fn lj(shift: bool) -> LjTerm {
-    LjTerm::Present(Lj {
+pub(crate) fn lj(shift: bool) -> Option<Lj> {
+    Some(Lj {
         epsilon: 0.006,
         sigma: 3.1,
         cutoff: 6.0,
@@ -36,13 +35,13 @@ pub(crate) fn lj(shift: bool) -> LjTerm {
     })
 }
 
-pub(crate) fn coulomb() -> CoulombTerm {
-    CoulombTerm::Present { cutoff: 5.5 }
+pub(crate) fn coulomb() -> Option<Coulomb> {
+    Some(Coulomb { cutoff: 5.5 })
 }
 
 // For a bond past the tables' end.
-pub(crate) fn bond() -> BondTerm {
-    BondTerm::Present(Bond { k: 1.5, r0: 3.5 })
+pub(crate) fn bond() -> Option<Bond> {
+    Some(Bond { k: 1.5, r0: 3.5 })
 }
 
 // The cubic cell goes with the shift, the tilted one with none.
@@ -50,7 +49,7 @@ pub(crate) fn setting(shift: bool, edge: f64) -> Setting {
     let lj = lj(shift);
     let coulomb = coulomb();
     let bond = bond();
-    let angle = AngleTerm::Absent;
+    let angle = None;
     let units = units();
     let cell = liquid::boxed(shift, edge);
     Setting {
@@ -159,10 +158,10 @@ pub(crate) fn masses(fs: &[f64], atoms: usize) -> &[f64] {
 }
 
 fn pace() -> Pace {
-    let thermostat = Thermostat::Present {
+    let thermostat = Some(Thermostat {
         target_k: 300.0,
         tau_fs: 100.0,
-    };
+    });
     Pace {
         dt: 1.0,
         thermostat,
@@ -247,6 +246,6 @@ pub(crate) fn list() -> State {
         checks: 0,
         fallback: false,
         builds: 0,
-        built_in: Cell::Absent,
+        built_in: None,
     }
 }

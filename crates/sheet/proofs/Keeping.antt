@@ -1,4 +1,5 @@
 -- Laws of one line on the desk: what `exclude` answers is the set with one pair more, and where a line's number lies. Assumes nothing.
+use Rattle.std.specs.Prelude.{Err, Ok, Result}
 use Prim.Native.Nat.{ℕ, zero, suc, ◌+◌, ◌≤◌, ◌<◌}
 use mathlib.Core.Path.{◌≡◌, refl, sym, ap, ◌∙◌}
 use mathlib.Core.Bool.{Bool, true, cond}
@@ -10,8 +11,6 @@ use lib.ListN.{length, get_or, take}
 use lib.Dec.{leb}
 use borrow.Author.Tests.{le-ltb, leb-true}
 use Rattle.answer.specs.Seen.{answered, refused, refused_by}
-use Rattle.answer.specs.declared.Whole.{Whole}
-use Rattle.answer.specs.declared.Whole.TheVariants.{Answered, Refused}
 use Rattle.answer.specs.declared.Refusal.{Refusal}
 use Rattle.lists.specs.Lists.{rows}
 use Rattle.lists.proofs.Cases.{by_test, impossible}
@@ -62,7 +61,7 @@ module _ (count a b : ℕ) (t u : List ℕ) (fit : Fit count t) where
         fits = record { size = ap length m ∙ (hold_length t more le ∙ fit.size); few = few'; table = rw same (added_table a b (take count (rows t)) fit.table) };
       }
 
-  pub when_answered : (w : Whole) (n : ℕ) → w ≡ Answered n → ExcludeSays count a b t w u → Told n
+  pub when_answered : (w : Result ℕ Refusal) (n : ℕ) → w ≡ Ok n → ExcludeSays count a b t w u → Told n
   unfolding grown
   when_answered w n e says =
       let s : record { shown = answered n; table = u } ≡ grown t more = (rw e at says) ∙ is_grown in
@@ -74,7 +73,7 @@ module _ (count a b : ℕ) (t u : List ℕ) (fit : Fit count t) where
       refl
       s
 
-  pub when_refused : (w : Whole) (r : Refusal) → w ≡ Refused r → ExcludeSays count a b t w u → none ≡ excluding a b (take count (rows t))
+  pub when_refused : (w : Result ℕ Refusal) (r : Refusal) → w ≡ Err r → ExcludeSays count a b t w u → none ≡ excluding a b (take count (rows t))
   unfolding grown excluding
   when_refused w r e says =
       let s : record { shown = refused_by r; table = u } ≡ grown t more = (rw e at says) ∙ is_grown in

@@ -1,5 +1,6 @@
 -- Laws of the lines of any form in turn: one turn of a reader's loop, its ends, and how far a line goes. A form is its lines from a place on, each told in the
 -- first form. Assumes nothing.
+use Rattle.std.specs.Prelude.{Err, Ok, Result}
 use Prim.Native.Nat.{ℕ, suc, ◌+◌, ◌-◌, ◌≤◌, ◌<◌}
 use mathlib.Core.Path.{◌≡◌, sym, ap, ◌∙◌}
 use mathlib.Core.Bool.{false}
@@ -19,8 +20,6 @@ use Rattle.sheet.specs.Meaning.{Meaning, acted, act_of}
 use Rattle.sheet.specs.Reading.{refusal_for, onward, run}
 use Rattle.sheet.specs.Desk.{meaning_for, shown_kept, Fit, FitKept}
 use Rattle.sheet.specs.declared.desk.Desk.{Desk}
-use Rattle.sheet.specs.declared.desk.Kept as kept
-use Rattle.sheet.specs.declared.desk.Kept.TheVariants as keeps
 
 -- ---- what one line came to, and the rest
 module _ (r : Refusal) (f : Meaning → Seen Meaning) where
@@ -72,7 +71,7 @@ module _ (lines : ℕ → List ℕ → ℕ → List Line) where
     pub most : w ≤ 43
 
   module _ {s co₀ se₀ co se ta : List ℕ} {d : Desk} {at n : ℕ} (v : Half lines s co₀ se₀ co se ta d at n) (l : Line) (w : ℕ) (x : OneMore s at n l w)
-      (k : kept.Kept) (co' se' ta' : List ℕ) (says : shown_kept k co' se' ta' ≡ onward (acted (act_of l) (meaning_for d co se ta)) (refusal_for l (n + 1)) answered) where
+      (k : Result Desk Refusal) (co' se' ta' : List ℕ) (says : shown_kept k co' se' ta' ≡ onward (acted (act_of l) (meaning_for d co se ta)) (refusal_for l (n + 1)) answered) where
     -- a turn: the lines from here on come to what the lines after this one come to
     turn : run (lines (length s - n) s at) n (meaning_for d co se ta) ≡ onward (acted (act_of l) (meaning_for d co se ta)) (refusal_for l (n + 1)) (λ m'. run (lines (length s - (n + 1)) s (at + w)) (n + 1) m')
     turn =
@@ -80,12 +79,12 @@ module _ (lines : ℕ → List ℕ → ℕ → List Line) where
         ap (λ (f : ℕ). run (lines f s at) n (meaning_for d co se ta)) e
         ∙ ap (λ (ls : List Line). run ls n (meaning_for d co se ta)) (x.first (length s - (n + 1)))
 
-    pub half_wide : (d' : Desk) → k ≡ keeps.Next d' → (11 ≤ w) × (w ≤ 43)
+    pub half_wide : (d' : Desk) → k ≡ Ok d' → (11 ≤ w) × (w ≤ 43)
     half_wide d' p =
         let q : answered (meaning_for d' co' se' ta') ≡ onward (acted (act_of l) (meaning_for d co se ta)) (refusal_for l (n + 1)) answered = rw p at says in
         (x.least (next_well l (meaning_for d co se ta) (meaning_for d' co' se' ta') (n + 1) q), x.most)
 
-    pub half_next : (d' : Desk) → k ≡ keeps.Next d' → FitKept k ta' → length co' ≡ length co → length se' ≡ length se → Half lines s co₀ se₀ co' se' ta' d' (at + w) (n + 1)
+    pub half_next : (d' : Desk) → k ≡ Ok d' → FitKept k ta' → length co' ≡ length co → length se' ≡ length se → Half lines s co₀ se₀ co' se' ta' d' (at + w) (n + 1)
     half_next d' p g a b =
         let q : answered (meaning_for d' co' se' ta') ≡ onward (acted (act_of l) (meaning_for d co se ta)) (refusal_for l (n + 1)) answered = rw p at says in
         let on : onward (acted (act_of l) (meaning_for d co se ta)) (refusal_for l (n + 1)) (λ m'. run (lines (length s - (n + 1)) s (at + w)) (n + 1) m') ≡ run (lines (length s - (n + 1)) s (at + w)) (n + 1) (meaning_for d' co' se' ta') =
@@ -98,7 +97,7 @@ module _ (lines : ℕ → List ℕ → ℕ → List Line) where
           same = sym on ∙ (sym turn ∙ v.same);
         }
 
-    pub half_stop : (r : Refusal) → k ≡ keeps.Refused r → refused_by r ≡ run (lines (length s) s 0) 0 (start co₀ se₀)
+    pub half_stop : (r : Refusal) → k ≡ Err r → refused_by r ≡ run (lines (length s) s 0) 0 (start co₀ se₀)
     half_stop r p =
         let q : refused_by r ≡ onward (acted (act_of l) (meaning_for d co se ta)) (refusal_for l (n + 1)) answered = rw p at says in
         sym (stop_here (refusal_for l (n + 1)) (λ m'. run (lines (length s - (n + 1)) s (at + w)) (n + 1) m') (acted (act_of l) (meaning_for d co se ta)) (number_of r) (place_of r) q)

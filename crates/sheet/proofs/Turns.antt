@@ -1,4 +1,5 @@
 -- The lines of the first form in turn (Turning): one turn of `read_lines`, and its ends. Assumes nothing.
+use Rattle.std.specs.Prelude.{Err, Ok, Result}
 use Prim.Native.Nat.{ℕ, zero, suc, ◌+◌, ◌-◌, ◌≤◌, ◌<◌}
 use mathlib.Core.Path.{◌≡◌, refl}
 use mathlib.Core.Bool.{false}
@@ -16,8 +17,6 @@ use Rattle.sheet.specs.Meaning.{acted, act_of}
 use Rattle.sheet.specs.Reading.{refusal_for, onward, run}
 use Rattle.sheet.specs.Desk.{meaning_for, shown_kept, FitKept}
 use Rattle.sheet.specs.declared.desk.Desk.{Desk}
-use Rattle.sheet.specs.declared.desk.Kept as kept
-use Rattle.sheet.specs.declared.desk.Kept.TheVariants as keeps
 use Rattle.sheet.proofs.Turning.{Half, start, half_start, half_end, OneMore, half_wide, half_next, half_stop}
 
 wide_least : (l : Line) → WellFormed l → 11 ≤ line_width l
@@ -54,14 +53,14 @@ pub halfway_start : (s co se ta : List ℕ) (d : Desk) → length co ≡ 3072 �
 halfway_start s co se ta d a b c h = half_start lines_from s co se ta d a b c h
 
 module _ {s co₀ se₀ co se ta : List ℕ} {d : Desk} {at n : ℕ} (v : Halfway s co₀ se₀ co se ta d at n) (l : Line) (w : ℕ) (h : at < length s) (e : l ≡ line_at s at) (f : w ≡ line_width l)
-    (k : kept.Kept) (co' se' ta' : List ℕ) (says : shown_kept k co' se' ta' ≡ onward (acted (act_of l) (meaning_for d co se ta)) (refusal_for l (n + 1)) answered) where
-  pub kept_wide : (d' : Desk) → k ≡ keeps.Next d' → (11 ≤ w) × (w ≤ 43)
+    (k : Result Desk Refusal) (co' se' ta' : List ℕ) (says : shown_kept k co' se' ta' ≡ onward (acted (act_of l) (meaning_for d co se ta)) (refusal_for l (n + 1)) answered) where
+  pub kept_wide : (d' : Desk) → k ≡ Ok d' → (11 ≤ w) × (w ≤ 43)
   kept_wide d' p = half_wide lines_from v l w (one_more s at n l w h e f) k co' se' ta' says d' p
 
-  pub halfway_next : (d' : Desk) → k ≡ keeps.Next d' → FitKept k ta' → length co' ≡ length co → length se' ≡ length se → Halfway s co₀ se₀ co' se' ta' d' (at + w) (n + 1)
+  pub halfway_next : (d' : Desk) → k ≡ Ok d' → FitKept k ta' → length co' ≡ length co → length se' ≡ length se → Halfway s co₀ se₀ co' se' ta' d' (at + w) (n + 1)
   halfway_next d' p g a b = half_next lines_from v l w (one_more s at n l w h e f) k co' se' ta' says d' p g a b
 
-  pub halfway_stop : (r : Refusal) → k ≡ keeps.Refused r → refused_by r ≡ run (lines_of s) 0 (start co₀ se₀)
+  pub halfway_stop : (r : Refusal) → k ≡ Err r → refused_by r ≡ run (lines_of s) 0 (start co₀ se₀)
   unfolding lines_of
   halfway_stop r p = half_stop lines_from v l w (one_more s at n l w h e f) k co' se' ta' says r p
 

@@ -1,4 +1,5 @@
 -- The lines of the second form in turn (Turning), told in the first form; an atom's number is below 1,024; the species of one atom more. Assumes nothing.
+use Rattle.std.specs.Prelude.{None, Option, Some}
 use Prim.Native.Nat.{ℕ, zero, suc, ◌+◌, ◌*◌, ◌≤◌, ◌<◌, ◌^◌}
 use mathlib.Core.Path.{◌≡◌, refl, sym, ap, ◌∙◌}
 use mathlib.Core.Bool.{Bool, true, false, cond}
@@ -15,8 +16,6 @@ use Rattle.hexadecimal.specs.Digits.{byte_at, hex2, hex4, hex8}
 use Rattle.hexadecimal.proofs.Writing.{put_put}
 use Rattle.sheet_lines.specs.Grammar.{WellFormed}
 use Rattle.sheet_lines.specs.Reading.{three_at, header_of, atom_of, exclusion_of}
-use Rattle.sheet_lines.specs.declared.Three.{Three}
-use Rattle.sheet_lines.specs.declared.Three.TheVariants.{Of, Nothing}
 use Rattle.sheet_lines.specs.declared.Line.{Line}
 use Rattle.sheet_lines.specs.declared.Line.TheVariants.{Header, Atom, Exclusion, Malformed, End}
 use Rattle.sheet_lines_two.specs.declared.TwoLine.{TwoLine}
@@ -69,16 +68,16 @@ below_if : (b : Bool) (x y : Line) → (b ≡ true → NumberBelow x) → Number
 below_if true x y f g = f refl
 below_if false x y f g = g
 
-below_header : (a : ℕ) (t : Three) (m r z : ℕ) → NumberBelow (header_of a t m r z)
+below_header : (a : ℕ) (t : Option (ℕ × ℕ × ℕ)) (m r z : ℕ) → NumberBelow (header_of a t m r z)
 unfolding header_of
-below_header a Nothing m r z = tt
-below_header a (Of x y w) m r z =
+below_header a None m r z = tt
+below_header a (Some (x, y, w)) m r z =
     below_if (ltb a (2 ^ 16)) _ _ (λ _. below_if (ltb m 8) _ _ (λ _. below_if (ltb r (2 ^ 32)) _ _ (λ _. below_if (eqb z 10) _ _ (λ _. tt) tt) tt) tt) tt
 
-below_atom : (n : ℕ) (t : Three) (z : ℕ) → NumberBelow (atom_of n t z)
+below_atom : (n : ℕ) (t : Option (ℕ × ℕ × ℕ)) (z : ℕ) → NumberBelow (atom_of n t z)
 unfolding atom_of
-below_atom n Nothing z = tt
-below_atom n (Of x y w) z = below_if (ltb n 1024) _ _ (λ p. below_if (eqb z 10) _ _ (λ _. ltb-true n 1024 p) tt) tt
+below_atom n None z = tt
+below_atom n (Some (x, y, w)) z = below_if (ltb n 1024) _ _ (λ p. below_if (eqb z 10) _ _ (λ _. ltb-true n 1024 p) tt) tt
 
 below_exclusion : (a b z : ℕ) → NumberBelow (exclusion_of a b z)
 unfolding exclusion_of

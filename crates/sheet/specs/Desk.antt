@@ -1,4 +1,6 @@
 -- How the desk and its three tables stand for a meaning while the lines are read. Definitions only.
+use Rattle.std.specs.Prelude.{Err, None, Ok, Option as RustOption, Result, Some}
+use Rattle.answer.specs.declared.Refusal.{Refusal}
 use Rattle.std.specs.Prelude.{ℕ, ◌≤◌, ◌<◌, ◌≡◌, true, cond, List, length, take}
 use Rattle.std.proofs.Math.Option.{Option, none, some}
 use Rattle.answer.specs.Seen.{Seen, answered, refused_by}
@@ -10,12 +12,6 @@ use Rattle.sheet_lines.specs.declared.Line.TheVariants.{Header, Atom, Exclusion,
 use Rattle.sheet.specs.Meaning.{Meaning}
 use Rattle.sheet.specs.ReadTwo.{rule_in}
 use Rattle.sheet.specs.declared.desk.Desk.{Desk}
-use Rattle.sheet.specs.declared.desk.Kept as kept
-use Rattle.sheet.specs.declared.desk.Kept.TheVariants as keeps
-use Rattle.sheet.specs.declared.desk.Count.{Count}
-use Rattle.sheet.specs.declared.desk.Count.TheVariants.{Held, Full}
-use Rattle.sheet.specs.declared.judge.Judged as judged
-use Rattle.sheet.specs.declared.judge.Judged.TheVariants as judges
 
 abbrev pub header_for : Desk → Option Head
 header_for d = cond d.has (some d.head) none
@@ -24,22 +20,22 @@ abbrev pub meaning_for : Desk → List ℕ → List ℕ → List ℕ → Meaning
 meaning_for d co se ta =
     record { header = header_for d; atoms = record { coords = co; marks = se }; rows = take d.count (rows ta) }
 
-abbrev pub shown_kept : kept.Kept → List ℕ → List ℕ → List ℕ → Seen Meaning
-shown_kept (keeps.Next d) co se ta = answered (meaning_for d co se ta)
-shown_kept (keeps.Refused r) co se ta = refused_by r
+abbrev pub shown_kept : Result Desk Refusal → List ℕ → List ℕ → List ℕ → Seen Meaning
+shown_kept (Ok d) co se ta = answered (meaning_for d co se ta)
+shown_kept (Err r) co se ta = refused_by r
 
 -- the rule, of a desk on which the species were read
-abbrev pub rule_kept : kept.Kept → ℕ
-rule_kept (keeps.Next d) = rule_in (header_for d)
-rule_kept (keeps.Refused r) = 1
+abbrev pub rule_kept : Result Desk Refusal → ℕ
+rule_kept (Ok d) = rule_in (header_for d)
+rule_kept (Err r) = 1
 
-abbrev pub shown_rows : Count → List ℕ → Option (List (ℕ × ℕ))
-shown_rows (Held n) ta = some (take n (rows ta))
-shown_rows Full ta = none
+abbrev pub shown_rows : RustOption ℕ → List ℕ → Option (List (ℕ × ℕ))
+shown_rows (Some n) ta = some (take n (rows ta))
+shown_rows None ta = none
 
-abbrev pub shown_judged : judged.Judged → Seen Head
-shown_judged (judges.Sound h) = answered h
-shown_judged (judges.Refused r) = refused_by r
+abbrev pub shown_judged : Result Head Refusal → Seen Head
+shown_judged (Ok h) = answered h
+shown_judged (Err r) = refused_by r
 
 -- the first rows of the table are an exclusion table
 pub record Fit (count : ℕ) (ta : List ℕ) : Type 0 where
@@ -47,13 +43,13 @@ pub record Fit (count : ℕ) (ta : List ℕ) : Type 0 where
   pub few : count ≤ 1024
   pub table : is_table (take count (rows ta)) ≡ true
 
-abbrev pub FitCount : Count → List ℕ → Type 0
-FitCount (Held n) ta = Fit n ta
-FitCount Full ta = Unit {0}
+abbrev pub FitCount : RustOption ℕ → List ℕ → Type 0
+FitCount (Some n) ta = Fit n ta
+FitCount None ta = Unit {0}
 
-abbrev pub FitKept : kept.Kept → List ℕ → Type 0
-FitKept (keeps.Next d) ta = Fit d.count ta
-FitKept (keeps.Refused r) ta = Unit {0}
+abbrev pub FitKept : Result Desk Refusal → List ℕ → Type 0
+FitKept (Ok d) ta = Fit d.count ta
+FitKept (Err r) ta = Unit {0}
 
 -- an atom line's number is below 1,024
 abbrev pub NumberBelow : Line → Type 0

@@ -1,14 +1,14 @@
 -- What the public call `read` answers, and what it leaves in what is lent: one outcome from the entry values alone. Definitions only.
+use Rattle.std.specs.Prelude.{Result}
+use Rattle.answer.specs.declared.Refusal.{Refusal}
 use Rattle.std.specs.Prelude.{ℕ, ◌/◌, ◌%◌, ◌≡◌, cond, List, length, ltb, eqb}
 use Rattle.std.proofs.lemmas.List.Edits.{sets}
-use Rattle.answer.specs.Seen.{Seen, answered, refused, refused_by}
+use Rattle.answer.specs.Seen.{Seen, answered, refused, refused_by, seen}
 use Rattle.answer.specs.declared.Refusal.TheVariants.{Lengths}
 use Rattle.lists.specs.Lists.{flat}
 use Rattle.sheet_lines.specs.declared.Head.{Head}
 use Rattle.sheet.specs.Reading.{Sound, sheet_of}
 use Rattle.sheet.specs.declared.Job.{Job}
-use Rattle.sheet.specs.declared.Sheet as sheet
-use Rattle.sheet.specs.declared.Sheet.TheVariants as sheets
 
 -- the header's numbers; of the mask x is bit 0, y bit 1, z bit 2
 unfoldable pub job_for : Head → ℕ → Job
@@ -44,9 +44,5 @@ read_of s co ex =
     (cond (ltb (length co) 3072) (handed (refused_by Lengths) co ex)
     (cond (ltb (length ex) 2048) (handed (refused_by Lengths) co ex) (handed (sheet_of s) co ex)))
 
-abbrev pub seen_sheet : sheet.Sheet → Seen Job
-seen_sheet (sheets.Answered j) = answered j
-seen_sheet (sheets.Refused r) = refused_by r
-
-abbrev pub ReadSays : List ℕ → List ℕ → List ℕ → sheet.Sheet → List ℕ → List ℕ → Type 0
-ReadSays s co ex r co' ex' = record { shown = seen_sheet r; coordinates = co'; exclusions = ex' } ≡ read_of s co ex
+abbrev pub ReadSays : List ℕ → List ℕ → List ℕ → Result Job Refusal → List ℕ → List ℕ → Type 0
+ReadSays s co ex r co' ex' = record { shown = seen r; coordinates = co'; exclusions = ex' } ≡ read_of s co ex

@@ -1,9 +1,11 @@
 -- A sheet of the second form (02, No. 9 and 10) as a whole, and what `read_two` answers and leaves. Its lines are told in the first form twice: with their coordinates and their
 -- radius, and with their species and their rule where these stand; so species belong to atom numbers, and the rule to the header, by the laws of the first form. Definitions only.
+use Rattle.std.specs.Prelude.{Result}
+use Rattle.answer.specs.declared.Refusal.{Refusal}
 use Rattle.std.specs.Prelude.{ℕ, zero, suc, ◌*◌, ◌≡◌, Bool, true, false, cond, List, [], ◌∷◌, ◌++◌, map, length, get_or, ltb}
 use Rattle.std.proofs.Math.Option.{Option, none, some}
 use Rattle.std.proofs.lemmas.List.Edits.{sets}
-use Rattle.answer.specs.Seen.{Seen, answered, refused, refused_by}
+use Rattle.answer.specs.Seen.{Seen, answered, refused, refused_by, seen}
 use Rattle.answer.specs.declared.Refusal.TheVariants.{Lengths}
 use Rattle.lists.specs.Lists.{flat}
 use Rattle.sheet_lines.specs.declared.Head.{Head}
@@ -12,8 +14,6 @@ use Rattle.sheet.specs.Meaning.{Meaning}
 use Rattle.sheet.specs.Reading.{run, blank, Sound, then_tested}
 use Rattle.sheet.specs.Read.{job_for}
 use Rattle.sheet.specs.declared.two.RuledJob.{RuledJob}
-use Rattle.sheet.specs.declared.two.RuledSheet.{RuledSheet}
-use Rattle.sheet.specs.declared.two.RuledSheet.TheVariants as ruledSheets
 
 -- the first of an atom's three numbers, of the atoms below n
 abbrev pub species_in : ℕ → List ℕ → List ℕ
@@ -74,10 +74,6 @@ read_two_of s co sp ex =
     (cond (ltb (length sp) 1024) (handed_two (refused_by Lengths) co sp ex)
     (cond (ltb (length ex) 2048) (handed_two (refused_by Lengths) co sp ex) (handed_two (sheet_two s) co sp ex))))
 
-abbrev pub seen_ruled : RuledSheet → Seen RuledJob
-seen_ruled (ruledSheets.Answered j) = answered j
-seen_ruled (ruledSheets.Refused r) = refused_by r
-
-abbrev pub ReadTwoSays : List ℕ → List ℕ → List ℕ → List ℕ → RuledSheet → List ℕ → List ℕ → List ℕ → Type 0
+abbrev pub ReadTwoSays : List ℕ → List ℕ → List ℕ → List ℕ → Result RuledJob Refusal → List ℕ → List ℕ → List ℕ → Type 0
 ReadTwoSays s co sp ex r co' sp' ex' =
-    record { shown = seen_ruled r; coordinates = co'; species = sp'; exclusions = ex' } ≡ read_two_of s co sp ex
+    record { shown = seen r; coordinates = co'; species = sp'; exclusions = ex' } ≡ read_two_of s co sp ex

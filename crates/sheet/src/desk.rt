@@ -9,7 +9,7 @@ ghost use Rattle.sheet.specs.Meaning.{fresh, placed, excluding, acted, act_of};
 ghost use Rattle.sheet.specs.Reading.{refusal_for, onward, run};
 ghost use Rattle.sheet.specs.Desk.{meaning_for, shown_kept, shown_rows, Fit, FitCount, FitKept, NumberBelow};
 
-use answer::{Refusal, Whole};
+use answer::Refusal;
 use exclusions::exclude;
 use sheet_lines::{Head, Line, line_at, width};
 
@@ -20,28 +20,15 @@ pub(crate) struct Desk {
     pub count: u32,
 }
 
-#[derive(Drop)]
-pub(crate) enum Kept {
-    Next(Desk),
-    Refused(Refusal),
-}
-
-// How many exclusions there are now, or that there is no room for one more.
-#[derive(Drop)]
-pub(crate) enum Count {
-    Held(u32),
-    Full,
-}
-
-fn keep_exclusion(table: &mut [u32], count: u32, a: u32, b: u32) -> Count
+fn keep_exclusion(table: &mut [u32], count: u32, a: u32, b: u32) -> Option<u32>
     requires { Fit count table.old }
     ensures table_after { shown_rows result table.new ≡ excluding a b (take count (rows table.old)) }
     ensures fit_count { FitCount result table.new }
 {
     let whole = exclude(count, a, b, table);
     match whole {
-        Whole::Answered(n) => Count::Held(n as u32),
-        Whole::Refused(_) => Count::Full,
+        Ok(n) => Some(n as u32),
+        Err(_) => None,
     }
 }
 
@@ -71,7 +58,7 @@ pub(crate) fn keep(
     coords: &mut [u32],
     seen: &mut [u8],
     table: &mut [u32],
-) -> Kept
+) -> Result<Desk, Refusal>
     requires { NumberBelow line × Fit desk.count table.old × (length coords.old ≡ 3072) × (length seen.old ≡ 1024) }
     ensures table_after { shown_kept result coords.new seen.new table.new ≡ onward (acted (act_of line) (meaning_for desk coords.old seen.old table.old)) (refusal_for line n) (λ m. answered m) }
     ensures fit_kept { FitKept result table.new }
@@ -80,9 +67,9 @@ pub(crate) fn keep(
     match line {
         Line::Header(h) => {
             if desk.has {
-                return Kept::Refused(Refusal::Again { line: n });
+                return Err(Refusal::Again { line: n });
             }
-            Kept::Next(Desk {
+            Ok(Desk {
                 has: true,
                 head: h,
                 count,
@@ -91,24 +78,24 @@ pub(crate) fn keep(
         Line::Atom { number, x, y, z } => {
             let own = number as usize;
             if keep_atom(coords, seen, own, x, y, z) {
-                return Kept::Next(desk);
+                return Ok(desk);
             }
-            Kept::Refused(Refusal::Again { line: n })
+            Err(Refusal::Again { line: n })
         }
         Line::Exclusion { first, second } => {
             let held = keep_exclusion(table, count, first, second);
-            let Count::Held(more) = held else {
-                return Kept::Refused(Refusal::Room { count: 1025 });
+            let Some(more) = held else {
+                return Err(Refusal::Room { count: 1025 });
             };
             let head = desk.head;
-            Kept::Next(Desk {
+            Ok(Desk {
                 has: desk.has,
                 head,
                 count: more,
             })
         }
-        Line::Malformed => Kept::Refused(Refusal::Malformed { line: n }),
-        Line::End => Kept::Refused(Refusal::Malformed { line: n }),
+        Line::Malformed => Err(Refusal::Malformed { line: n }),
+        Line::End => Err(Refusal::Malformed { line: n }),
     }
 }
 
@@ -129,8 +116,13 @@ pub(crate) fn blank() -> Desk
     }
 }
 
-// The lines in turn, each tested for 9, 10 and 8; the first that is refused ends the reading.
-pub(crate) fn read_lines(s: &[u8], coords: &mut [u32], seen: &mut [u8], table: &mut [u32]) -> Kept
+// The lines in turn, each tested for 9, 10 and 8; the first that is refused ends the reading. A `while`, since each line says how wide it is.
+pub(crate) fn read_lines(
+    s: &[u8],
+    coords: &mut [u32],
+    seen: &mut [u8],
+    table: &mut [u32],
+) -> Result<Desk, Refusal>
     requires { (length coords.old ≡ 3072) × (length seen.old ≡ 1024) × (length table.old ≡ 2048) }
     ensures table_after { shown_kept result coords.exit.now seen.new table.new ≡ run (lines_of s.now) 0 (record { header = none; atoms = record { coords = coords.entry.now; marks = seen.old }; rows = [] }) }
     ensures fit_kept { FitKept result table.new }
@@ -142,16 +134,8 @@ pub(crate) fn read_lines(s: &[u8], coords: &mut [u32], seen: &mut [u8], table: &
         let line = line_at(s, at);
         let wide = width(line);
         n += 1;
-        let kept = keep(line, n, desk, coords, seen, table);
-        match kept {
-            Kept::Next(next) => {
-                desk = next;
-                at += wide;
-            }
-            Kept::Refused(r) => {
-                return Kept::Refused(r);
-            }
-        }
+        desk = keep(line, n, desk, coords, seen, table)?;
+        at += wide;
     }
-    Kept::Next(desk)
+    Ok(desk)
 }

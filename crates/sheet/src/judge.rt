@@ -8,47 +8,39 @@ use crate::desk::Desk;
 use answer::{NO_HEADER, Refusal};
 use sheet_lines::Head;
 
-#[derive(Drop)]
-pub(crate) enum Judged {
-    Sound(Head),
-    Refused(Refusal),
-}
-
 // The first place from `from` on whose mark is not v, or the length.
 fn lead(seen: &[u8], from: usize, v: u8) -> usize
     requires { from ≤ length seen.now }
     ensures { result ≡ from + lead_of v (drop from seen.now) }
 {
-    let mut i = from;
-    while i < seen.len() {
+    for i in from..seen.len() {
         if seen[i] != v {
             return i;
         }
-        i += 1;
     }
-    i
+    seen.len()
 }
 
-fn count_of(head: Head, seen: &[u8]) -> Judged
+fn count_of(head: Head, seen: &[u8]) -> Result<Head, Refusal>
     requires { length seen.now ≡ 1024 }
     ensures { shown_judged result ≡ counted head seen.now }
 {
     let atoms = head.atoms as usize;
     if 1024 < atoms {
-        return Judged::Refused(Refusal::TooMany { atoms });
+        return Err(Refusal::TooMany { atoms });
     }
     let stray = lead(seen, atoms, 0);
     if stray < 1024 {
-        return Judged::Refused(Refusal::NotThere { row: stray });
+        return Err(Refusal::NotThere { row: stray });
     }
     let absent = lead(seen, 0, 1);
     if absent < atoms {
-        return Judged::Refused(Refusal::Absent { place: absent });
+        return Err(Refusal::Absent { place: absent });
     }
-    Judged::Sound(head)
+    Ok(head)
 }
 
-pub(crate) fn judge(desk: Desk, seen: &[u8]) -> Judged
+pub(crate) fn judge(desk: Desk, seen: &[u8]) -> Result<Head, Refusal>
     requires { length seen.now ≡ 1024 }
     ensures { shown_judged result ≡ tested (header_for desk) seen.now }
 {
@@ -56,5 +48,5 @@ pub(crate) fn judge(desk: Desk, seen: &[u8]) -> Judged
         let head = desk.head;
         return count_of(head, seen);
     }
-    Judged::Refused(Refusal::Absent { place: NO_HEADER })
+    Err(Refusal::Absent { place: NO_HEADER })
 }

@@ -10,13 +10,13 @@ pub mod two;
 
 ghost use Rattle.std.specs.Prelude.{◌≡◌, ◌≤◌, length, take};
 ghost use Rattle.std.proofs.lemmas.List.Edits.{sets};
-ghost use Rattle.answer.specs.Seen.{answered};
+ghost use Rattle.answer.specs.Seen.{answered, seen};
 ghost use Rattle.sheet.specs.Reading.{then_tested};
 ghost use Rattle.sheet.specs.Desk.{Fit, meaning_for};
-ghost use Rattle.sheet.specs.Read.{job_for, handed, seen_sheet, ReadSays};
+ghost use Rattle.sheet.specs.Read.{job_for, handed, ReadSays};
 
-use crate::desk::{Desk, Kept, read_lines};
-use crate::judge::{Judged, judge};
+use crate::desk::{Desk, read_lines};
+use crate::judge::judge;
 use sheet_lines::Head;
 
 // What a sheet says beside its coordinates and exclusions: the atoms, the box (edges, and which axes are periodic), the
@@ -32,12 +32,6 @@ pub struct Job {
     pub pz: bool,
     pub radius: u32,
     pub count: u32,
-}
-
-#[derive(Drop)]
-pub enum Sheet {
-    Answered(Job),
-    Refused(Refusal),
 }
 
 fn job_of(head: Head, count: u32) -> Job
@@ -56,15 +50,13 @@ fn job_of(head: Head, count: u32) -> Job
     }
 }
 
-// The first n numbers of a table, into another.
+// The first n numbers of a table, into another. A loop, since `copy_from_slice` would have the library ask for `memmove`, and it asks for `memcpy` and `memset` alone.
 fn copy_in(from: &[u32], to: &mut [u32], n: usize)
     requires { (n ≤ length from.now) × (n ≤ length to.old) }
     ensures { to.new ≡ sets to.old 0 (take n from.now) }
 {
-    let mut i: usize = 0;
-    while i < n {
+    for i in 0..n {
         to[i] = from[i];
-        i += 1;
     }
 }
 
@@ -72,48 +64,40 @@ fn copy_in(from: &[u32], to: &mut [u32], n: usize)
 fn settle(
     desk: Desk,
     coords: &[u32],
-    seen: &[u8],
+    marks: &[u8],
     table: &[u32],
     coordinates: &mut [u32],
     exclusions: &mut [u32],
-) -> Sheet
-    requires { Fit desk.count table.now × (length coords.now ≡ 3072) × (length seen.now ≡ 1024) × (3072 ≤ length coordinates.old) × (2048 ≤ length exclusions.old) }
-    ensures { record { shown = seen_sheet result; coordinates = coordinates.new; exclusions = exclusions.new } ≡ handed (then_tested (answered (meaning_for desk coords.now seen.now table.now))) coordinates.old exclusions.old }
+) -> Result<Job, Refusal>
+    requires { Fit desk.count table.now × (length coords.now ≡ 3072) × (length marks.now ≡ 1024) × (3072 ≤ length coordinates.old) × (2048 ≤ length exclusions.old) }
+    ensures { record { shown = seen result; coordinates = coordinates.new; exclusions = exclusions.new } ≡ handed (then_tested (answered (meaning_for desk coords.now marks.now table.now))) coordinates.old exclusions.old }
 {
-    let judged = judge(desk, seen);
-    match judged {
-        Judged::Sound(head) => {
-            let atoms = head.atoms as usize;
-            let count = desk.count;
-            let rows = count as usize;
-            copy_in(coords, coordinates, 3 * atoms);
-            copy_in(table, exclusions, 2 * rows);
-            Sheet::Answered(job_of(head, count))
-        }
-        Judged::Refused(r) => Sheet::Refused(r),
-    }
+    let head = judge(desk, marks)?;
+    let atoms = head.atoms as usize;
+    let count = desk.count;
+    let rows = count as usize;
+    copy_in(coords, coordinates, 3 * atoms);
+    copy_in(table, exclusions, 2 * rows);
+    Ok(job_of(head, count))
 }
 
 // A sheet's numbers, with the coordinates three an atom and the exclusions two a row in what is lent. A refusal touches
 // nothing: the lines are read into tables of the call's own.
-pub fn read(input: &[u8], coordinates: &mut [u32], exclusions: &mut [u32]) -> Sheet
+pub fn read(input: &[u8], coordinates: &mut [u32], exclusions: &mut [u32]) -> Result<Job, Refusal>
     ensures { ReadSays input.now coordinates.old exclusions.old result coordinates.new exclusions.new }
 {
     if 65536 < input.len() {
-        return Sheet::Refused(Refusal::Lengths);
+        return Err(Refusal::Lengths);
     }
     if coordinates.len() < 3072 {
-        return Sheet::Refused(Refusal::Lengths);
+        return Err(Refusal::Lengths);
     }
     if exclusions.len() < 2048 {
-        return Sheet::Refused(Refusal::Lengths);
+        return Err(Refusal::Lengths);
     }
     let mut coords = [0u32; 3072];
     let mut seen = [0u8; 1024];
     let mut table = [0u32; 2048];
-    let kept = read_lines(input, &mut coords, &mut seen, &mut table);
-    match kept {
-        Kept::Next(desk) => settle(desk, &coords, &seen, &table, coordinates, exclusions),
-        Kept::Refused(r) => Sheet::Refused(r),
-    }
+    let desk = read_lines(input, &mut coords, &mut seen, &mut table)?;
+    settle(desk, &coords, &seen, &table, coordinates, exclusions)
 }

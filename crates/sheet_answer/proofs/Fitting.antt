@@ -1,4 +1,6 @@
 -- No printed text is longer than 90,133 bytes, so an answered buffer holds it whole. Assumes nothing.
+use Rattle.std.specs.Prelude.{Result}
+use Rattle.answer.specs.declared.Refusal.{Refusal}
 use Prim.Native.Nat.{ℕ, ◌≤◌}
 use mathlib.Core.Path.{◌≡◌, sym, ap, ◌∙◌}
 use mathlib.Core.Bool.{cond}
@@ -8,13 +10,13 @@ use lib.ListN.{length, take, length-replicate, length-take}
 use lib.Seq.{sets, length-sets}
 use lib.Dec.{ltb}
 use borrow.Author.Tests.{ltb-false}
-use Rattle.answer.specs.Seen.{Seen, answered, refused, refused_by, seen_whole}
-use Rattle.answer.specs.declared.Whole.{Whole}
+use Rattle.answer.specs.Seen.{Seen, answered, refused, refused_by, seen}
 use Rattle.answer.specs.declared.Refusal.TheVariants.{Lengths}
 use Rattle.lists.specs.Lists.{rows, flat}
 use Rattle.lists.proofs.Cases.{by_test, impossible}
 use Rattle.lists.proofs.Rows.{length_rows}
-use Rattle.frame.specs.Build.{Counts, build_of}
+use Rattle.frame.specs.declared.Built.{Built}
+use Rattle.frame.specs.Build.{build_of}
 use Rattle.frame.proofs.Outcomes.{pairs_kept}
 use Rattle.sheet_printed.specs.Printed.{refusal_line}
 use Rattle.sheet_printed.proofs.Parts.{length_refusal, length_built}
@@ -25,7 +27,7 @@ use Rattle.sheet_answer.specs.Solve.{given_for, shown_text, job_text, printed, O
 use Rattle.sheet_answer.proofs.Telling.{front}
 
 -- a build with room for 8,192 pairs
-shown_fits : (a : Seen Counts) (pairs : List ℕ) → length pairs ≡ 16384 → length (shown_text a pairs) ≤ 90133
+shown_fits : (a : Seen Built) (pairs : List ℕ) → length pairs ≡ 16384 → length (shown_text a pairs) ≤ 90133
 shown_fits (answered c) pairs e =
     omega (arith, length_built c.pairs c.checks c.fallback (take c.pairs (rows pairs)), length-take c.pairs (rows pairs), length_rows pairs)
 shown_fits (refused n p) pairs e = omega (arith, length_refusal n p)
@@ -61,11 +63,11 @@ fits_by s out out' n h e q =
       text = ap (λ (l : List ℕ). take n l) q ∙ front (printed s) out n (sym e) (omega arith);
     }
 
-pub solve_fits : (s out : List ℕ) (r : Whole) (out' : List ℕ) → SolveSays s out r out' → SolveFits s r out'
+pub solve_fits : (s out : List ℕ) (r : Result ℕ Refusal) (out' : List ℕ) → SolveSays s out r out' → SolveFits s r out'
 unfolding solve_of
 solve_fits s out r out' says n a =
     by_test
-    (λ t. ◌≡◌ {A = Outcome} (record { shown = seen_whole r; out = out' }) (cond t (record { shown = refused_by Lengths; out = out }) (record { shown = answered (length (printed s)); out = sets out 0 (printed s) })) → Fits s n out')
+    (λ t. ◌≡◌ {A = Outcome} (record { shown = seen r; out = out' }) (cond t (record { shown = refused_by Lengths; out = out }) (record { shown = answered (length (printed s)); out = sets out 0 (printed s) })) → Fits s n out')
     (ltb (length out) 90133)
     (λ _ q. let h : answered n ≡ refused 1 0 = sym a ∙ ap (λ (o : Outcome). o.shown) q in impossible (cc))
     (λ e q. let h : answered n ≡ answered (length (printed s)) = sym a ∙ ap (λ (o : Outcome). o.shown) q in

@@ -1,4 +1,7 @@
 -- What `read` and `build` told is the list of a sheet, and its text is what is printed. Assumes nothing.
+use Rattle.std.specs.Prelude.{Err, Ok, Result}
+use Rattle.frame.specs.declared.Built.{Built}
+use Rattle.sheet_answer.specs.declared.SheetList.{SheetList}
 use Prim.Native.Nat.{ℕ, ◌+◌, ◌*◌, ◌/◌, ◌≤◌, ◌<◌}
 use mathlib.Core.Path.{◌≡◌, refl, sym, ap, ◌∙◌}
 use mathlib.Core.Bool.{Bool, true, false, cond}
@@ -8,9 +11,7 @@ use lib.ListN.{length, take, drop, replicate}
 use lib.Seq.{sets, sets-eq, take_at}
 use lib.Dec.{ltb, leb}
 use borrow.Author.Tests.{le-ltb, lt-ltb, leb-true}
-use Rattle.answer.specs.Seen.{Seen, answered, refused, refused_by, number_of, place_of}
-use Rattle.answer.specs.declared.Done.{Done}
-use Rattle.answer.specs.declared.Done.TheVariants.{Answered, Refused}
+use Rattle.answer.specs.Seen.{Seen, answered, refused, refused_by, number_of, place_of, seen}
 use Rattle.answer.specs.declared.Refusal.{Refusal}
 use Rattle.answer.specs.declared.Refusal.TheVariants.{Lengths, Room, Cells}
 use Rattle.lists.specs.Atoms.{atoms_of}
@@ -18,34 +19,30 @@ use Rattle.lists.specs.Lists.{flat}
 use Rattle.lists.proofs.Cases.{by_test, impossible}
 use Rattle.lists.proofs.Rows.{length_flat}
 use Rattle.frame.specs.declared.Frame.{Frame}
-use Rattle.frame.specs.declared.Built.{Built}
 use Rattle.frame.specs.Laying.{plain_of, crowded}
 use Rattle.frame.specs.Listed.{BuildLists}
-use Rattle.frame.specs.Build.{Given, Counts, Outcome, seen_built, stays, near_pairs, checks_of, shown_of, run_of, starts_laid, items_laid, frame_asked, after_of, build_of, BuildSays}
+use Rattle.frame.specs.Build.{Given, Outcome, stays, near_pairs, checks_of, shown_of, run_of, starts_laid, items_laid, frame_asked, after_of, build_of, BuildSays}
 use Rattle.frame.proofs.Outcomes.{pairs_kept}
 use Rattle.sheet_printed.specs.Printed.{refusal_line}
 use Rattle.sheet.specs.declared.Job.{Job}
 use Rattle.sheet.specs.Reading.{Sound, sheet_of}
 use Rattle.sheet.specs.Read as reading
-use Rattle.sheet.specs.declared.Sheet as sheet
-use Rattle.sheet.specs.declared.Sheet.TheVariants as sheets
 use Rattle.sheet.proofs.Sizes.{Full, full}
-use Rattle.sheet_answer.specs.declared.SheetList.{SheetList}
 use Rattle.sheet_answer.specs.Solve.{frame_for, given_for, shown_text, job_text, printed, solve_of, answer_text}
-use Rattle.sheet_answer.specs.List.{SheetCounts, seen_list, ListOutcome, given_by_job, with_atoms, job_list, list_for, sheet_list_of, ListSays, Sheeted}
+use Rattle.sheet_answer.specs.List.{ListOutcome, given_by_job, with_atoms, job_list, list_for, sheet_list_of, ListSays, Sheeted}
 use Rattle.sheet_answer.specs.Steps.{list_text}
 
 -- ---- what `build` told: the list of what was read
-with_answered : (n : ℕ) (a : Seen Counts) (c : SheetCounts) → with_atoms n a ≡ answered c → (c.atoms ≡ n) × (a ≡ answered c.built)
+with_answered : (n : ℕ) (a : Seen Built) (c : SheetList) → with_atoms n a ≡ answered c → (c.atoms ≡ n) × (a ≡ answered c.built)
 with_answered n (answered b) c e =
-    let h : record { atoms = n; built = b } ≡ c = cc in (sym (ap (λ (x : SheetCounts). x.atoms) h), ap (λ (x : SheetCounts). answered x.built) h)
+    let h : record { atoms = n; built = b } ≡ c = cc in (sym (ap (λ (x : SheetList). x.atoms) h), ap (λ (x : SheetList). answered x.built) h)
 with_answered n (refused k p) c e = impossible (cc)
 
-shown_room : (n k room : ℕ) (t : Bool) (c : Counts) → shown_of n k room t ≡ answered c → c.pairs ≤ room
+shown_room : (n k room : ℕ) (t : Bool) (c : Built) → shown_of n k room t ≡ answered c → c.pairs ≤ room
 unfolding shown_of
 shown_room n k room t c =
     by_test (λ b. cond b (answered (record { pairs = n; checks = k; fallback = t })) (refused_by (Room n)) ≡ answered c → c.pairs ≤ room) (leb n room)
-    (λ e q. let h : record { pairs = n; checks = k; fallback = t } ≡ c = cc in let g : n ≡ c.pairs = ap (λ (x : Counts). x.pairs) h in omega (arith, leb-true n room e))
+    (λ e q. let h : record { pairs = n; checks = k; fallback = t } ≡ c = cc in let g : n ≡ c.pairs = ap (λ (x : Built). x.pairs) h in omega (arith, leb-true n room e))
     (λ _ q. impossible (cc))
 
 module _ (i : Given) where
@@ -61,20 +58,20 @@ module _ (i : Given) where
   abbrev grid : Outcome
   grid = run_of i (starts_laid i.frame i.coordinates i.starts) (items_laid i.frame i.coordinates i.items) false
 
-  run_room : (ss it : List ℕ) (t : Bool) (c : Counts) → (run_of i ss it t).answer ≡ answered c → c.pairs ≤ length i.pairs / 2
+  run_room : (ss it : List ℕ) (t : Bool) (c : Built) → (run_of i ss it t).answer ≡ answered c → c.pairs ≤ length i.pairs / 2
   unfolding run_of
   run_room ss it t c q =
       shown_room (length (near_pairs i.frame i.coordinates i.exclusions)) (checks_of i.frame i.coordinates i.exclusions)
       (length i.pairs / 2) t c q
 
-  after_room : (a : Done) (c : Counts) → (after_of i a).answer ≡ answered c → c.pairs ≤ length i.pairs / 2
+  after_room : (a : Result (Unit {0}) Refusal) (c : Built) → (after_of i a).answer ≡ answered c → c.pairs ≤ length i.pairs / 2
   unfolding after_of
-  after_room (Refused r) c q = impossible (cc)
-  after_room Answered c q =
+  after_room (Err r) c q = impossible (cc)
+  after_room (Ok tt) c q =
       by_test
       (λ t. (cond t few (cond (plain_of i.frame) plain (cond (crowded i.frame (length i.starts)) crowd grid))).answer ≡ answered c → c.pairs ≤ length i.pairs / 2)
       (ltb (atoms_of i.coordinates) 2)
-      (λ _ z. let h : record { pairs = 0; checks = 0; fallback = false } ≡ c = cc in let g : 0 ≡ c.pairs = ap (λ (x : Counts). x.pairs) h in omega arith)
+      (λ _ z. let h : record { pairs = 0; checks = 0; fallback = false } ≡ c = cc in let g : 0 ≡ c.pairs = ap (λ (x : Built). x.pairs) h in omega arith)
       (λ _.
       by_test (λ t. (cond t plain (cond (crowded i.frame (length i.starts)) crowd grid)).answer ≡ answered c → c.pairs ≤ length i.pairs / 2) (plain_of i.frame)
       (λ _. run_room i.starts i.items true c)
@@ -84,33 +81,33 @@ module _ (i : Given) where
       (λ _. run_room (starts_laid i.frame i.coordinates i.starts) (items_laid i.frame i.coordinates i.items) false c)))
       q
 
-module _ (j : Job) (co ex pairs : List ℕ) (f : Frame) (is : f ≡ frame_for j) (r : Built) (ps ss it : List ℕ)
+module _ (j : Job) (co ex pairs : List ℕ) (f : Frame) (is : f ≡ frame_for j) (r : Result Built Refusal) (ps ss it : List ℕ)
     (says : BuildSays (record { frame = f; coordinates = co; exclusions = ex; pairs = pairs; starts = replicate 16384 0; items = replicate 1024 0 }) r ps ss it) where
   outcome : Outcome
-  outcome = record { answer = seen_built r; pairs = ps; starts = ss; items = it }
+  outcome = record { answer = seen r; pairs = ps; starts = ss; items = it }
 
   built_is : outcome ≡ build_of (given_by_job j co ex pairs)
   unfolding given_by_job outcome
   built_is = rw is at says
 
-  module _ (b : Built) (e : r ≡ b) where
-    pub job_listed : record { shown = with_atoms j.atoms (seen_built b); pairs = ps } ≡ job_list j co ex pairs
+  module _ (b : Result Built Refusal) (e : r ≡ b) where
+    pub job_listed : record { shown = with_atoms j.atoms (seen b); pairs = ps } ≡ job_list j co ex pairs
     unfolding job_list outcome
     job_listed =
-        ap (λ (y : Built). record { shown = with_atoms j.atoms (seen_built y); pairs = ps }) (sym e)
+        ap (λ (y : Result Built Refusal). record { shown = with_atoms j.atoms (seen y); pairs = ps }) (sym e)
         ∙ ap (λ (o : Outcome). record { shown = with_atoms j.atoms o.answer; pairs = o.pairs }) built_is
 
-    pub job_fits : BuildLists (record { frame = f; coordinates = co; exclusions = ex; pairs = pairs; starts = replicate 16384 0; items = replicate 1024 0 }) r ps → length co ≡ 3 * j.atoms → j.atoms ≤ 1024 → (c : SheetCounts) → with_atoms j.atoms (seen_built b) ≡ answered c → Sheeted c ps
+    pub job_fits : BuildLists (record { frame = f; coordinates = co; exclusions = ex; pairs = pairs; starts = replicate 16384 0; items = replicate 1024 0 }) r ps → length co ≡ 3 * j.atoms → j.atoms ≤ 1024 → (c : SheetList) → with_atoms j.atoms (seen b) ≡ answered c → Sheeted c ps
     unfolding outcome build_of given_by_job
     job_fits lists long few c a =
-        let w = with_answered j.atoms (seen_built b) c a in
-        let seen : seen_built r ≡ answered c.built = ap seen_built e ∙ w.1 in
-        let fit = after_room (given_by_job j co ex pairs) (frame_asked (frame_for j) co ex (length (replicate {A = ℕ} 1024 0))) c.built (sym (ap (λ (o : Outcome). o.answer) built_is) ∙ seen) in
+        let w = with_answered j.atoms (seen b) c a in
+        let shown : seen r ≡ answered c.built = ap seen e ∙ w.1 in
+        let fit = after_room (given_by_job j co ex pairs) (frame_asked (frame_for j) co ex (length (replicate {A = ℕ} 1024 0))) c.built (sym (ap (λ (o : Outcome). o.answer) built_is) ∙ shown) in
         let kept : length ps ≡ length pairs = ap (λ (o : Outcome). length o.pairs) built_is ∙ pairs_kept (given_by_job j co ex pairs) in
         record {
           few = omega (arith, w.0);
           room = omega (arith, fit, kept);
-          two = λ p m. let t = ((lists c.built seen).exactly.sound p m).0 in let n : length co / 3 ≡ c.atoms = omega (arith, w.0) in (t.0, omega (arith, t.1, n));
+          two = λ p m. let t = ((lists c.built shown).exactly.sound p m).0 in let n : length co / 3 ≡ c.atoms = omega (arith, w.0) in (t.0, omega (arith, t.1, n));
         }
 
 -- ---- what `read` told
@@ -183,16 +180,16 @@ module _ (s co ex : List ℕ) (a : 3072 ≤ length co) (b : 2048 ≤ length ex) 
   unfolding reading.read_of
   read_is = rw (le-ltb (length co) 3072 a, le-ltb (length ex) 2048 b)
 
-  pub read_answered : (r : sheet.Sheet) (j : Job) (co' ex' : List ℕ) → r ≡ sheets.Answered j → reading.ReadSays s co ex r co' ex' → Handed co ex a b (sheet_of s) (full s) co' ex' j × ((pairs : List ℕ) → list_for (sheet_of s) pairs ≡ sheet_list_of s pairs)
+  pub read_answered : (r : Result Job Refusal) (j : Job) (co' ex' : List ℕ) → r ≡ Ok j → reading.ReadSays s co ex r co' ex' → Handed co ex a b (sheet_of s) (full s) co' ex' j × ((pairs : List ℕ) → list_for (sheet_of s) pairs ≡ sheet_list_of s pairs)
   unfolding sheet_list_of
   read_answered r j co' ex' e says = handed_answered co ex a b (sheet_of s) (full s) co' ex' (ltb 65536 (length s)) j ((rw e at says) ∙ read_is)
 
-  pub read_refused : (r : sheet.Sheet) (w : Refusal) (co' ex' : List ℕ) → r ≡ sheets.Refused w → reading.ReadSays s co ex r co' ex' → (pairs : List ℕ) → record { shown = refused_by w; pairs = pairs } ≡ sheet_list_of s pairs
+  pub read_refused : (r : Result Job Refusal) (w : Refusal) (co' ex' : List ℕ) → r ≡ Err w → reading.ReadSays s co ex r co' ex' → (pairs : List ℕ) → record { shown = refused_by w; pairs = pairs } ≡ sheet_list_of s pairs
   unfolding sheet_list_of
   read_refused r w co' ex' e says pairs = handed_refused co ex a b (sheet_of s) (full s) co' ex' (ltb 65536 (length s)) (number_of w) (place_of w) ((rw e at says) ∙ read_is) pairs
 
 -- ---- the text of a sheet is that of its list
-with_text : (n : ℕ) (a : Seen Counts) (pairs : List ℕ) → list_text (with_atoms n a) pairs ≡ shown_text a pairs
+with_text : (n : ℕ) (a : Seen Built) (pairs : List ℕ) → list_text (with_atoms n a) pairs ≡ shown_text a pairs
 with_text n (answered c) pairs = refl
 with_text n (refused k p) pairs = refl
 
@@ -212,7 +209,7 @@ list_text_lem s =
     by_test (λ t. text_of (cond t (record { shown = refused_by Lengths; pairs = replicate 16384 0 }) (list_for (sheet_of s) (replicate 16384 0))) ≡ cond t (refusal_line 1 0) (answer_text (sheet_of s)))
     (ltb 65536 (length s)) (λ _. refl) (λ _. sheet_text (sheet_of s))
 
-pub listed_text : (s : List ℕ) (x : SheetList) (ps : List ℕ) → ListSays s (replicate 16384 0) x ps → list_text (seen_list x) ps ≡ printed s
+pub listed_text : (s : List ℕ) (x : Result SheetList Refusal) (ps : List ℕ) → ListSays s (replicate 16384 0) x ps → list_text (seen x) ps ≡ printed s
 listed_text s x ps says = ap text_of says ∙ list_text_lem s
 
 -- ---- `solve` by its cases

@@ -1,4 +1,6 @@
 -- What `read_either` and `build` told is the list of a sheet of either form, and its text is what is printed. Assumes nothing.
+use Rattle.std.specs.Prelude.{Err, Ok, Result}
+use Rattle.sheet_answer.specs.declared.SheetList.{SheetList}
 use Prim.Native.Nat.{ℕ, ◌≤◌, ◌<◌}
 use mathlib.Core.Path.{◌≡◌, refl, sym, ap, ◌∙◌}
 use mathlib.Core.Bool.{Bool, true, false, cond}
@@ -8,8 +10,7 @@ use lib.ListN.{length, take, replicate}
 use lib.Seq.{sets, length-sets}
 use lib.Dec.{ltb}
 use borrow.Author.Tests.{le-ltb, lt-ltb, ltb-false}
-use Rattle.answer.specs.Seen.{Seen, answered, refused, refused_by, number_of, place_of, seen_whole}
-use Rattle.answer.specs.declared.Whole.{Whole}
+use Rattle.answer.specs.Seen.{Seen, answered, refused, refused_by, number_of, place_of, seen}
 use Rattle.answer.specs.declared.Refusal.{Refusal}
 use Rattle.answer.specs.declared.Refusal.TheVariants.{Lengths}
 use Rattle.lists.proofs.Cases.{by_test, impossible}
@@ -27,13 +28,10 @@ use Rattle.sheet.proofs.AnyOrder.{one_order}
 use Rattle.sheet.proofs.OrderTwo.{two_order}
 use Rattle.sheet.proofs.TurnsTwo.{species_length}
 use Rattle.sheet_either.specs.declared.Formed.{Formed}
-use Rattle.sheet_either.specs.declared.EitherSheet.{EitherSheet}
-use Rattle.sheet_either.specs.declared.EitherSheet.TheVariants as either
 use Rattle.sheet_either.specs.Either as formed
 use Rattle.sheet_either.proofs.Forms.{one_not_two, two_is_two}
-use Rattle.sheet_answer.specs.declared.SheetList.{SheetList}
 use Rattle.sheet_answer.specs.Solve.{Outcome, answer_text, printed}
-use Rattle.sheet_answer.specs.List.{seen_list, list_for}
+use Rattle.sheet_answer.specs.List.{list_for}
 use Rattle.sheet_answer.specs.Either.{untyped, either_sound, either_list_of, EitherListSays, printed_either, solve_either_of, SolveEitherSays, FitsEither, EitherFits}
 use Rattle.sheet_answer.specs.Theorems.{EitherPrints, FirstPrints}
 use Rattle.sheet_answer.specs.Steps.{list_text}
@@ -93,13 +91,13 @@ module _ (s co sp ex : List ℕ) (a : 3072 ≤ length co) (b : 1024 ≤ length s
   either_is =
       rw (le-ltb (length sp) 1024 b, le-ltb (length co) 3072 a, le-ltb (length ex) 2048 c) (by_form (formed.is_two (twos_of s)) (ltb 65536 (length s)) (sheet_two s) (sheet_of s))
 
-  pub either_answered : (r : EitherSheet) (f : Formed) (co' sp' ex' : List ℕ) → r ≡ either.Answered f → formed.EitherSays s co sp ex r co' sp' ex' → Handed co ex a c (either_sound s) (full_either s) co' ex' f.job × ((pairs : List ℕ) → list_for (either_sound s) pairs ≡ either_list_of s pairs)
+  pub either_answered : (r : Result Formed Refusal) (f : Formed) (co' sp' ex' : List ℕ) → r ≡ Ok f → formed.EitherSays s co sp ex r co' sp' ex' → Handed co ex a c (either_sound s) (full_either s) co' ex' f.job × ((pairs : List ℕ) → list_for (either_sound s) pairs ≡ either_list_of s pairs)
   unfolding either_list_of
   either_answered r f co' sp' ex' e says =
       let q : record { shown = answered f; coordinates = co'; species = sp'; exclusions = ex' } ≡ formed.either_of s co sp ex = rw e at says in
       handed_answered co ex a c (either_sound s) (full_either s) co' ex' (ltb 65536 (length s)) f.job (ap bare q ∙ either_is)
 
-  pub either_refused : (r : EitherSheet) (w : Refusal) (co' sp' ex' : List ℕ) → r ≡ either.Refused w → formed.EitherSays s co sp ex r co' sp' ex' → (pairs : List ℕ) → record { shown = refused_by w; pairs = pairs } ≡ either_list_of s pairs
+  pub either_refused : (r : Result Formed Refusal) (w : Refusal) (co' sp' ex' : List ℕ) → r ≡ Err w → formed.EitherSays s co sp ex r co' sp' ex' → (pairs : List ℕ) → record { shown = refused_by w; pairs = pairs } ≡ either_list_of s pairs
   unfolding either_list_of
   either_refused r w co' sp' ex' e says pairs =
       let q : record { shown = refused_by w; coordinates = co'; species = sp'; exclusions = ex' } ≡ formed.either_of s co sp ex = rw e at says in
@@ -112,7 +110,7 @@ either_text s =
     by_test (λ t. text_of (cond t (record { shown = refused_by Lengths; pairs = replicate 16384 0 }) (list_for (either_sound s) (replicate 16384 0))) ≡ cond t (refusal_line 1 0) (answer_text (either_sound s)))
     (ltb 65536 (length s)) (λ _. refl) (λ _. sheet_text (either_sound s))
 
-pub either_listed : (s : List ℕ) (x : SheetList) (ps : List ℕ) → EitherListSays s (replicate 16384 0) x ps → list_text (seen_list x) ps ≡ printed_either s
+pub either_listed : (s : List ℕ) (x : Result SheetList Refusal) (ps : List ℕ) → EitherListSays s (replicate 16384 0) x ps → list_text (seen x) ps ≡ printed_either s
 either_listed s x ps says = ap text_of says ∙ either_text s
 
 -- ---- `solve_either` by its cases
@@ -141,11 +139,11 @@ fits_by s out out' n h e q =
       text = ap (λ (l : List ℕ). take n l) q ∙ front (printed_either s) out n (sym e) (omega arith);
     }
 
-pub either_fits : (s out : List ℕ) (r : Whole) (out' : List ℕ) → SolveEitherSays s out r out' → EitherFits s r out'
+pub either_fits : (s out : List ℕ) (r : Result ℕ Refusal) (out' : List ℕ) → SolveEitherSays s out r out' → EitherFits s r out'
 unfolding solve_either_of
 either_fits s out r out' says n a =
     by_test
-    (λ t. ◌≡◌ {A = Outcome} (record { shown = seen_whole r; out = out' }) (cond t (record { shown = refused_by Lengths; out = out }) (record { shown = answered (length (printed_either s)); out = sets out 0 (printed_either s) })) → FitsEither s n out')
+    (λ t. ◌≡◌ {A = Outcome} (record { shown = seen r; out = out' }) (cond t (record { shown = refused_by Lengths; out = out }) (record { shown = answered (length (printed_either s)); out = sets out 0 (printed_either s) })) → FitsEither s n out')
     (ltb (length out) 90133)
     (λ _ q. let h : answered n ≡ refused 1 0 = sym a ∙ ap (λ (o : Outcome). o.shown) q in impossible (cc))
     (λ e q. let h : answered n ≡ answered (length (printed_either s)) = sym a ∙ ap (λ (o : Outcome). o.shown) q in

@@ -1,12 +1,14 @@
 -- What the program prints for an input, whole, and what `solve` answers and leaves: one outcome from the entry values alone. Definitions only.
+use Rattle.std.specs.Prelude.{Result}
+use Rattle.answer.specs.declared.Refusal.{Refusal}
 use Rattle.std.specs.Prelude.{ℕ, ◌≤◌, ◌≡◌, cond, List, length, take, replicate, ltb}
 use Rattle.std.proofs.lemmas.List.Edits.{sets}
-use Rattle.answer.specs.Seen.{Seen, answered, refused, refused_by, seen_whole}
-use Rattle.answer.specs.declared.Whole.{Whole}
+use Rattle.answer.specs.Seen.{Seen, answered, refused, refused_by, seen}
 use Rattle.answer.specs.declared.Refusal.TheVariants.{Lengths}
 use Rattle.lists.specs.Lists.{rows, flat}
 use Rattle.frame.specs.declared.Frame.{Frame}
-use Rattle.frame.specs.Build.{Given, Counts, build_of}
+use Rattle.frame.specs.declared.Built.{Built}
+use Rattle.frame.specs.Build.{Given, build_of}
 use Rattle.sheet_printed.specs.Printed.{refusal_line, built_text}
 use Rattle.sheet.specs.declared.Job.{Job}
 use Rattle.sheet.specs.Reading.{Sound, sheet_of}
@@ -35,7 +37,7 @@ given_for j coordinates exclusions =
     }
 
 -- the text of a build's answer, with the pairs in the order in which they are stored
-abbrev pub shown_text : Seen Counts → List ℕ → List ℕ
+abbrev pub shown_text : Seen Built → List ℕ → List ℕ
 shown_text (answered c) pairs = built_text c.pairs c.checks c.fallback (take c.pairs (rows pairs))
 shown_text (refused n p) pairs = refusal_line n p
 
@@ -63,8 +65,8 @@ solve_of s out =
     cond (ltb (length out) 90133) (record { shown = refused_by Lengths; out = out })
     (record { shown = answered (length (printed s)); out = sets out 0 (printed s) })
 
-abbrev pub SolveSays : List ℕ → List ℕ → Whole → List ℕ → Type 0
-SolveSays s out r out' = record { shown = seen_whole r; out = out' } ≡ solve_of s out
+abbrev pub SolveSays : List ℕ → List ℕ → Result ℕ Refusal → List ℕ → Type 0
+SolveSays s out r out' = record { shown = seen r; out = out' } ≡ solve_of s out
 
 -- The first n bytes are the whole text, and no sheet's text is longer than 90,133 bytes: a count line of 21 and 8,192 lines of 11. So nothing is ever cut off.
 pub record Fits (s : List ℕ) (n : ℕ) (out' : List ℕ) : Type 0 where
@@ -73,5 +75,5 @@ pub record Fits (s : List ℕ) (n : ℕ) (out' : List ℕ) : Type 0 where
   pub text : take n out' ≡ printed s
 
 -- after an answered call
-abbrev pub SolveFits : List ℕ → Whole → List ℕ → Type 0
-SolveFits s r out' = (n : ℕ) → seen_whole r ≡ answered n → Fits s n out'
+abbrev pub SolveFits : List ℕ → Result ℕ Refusal → List ℕ → Type 0
+SolveFits s r out' = (n : ℕ) → seen r ≡ answered n → Fits s n out'

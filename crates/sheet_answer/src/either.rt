@@ -3,33 +3,30 @@ ghost use Rattle.sheet_answer.specs.Either.{EitherListSays, SolveEitherSays, Eit
 
 use crate::kernel::list_job;
 use crate::{SheetList, put_list};
-use answer::{Refusal, Whole};
-use sheet_either::{EitherSheet, read_either};
+use answer::Refusal;
+use sheet_either::read_either;
 
 // As `list` of a sheet of the first form.
-fn list_either(input: &[u8], pairs: &mut [u32]) -> SheetList
+fn list_either(input: &[u8], pairs: &mut [u32]) -> Result<SheetList, Refusal>
     ensures { EitherListSays input.now pairs.old result pairs.new }
 {
     let mut coordinates = [0u32; 3072];
     let mut species = [0u32; 1024];
     let mut exclusions = [0u32; 2048];
-    let sheet = read_either(input, &mut coordinates, &mut species, &mut exclusions);
-    match sheet {
-        EitherSheet::Answered(formed) => list_job(formed.job, &coordinates, &exclusions, pairs),
-        EitherSheet::Refused(r) => SheetList::Refused(r),
-    }
+    let formed = read_either(input, &mut coordinates, &mut species, &mut exclusions)?;
+    list_job(formed.job, &coordinates, &exclusions, pairs)
 }
 
 // The printed answer of a sheet of either form at the front of `out`, and how many bytes it is. 1: out is under 90,133 bytes.
-pub fn solve_either(input: &[u8], out: &mut [u8]) -> Whole
+pub fn solve_either(input: &[u8], out: &mut [u8]) -> Result<u64, Refusal>
     ensures says { SolveEitherSays input.now out.old result out.new }
     ensures fits { EitherFits input.now result out.new }
 {
     if out.len() < 90133 {
-        return Whole::Refused(Refusal::Lengths);
+        return Err(Refusal::Lengths);
     }
     let mut pairs = [0u32; 16384];
     let list = list_either(input, &mut pairs);
     let n = put_list(list, &pairs, out);
-    Whole::Answered(n as u64)
+    Ok(n as u64)
 }

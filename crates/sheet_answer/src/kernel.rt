@@ -1,11 +1,13 @@
 // The list of a sheet: the sheet is read and its pair list built into lent pairs. Total, for the crates above; no public call.
+ghost use Rattle.answer.specs.Seen.{seen};
 ghost use Rattle.std.specs.Prelude.{◌≡◌, ◌*◌, ◌≤◌, length, take};
 ghost use Rattle.sheet_answer.specs.Solve.{frame_for};
-ghost use Rattle.sheet_answer.specs.List.{seen_list, job_list, ListSays, ListFits};
+ghost use Rattle.sheet_answer.specs.List.{job_list, ListSays, ListFits};
 
 use crate::SheetList;
-use frame::{Built, Frame, Side, build};
-use sheet::{Job, Sheet, read};
+use answer::Refusal;
+use frame::{Frame, Side, build};
+use sheet::{Job, read};
 
 fn frame_of(job: Job) -> Frame
     ensures { result ≡ frame_for job }
@@ -33,9 +35,9 @@ pub(crate) fn list_job(
     coordinates: &[u32],
     exclusions: &[u32],
     pairs: &mut [u32],
-) -> SheetList
+) -> Result<SheetList, Refusal>
     requires { (3 * job.atoms ≤ length coordinates.now) × (2 * job.count ≤ length exclusions.now) }
-    ensures says { record { shown = seen_list result; pairs = pairs.new } ≡ job_list job (take (3 * job.atoms) coordinates.now) (take (2 * job.count) exclusions.now) pairs.old }
+    ensures says { record { shown = seen result; pairs = pairs.new } ≡ job_list job (take (3 * job.atoms) coordinates.now) (take (2 * job.count) exclusions.now) pairs.old }
     ensures fits { job.atoms ≤ 1024 → ListFits result pairs.new }
 {
     let mut starts = [0u32; 16384];
@@ -49,32 +51,20 @@ pub(crate) fn list_job(
         pairs,
         &mut starts,
         &mut items,
-    );
-    match built {
-        Built::Answered {
-            pairs: count,
-            checks,
-            fallback,
-        } => SheetList::Answered {
-            atoms: job.atoms,
-            pairs: count,
-            checks,
-            fallback,
-        },
-        Built::Refused(r) => SheetList::Refused(r),
-    }
+    )?;
+    Ok(SheetList {
+        atoms: job.atoms,
+        built,
+    })
 }
 
 // Refusals: the reader's, then those of a build. A sheet that is refused leaves the pairs as they came.
-pub fn list(input: &[u8], pairs: &mut [u32]) -> SheetList
+pub fn list(input: &[u8], pairs: &mut [u32]) -> Result<SheetList, Refusal>
     ensures says { ListSays input.now pairs.old result pairs.new }
     ensures fits { ListFits result pairs.new }
 {
     let mut coordinates = [0u32; 3072];
     let mut exclusions = [0u32; 2048];
-    let sheet = read(input, &mut coordinates, &mut exclusions);
-    match sheet {
-        Sheet::Answered(job) => list_job(job, &coordinates, &exclusions, pairs),
-        Sheet::Refused(r) => SheetList::Refused(r),
-    }
+    let job = read(input, &mut coordinates, &mut exclusions)?;
+    list_job(job, &coordinates, &exclusions, pairs)
 }

@@ -6,25 +6,20 @@ pub mod kernel;
 
 ghost use Rattle.std.specs.Prelude.{◌≡◌, length};
 ghost use Rattle.std.proofs.lemmas.List.Edits.{sets};
-ghost use Rattle.answer.specs.Seen.{number_of, place_of};
+ghost use Rattle.answer.specs.Seen.{number_of, place_of, seen};
 ghost use Rattle.sheet_printed.specs.Printed.{refusal_line};
 ghost use Rattle.sheet_answer.specs.Solve.{SolveSays, SolveFits};
-ghost use Rattle.sheet_answer.specs.List.{seen_list};
 ghost use Rattle.sheet_answer.specs.Steps.{list_text};
 
-use answer::{Refusal, Whole};
+use answer::Refusal;
+use frame::Built;
 use sheet_printed::{put_built, put_refusal};
 
-// The list of a sheet: its atoms, the pairs stored, the distances evaluated, and whether no grid was laid; or why there is none.
+// The list of a sheet: its atoms, and the numbers of its build.
 #[derive(Drop)]
-pub enum SheetList {
-    Answered {
-        atoms: u32,
-        pairs: u32,
-        checks: u32,
-        fallback: bool,
-    },
-    Refused(Refusal),
+pub struct SheetList {
+    pub atoms: u32,
+    pub built: Built,
 }
 
 fn refuse(r: Refusal, out: &mut [u8]) -> usize
@@ -35,32 +30,33 @@ fn refuse(r: Refusal, out: &mut [u8]) -> usize
 }
 
 // The text of a list; how many bytes that is.
-pub(crate) fn put_list(list: SheetList, pairs: &[u32], out: &mut [u8]) -> usize
-    ensures value { result ≡ length (list_text (seen_list list) pairs.now) }
-    ensures out_after { out.new ≡ sets out.old 0 (list_text (seen_list list) pairs.now) }
+pub(crate) fn put_list(list: Result<SheetList, Refusal>, pairs: &[u32], out: &mut [u8]) -> usize
+    ensures value { result ≡ length (list_text (seen list) pairs.now) }
+    ensures out_after { out.new ≡ sets out.old 0 (list_text (seen list) pairs.now) }
 {
     match list {
-        SheetList::Answered {
-            atoms: _,
-            pairs: count,
-            checks,
-            fallback,
-        } => put_built(out, pairs, count as usize, checks as u64, fallback),
-        SheetList::Refused(r) => refuse(r, out),
+        Ok(SheetList { atoms: _, built }) => put_built(
+            out,
+            pairs,
+            built.pairs as usize,
+            built.checks as u64,
+            built.fallback,
+        ),
+        Err(r) => refuse(r, out),
     }
 }
 
 // The printed answer of a sheet at the front of `out`, and how many bytes it is. 1: out is under 90,133 bytes, which is a
 // count line and 8,192 pairs.
-pub fn solve(input: &[u8], out: &mut [u8]) -> Whole
+pub fn solve(input: &[u8], out: &mut [u8]) -> Result<u64, Refusal>
     ensures says { SolveSays input.now out.old result out.new }
     ensures fits { SolveFits input.now result out.new }
 {
     if out.len() < 90133 {
-        return Whole::Refused(Refusal::Lengths);
+        return Err(Refusal::Lengths);
     }
     let mut pairs = [0u32; 16384];
     let list = crate::kernel::list(input, &mut pairs);
     let n = put_list(list, &pairs, out);
-    Whole::Answered(n as u64)
+    Ok(n as u64)
 }

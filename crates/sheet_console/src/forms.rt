@@ -4,9 +4,8 @@ ghost use Rattle.sheet_answer.specs.Either.{solve_either_of};
 ghost use Rattle.sheet_moved.specs.Moved.{to_one_of, to_two_of};
 ghost use Rattle.sheet_moved.specs.Whole.{moved_one, moved_two, laid_whole};
 
-use answer::Whole;
 use sheet_answer::either::solve_either;
-use sheet_moved::{Moved, to_one, to_two};
+use sheet_moved::{MoveError, to_one, to_two};
 use sheet_printed::put_refusal;
 
 // The number of standard input.
@@ -20,11 +19,11 @@ pub fn print_either(sheet: &[u8], out: &mut [u8])
 {
     let answer = solve_either(sheet, out);
     match answer {
-        Whole::Answered(n) => {
+        Ok(n) => {
             let wrote = n as usize;
             io::write_all(STDOUT, &out[..wrote]);
         }
-        Whole::Refused(_) => {}
+        Err(_) => {}
     }
 }
 
@@ -40,11 +39,11 @@ pub fn print_two(sheet: &[u8], out: &mut [u8])
 {
     let answer = to_two(sheet, out);
     match answer {
-        Whole::Answered(n) => {
+        Ok(n) => {
             let wrote = n as usize;
             io::write_all(STDOUT, &out[..wrote]);
         }
-        Whole::Refused(r) => {
+        Err(r) => {
             print_line(r.number(), r.place());
         }
     }
@@ -56,14 +55,14 @@ pub fn print_one(sheet: &[u8], out: &mut [u8])
 {
     let moved = to_one(sheet, out);
     match moved {
-        Moved::Answered(n) => {
+        Ok(n) => {
             let wrote = n as usize;
             io::write_all(STDOUT, &out[..wrote]);
         }
-        Moved::Refused(r) => {
+        Err(MoveError::Refused(r)) => {
             print_line(r.number(), r.place());
         }
-        Moved::NoWayBack { place } => {
+        Err(MoveError::NoWayBack { place }) => {
             print_line(12, place as u64);
         }
     }

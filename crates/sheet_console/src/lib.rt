@@ -8,7 +8,6 @@ ghost use Rattle.std.specs.Prelude.{◌≡◌, ◌≤◌, length, take};
 ghost use Rattle.std.proofs.lemmas.List.Edits.{sets};
 ghost use Rattle.sheet_answer.specs.Solve.{printed, solve_of};
 
-use answer::Whole;
 use sheet_answer::solve;
 
 // The number of standard input.
@@ -22,11 +21,11 @@ pub fn print(sheet: &[u8], out: &mut [u8])
 {
     let answer = solve(sheet, out);
     match answer {
-        Whole::Answered(n) => {
+        Ok(n) => {
             let wrote = n as usize;
             io::write_all(STDOUT, &out[..wrote]);
         }
-        Whole::Refused(_) => {}
+        Err(_) => {}
     }
 }
 

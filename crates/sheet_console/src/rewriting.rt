@@ -3,7 +3,6 @@ ghost use Rattle.std.specs.Prelude.{◌≡◌, ◌≤◌, length, take};
 ghost use Rattle.std.proofs.lemmas.List.Edits.{sets};
 ghost use Rattle.sheet_rewritten.specs.Rewrite.{rewritten, rewrite_of};
 
-use answer::Whole;
 use sheet_rewritten::rewrite;
 
 // The number of standard input.
@@ -17,11 +16,11 @@ pub fn print_form(sheet: &[u8], out: &mut [u8])
 {
     let answer = rewrite(sheet, out);
     match answer {
-        Whole::Answered(n) => {
+        Ok(n) => {
             let wrote = n as usize;
             io::write_all(STDOUT, &out[..wrote]);
         }
-        Whole::Refused(_) => {}
+        Err(_) => {}
     }
 }
 

@@ -2,18 +2,14 @@
 use Prim.Native.Nat.{ℕ, zero, suc, ◌+◌, ◌-◌, ◌/◌, ◌%◌, ◌≤◌, ◌<◌}
 use mathlib.Core.Path.{◌≡◌, refl, sym, ap, ◌∙◌}
 use mathlib.Core.Bool.{Bool, true, false, cond}
-use mathlib.Core.List.{List, [], ◌∷◌, ◌++◌}
-use native.Mathlib.Nat.{zero-add}
-use native.Mathlib.Numerals.{add-one}
+use mathlib.Core.List.{List}
 use native.Mathlib.Omega.{arith}
-use lib.ListN.{length, set, replicate, length-replicate}
-use lib.Seq.{sets}
+use lib.ListN.{length}
 use lib.Dec.{ltb}
 use borrow.Author.Tests.{lt-ltb, le-ltb}
 use Rattle.answer.specs.Seen.{Seen, answered, refused, refused_by}
 use Rattle.answer.specs.declared.Refusal.TheVariants.{Lengths}
 use Rattle.lists.proofs.Cases.{by_test, impossible}
-use Rattle.hexadecimal.proofs.Writing.{put_put}
 use Rattle.sheet_lines.specs.declared.Line.{Line}
 use Rattle.sheet_lines_two.specs.declared.TwoLine.{TwoLine}
 use Rattle.sheet_lines_two.specs.Twos.{two_at, wide_two, width_two, twos_from, twos_of}
@@ -44,17 +40,6 @@ two_is s at t l h z e c = two_step s at t h z e ∙ ap (λ (k : Line). says_two 
 pub two_end : (f : ℕ) (s : List ℕ) (at : ℕ) → length s ≤ at → is_two (twos_from f s at) ≡ false
 two_end zero s at h = refl
 two_end (suc f) s at h = simp (le-ltb at (length s) h)
-
--- ---- a species more
-zeros_more : (i : ℕ) → replicate {A = ℕ} (suc i) 0 ≡ replicate i 0 ++ (0 ∷ [])
-zeros_more zero = refl
-zeros_more (suc i) = ap (λ (l : List ℕ). 0 ∷ l) (zeros_more i)
-
-pub one_zero : (l m : List ℕ) (i : ℕ) → m ≡ sets l 0 (replicate i 0) → set m i 0 ≡ sets l 0 (replicate (i + 1) 0)
-one_zero l m i e =
-    let more : replicate {A = ℕ} (i + 1) 0 ≡ replicate i 0 ++ (0 ∷ []) = rw add-one (zeros_more i) in
-    put_put i (replicate i 0) (0 ∷ []) l m (set m i 0) 0 (length-replicate {A = ℕ} i 0) e (ap (λ (k : ℕ). set m k 0) (sym (zero-add i)))
-    ∙ ap (λ (x : List ℕ). sets l 0 x) (sym more)
 
 -- ---- a sheet that `read` answers has at most 1,024 atoms
 shown_few : (y : Seen Sound) → ((a : Sound) → y ≡ answered a → a.head.atoms ≤ 1024) → (j : Job) (co ex : List ℕ) → (one.handed y co ex).shown ≡ answered j → j.atoms ≤ 1024

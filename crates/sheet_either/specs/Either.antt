@@ -1,8 +1,10 @@
 -- What `read_either` answers and leaves (02, No. 9 and 10: "The new reader takes either form; a mixed sheet is malformed at the first line of the form that didn't come first").
 -- The first header or atom line says which form's reader reads the sheet; to it each line of the other form is malformed. Definitions only.
+use Rattle.std.specs.Prelude.{Result}
+use Rattle.answer.specs.declared.Refusal.{Refusal}
 use Rattle.std.specs.Prelude.{ℕ, ◌≡◌, Bool, true, false, cond, List, [], ◌∷◌, length, replicate, ltb}
 use Rattle.std.proofs.lemmas.List.Edits.{sets}
-use Rattle.answer.specs.Seen.{Seen, answered, refused, refused_by}
+use Rattle.answer.specs.Seen.{Seen, answered, refused, refused_by, seen}
 use Rattle.answer.specs.declared.Refusal.TheVariants.{Lengths}
 use Rattle.sheet_lines.specs.declared.Line.{Line}
 use Rattle.sheet_lines.specs.declared.Line.TheVariants.{Header, Atom, Exclusion, Malformed, End}
@@ -13,8 +15,6 @@ use Rattle.sheet.specs.declared.two.RuledJob.{RuledJob}
 use Rattle.sheet.specs.Read as one
 use Rattle.sheet.specs.ReadTwo.{OutcomeTwo, read_two_of}
 use Rattle.sheet_either.specs.declared.Formed.{Formed}
-use Rattle.sheet_either.specs.declared.EitherSheet.{EitherSheet}
-use Rattle.sheet_either.specs.declared.EitherSheet.TheVariants as either
 
 -- read as the second form, the first line that is no exclusion is a header or an atom; exclusions belong to both forms
 abbrev pub says_two : Line → Bool → Bool
@@ -62,10 +62,6 @@ either_of s co sp ex =
     cond (ltb (length sp) 1024) (record { shown = refused_by Lengths; coordinates = co; species = sp; exclusions = ex })
     (cond (is_two (twos_of s)) (as_two (read_two_of s co sp ex)) (as_one (one.read_of s co ex) sp))
 
-abbrev pub seen_either : EitherSheet → Seen Formed
-seen_either (either.Answered f) = answered f
-seen_either (either.Refused r) = refused_by r
-
-abbrev pub EitherSays : List ℕ → List ℕ → List ℕ → List ℕ → EitherSheet → List ℕ → List ℕ → List ℕ → Type 0
+abbrev pub EitherSays : List ℕ → List ℕ → List ℕ → List ℕ → Result Formed Refusal → List ℕ → List ℕ → List ℕ → Type 0
 EitherSays s co sp ex r co' sp' ex' =
-    record { shown = seen_either r; coordinates = co'; species = sp'; exclusions = ex' } ≡ either_of s co sp ex
+    record { shown = seen r; coordinates = co'; species = sp'; exclusions = ex' } ≡ either_of s co sp ex

@@ -8,8 +8,8 @@ ghost use Rattle.sheet_lines_two.specs.Twos.{twos_of};
 ghost use Rattle.sheet_either.specs.Either.{is_two, EitherSays};
 
 use answer::Refusal;
-use sheet::two::{RuledSheet, read_two};
-use sheet::{Job, Sheet, read};
+use sheet::two::read_two;
+use sheet::{Job, read};
 use sheet_lines::Line;
 use sheet_lines_two::two_at;
 
@@ -21,18 +21,11 @@ pub struct Formed {
     pub rule: u32,
 }
 
-#[derive(Drop)]
-pub enum EitherSheet {
-    Answered(Formed),
-    Refused(Refusal),
-}
-
-// The first header or atom line is of the second form.
+// The first header or atom line is of the second form. The exclusions before it are passed over, 11 bytes each.
 fn is_two(s: &[u8]) -> bool
     ensures { result ≡ is_two (twos_of s.now) }
 {
-    let mut at: usize = 0;
-    while at < s.len() {
+    for at in (0..s.len()).step_by(11) {
         let two = two_at(s, at);
         let core = two.core;
         match core {
@@ -50,9 +43,7 @@ fn is_two(s: &[u8]) -> bool
             Line::Exclusion {
                 first: _,
                 second: _,
-            } => {
-                at += 11;
-            }
+            } => {}
             Line::Malformed => {
                 return false;
             }
@@ -68,11 +59,7 @@ fn zero_first(to: &mut [u32], n: usize)
     requires { n ≤ length to.old }
     ensures { to.new ≡ sets to.old 0 (replicate n 0) }
 {
-    let mut i: usize = 0;
-    while i < n {
-        to[i] = 0;
-        i += 1;
-    }
+    to[..n].fill(0);
 }
 
 // A sheet's numbers as `read` has them, with a species for each atom, 0 on a sheet of the first form. A refusal touches nothing.
@@ -81,38 +68,26 @@ pub fn read_either(
     coordinates: &mut [u32],
     species: &mut [u32],
     exclusions: &mut [u32],
-) -> EitherSheet
+) -> Result<Formed, Refusal>
     ensures { EitherSays input.now coordinates.old species.old exclusions.old result coordinates.new species.new exclusions.new }
 {
     if species.len() < 1024 {
-        return EitherSheet::Refused(Refusal::Lengths);
+        return Err(Refusal::Lengths);
     }
     if is_two(input) {
-        let sheet = read_two(input, coordinates, species, exclusions);
-        match sheet {
-            RuledSheet::Answered(said) => {
-                let job = said.job;
-                return EitherSheet::Answered(Formed {
-                    job,
-                    form: 2,
-                    rule: said.rule,
-                });
-            }
-            RuledSheet::Refused(r) => {
-                return EitherSheet::Refused(r);
-            }
-        }
+        let said = read_two(input, coordinates, species, exclusions)?;
+        let job = said.job;
+        return Ok(Formed {
+            job,
+            form: 2,
+            rule: said.rule,
+        });
     }
-    let sheet = read(input, coordinates, exclusions);
-    match sheet {
-        Sheet::Answered(job) => {
-            zero_first(species, job.atoms as usize);
-            EitherSheet::Answered(Formed {
-                job,
-                form: 1,
-                rule: 1,
-            })
-        }
-        Sheet::Refused(r) => EitherSheet::Refused(r),
-    }
+    let job = read(input, coordinates, exclusions)?;
+    zero_first(species, job.atoms as usize);
+    Ok(Formed {
+        job,
+        form: 1,
+        rule: 1,
+    })
 }

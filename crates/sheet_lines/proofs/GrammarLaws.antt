@@ -1,4 +1,5 @@
 -- The reader accepts exactly the grammar: a line's bytes read as that line, and a line that was read stands there in bytes. Assumes nothing.
+use Rattle.std.specs.Prelude.{None, Option, Some}
 use Prim.Native.Nat.{ℕ, ◌+◌, ◌^◌, ◌<◌}
 use mathlib.Core.Path.{◌≡◌, refl}
 use mathlib.Core.Bool.{Bool, true, false, cond}
@@ -14,8 +15,6 @@ use Rattle.hexadecimal.proofs.Writing.{length2, length4, length8}
 use Rattle.hexadecimal.proofs.Reading.{stands_split, stands_join, hex2_text, text_hex2, hex4_text, text_hex4, hex8_text, text_hex8, in_range}
 use Rattle.sheet_lines.specs.Reading.{three_of, three_at, header_of, atom_of, exclusion_of, line_at, line_width}
 use Rattle.sheet_lines.specs.Grammar.{text888, line_text, Valid}
-use Rattle.sheet_lines.specs.declared.Three.{Three}
-use Rattle.sheet_lines.specs.declared.Three.TheVariants.{Of, Nothing}
 use Rattle.sheet_lines.specs.declared.Line.{Line}
 use Rattle.sheet_lines.specs.declared.Line.TheVariants.{Header, Atom, Exclusion, Malformed, End}
 
@@ -25,7 +24,7 @@ length888 x y z = simp (length-append, length8)
 
 -- ---- from a line's bytes to the line
 
-pub three_text : (s : List ℕ) (at x y z : ℕ) → x < 2 ^ 32 → y < 2 ^ 32 → z < 2 ^ 32 → Stands s at (text888 x y z) → three_at s at ≡ Of x y z
+pub three_text : (s : List ℕ) (at x y z : ℕ) → x < 2 ^ 32 → y < 2 ^ 32 → z < 2 ^ 32 → Stands s at (text888 x y z) → three_at s at ≡ Some (x, y, z)
 unfolding three_at three_of text888
 three_text s at x y z a b d k =
     let p = stands_split s at (text8 x ++ text8 y) (text8 z) k in
@@ -54,7 +53,7 @@ line_text_lem s at (Atom n x y z) v k =
     let kind : hex2 s at ≡ 2 = hex2_text s at 2 (omega arith) r.0 in
     let here : at < length s = in_range s at (omega arith) in
     let fn : hex4 s (at + 2) ≡ n = hex4_text s (at + 2) n (omega arith) (simp length2 at r.1) in
-    let fx : three_at s (at + 6) ≡ Of x y z = three_text s (at + 6) x y z v.1 v.2 v.3 (simp (length-append, length2, length4) at q.1) in
+    let fx : three_at s (at + 6) ≡ Some (x, y, z) = three_text s (at + 6) x y z v.1 v.2 v.3 (simp (length-append, length2, length4) at q.1) in
     let end = simp (length-append, length2, length4, length888) at p.1 in
     simp (lt-ltb at (length s) here, kind, fn, fx, end.0, lt-ltb n 1024 v.0)
 line_text_lem s at (Header h) v k =
@@ -67,7 +66,7 @@ line_text_lem s at (Header h) v k =
     let kind : hex2 s at ≡ 1 = hex2_text s at 1 (omega arith) r.0 in
     let here : at < length s = in_range s at (omega arith) in
     let fn : hex4 s (at + 2) ≡ h.atoms = hex4_text s (at + 2) h.atoms v.0 (simp length2 at r.1) in
-    let fx : three_at s (at + 6) ≡ Of h.ex h.ey h.ez = three_text s (at + 6) h.ex h.ey h.ez v.1 v.2 v.3 (simp (length-append, length2, length4) at q.1) in
+    let fx : three_at s (at + 6) ≡ Some (h.ex, h.ey, h.ez) = three_text s (at + 6) h.ex h.ey h.ez v.1 v.2 v.3 (simp (length-append, length2, length4) at q.1) in
     let fm : hex2 s (at + 30) ≡ h.mask = hex2_text s (at + 30) h.mask (omega (arith, v.4)) (simp (length-append, length2, length4, length888) at m.1) in
     let fr : hex8 s (at + 32) ≡ h.radius = hex8_text s (at + 32) h.radius v.5 (simp (length-append, length2, length4, length888) at o.1) in
     let end = simp (length-append, length2, length4, length8, length888) at p.1 in
@@ -78,9 +77,9 @@ line_text_lem s at End v k = absurd v
 -- ---- from a line that was read to its bytes
 
 -- three numbers that were read stand there, and are in range
-abbrev pub ThreeStands : List ℕ → ℕ → Three → Type 0
-ThreeStands s at (Of x y z) = (x < 2 ^ 32) × (y < 2 ^ 32) × (z < 2 ^ 32) × Stands s at (text888 x y z)
-ThreeStands s at Nothing = Unit {0}
+abbrev pub ThreeStands : List ℕ → ℕ → Option (ℕ × ℕ × ℕ) → Type 0
+ThreeStands s at (Some (x, y, z)) = (x < 2 ^ 32) × (y < 2 ^ 32) × (z < 2 ^ 32) × Stands s at (text888 x y z)
+ThreeStands s at None = Unit {0}
 
 pub text_three : (s : List ℕ) (at : ℕ) → ThreeStands s at (three_at s at)
 unfolding three_at three_of text888
@@ -139,10 +138,10 @@ sound_exclusion s at kind =
     tt)
     tt
 
-sound_atom : (s : List ℕ) (at : ℕ) (t : Three) → hex2 s at ≡ 2 → ThreeStands s (at + 6) t → Sound s at (atom_of (hex4 s (at + 2)) t (byte_at s (at + 30)))
+sound_atom : (s : List ℕ) (at : ℕ) (t : Option (ℕ × ℕ × ℕ)) → hex2 s at ≡ 2 → ThreeStands s (at + 6) t → Sound s at (atom_of (hex4 s (at + 2)) t (byte_at s (at + 30)))
 unfolding atom_of line_text
-sound_atom s at Nothing kind h = tt
-sound_atom s at (Of x y z) kind h =
+sound_atom s at None kind h = tt
+sound_atom s at (Some (x, y, z)) kind h =
     sound_if s at (ltb (hex4 s (at + 2)) 1024) _ _
     (λ a. sound_if s at (eqb (byte_at s (at + 30)) 10) _ _
     (λ d.
@@ -159,10 +158,10 @@ sound_atom s at (Of x y z) kind h =
     tt)
     tt
 
-sound_header : (s : List ℕ) (at : ℕ) (t : Three) → hex2 s at ≡ 1 → ThreeStands s (at + 6) t → Sound s at (header_of (hex4 s (at + 2)) t (hex2 s (at + 30)) (hex8 s (at + 32)) (byte_at s (at + 40)))
+sound_header : (s : List ℕ) (at : ℕ) (t : Option (ℕ × ℕ × ℕ)) → hex2 s at ≡ 1 → ThreeStands s (at + 6) t → Sound s at (header_of (hex4 s (at + 2)) t (hex2 s (at + 30)) (hex8 s (at + 32)) (byte_at s (at + 40)))
 unfolding header_of line_text
-sound_header s at Nothing kind h = tt
-sound_header s at (Of x y z) kind h =
+sound_header s at None kind h = tt
+sound_header s at (Some (x, y, z)) kind h =
     sound_if s at (ltb (hex4 s (at + 2)) (2 ^ 16)) _ _
     (λ a. sound_if s at (ltb (hex2 s (at + 30)) 8) _ _
     (λ b. sound_if s at (ltb (hex8 s (at + 32)) (2 ^ 32)) _ _

@@ -1,4 +1,5 @@
 -- A whole line reads the same whatever stands after it, so the lines up to the first malformed one do not depend on what follows. Assumes nothing.
+use Rattle.std.specs.Prelude.{None, Option, Some}
 use Prim.Native.Nat.{ℕ, zero, suc, ◌+◌, ◌≤◌, ◌<◌, ◌^◌}
 use mathlib.Core.Path.{◌≡◌, refl, sym, ap, ◌∙◌}
 use mathlib.Core.Bool.{Bool, true, false, cond}
@@ -15,8 +16,6 @@ use Rattle.hexadecimal.specs.Glyphs.{Stands}
 use Rattle.hexadecimal.proofs.Reading.{stands_split}
 use Rattle.sheet_lines.specs.Reading.{three_at, header_of, atom_of, exclusion_of, line_at, line_width, lines_from}
 use Rattle.sheet_lines.specs.Grammar.{line_text, Valid, WellFormed, WholeLine, AllWhole, join_all}
-use Rattle.sheet_lines.specs.declared.Three.{Three}
-use Rattle.sheet_lines.specs.declared.Three.TheVariants.{Of, Nothing}
 use Rattle.sheet_lines.specs.declared.Line.{Line}
 use Rattle.sheet_lines.specs.declared.Line.TheVariants.{Header, Atom, Exclusion, Malformed, End}
 use Rattle.sheet_lines.proofs.GrammarLaws.{line_text_lem, text_line, length_text}
@@ -61,38 +60,38 @@ module _ (pre c rest : List ℕ) (w : WholeLine c) where
   inside = omega (arith, length-append pre (c ++ rest), length-append c rest, ap length w.is, length-append w.body (10 ∷ []))
 
 -- within the bytes there is a line, if a malformed one
-abbrev Some : Line → Type 0
-Some (Header h) = Unit {0}
-Some (Atom n x y z) = Unit {0}
-Some (Exclusion a b) = Unit {0}
-Some Malformed = Unit {0}
-Some End = ⊥
+abbrev AnyLine : Line → Type 0
+AnyLine (Header h) = Unit {0}
+AnyLine (Atom n x y z) = Unit {0}
+AnyLine (Exclusion a b) = Unit {0}
+AnyLine Malformed = Unit {0}
+AnyLine End = ⊥
 
-some_if : (b : Bool) (x y : Line) → Some x → Some y → Some (cond b x y)
-some_if true x y f g = f
-some_if false x y f g = g
+any_if : (b : Bool) (x y : Line) → AnyLine x → AnyLine y → AnyLine (cond b x y)
+any_if true x y f g = f
+any_if false x y f g = g
 
-some_header : (a : ℕ) (t : Three) (m r z : ℕ) → Some (header_of a t m r z)
+any_header : (a : ℕ) (t : Option (ℕ × ℕ × ℕ)) (m r z : ℕ) → AnyLine (header_of a t m r z)
 unfolding header_of
-some_header a Nothing m r z = tt
-some_header a (Of x y w) m r z = some_if (ltb a (2 ^ 16)) _ _ (some_if (ltb m 8) _ _ (some_if (ltb r (2 ^ 32)) _ _ (some_if (eqb z 10) _ _ tt tt) tt) tt) tt
+any_header a None m r z = tt
+any_header a (Some (x, y, w)) m r z = any_if (ltb a (2 ^ 16)) _ _ (any_if (ltb m 8) _ _ (any_if (ltb r (2 ^ 32)) _ _ (any_if (eqb z 10) _ _ tt tt) tt) tt) tt
 
-some_atom : (n : ℕ) (t : Three) (z : ℕ) → Some (atom_of n t z)
+any_atom : (n : ℕ) (t : Option (ℕ × ℕ × ℕ)) (z : ℕ) → AnyLine (atom_of n t z)
 unfolding atom_of
-some_atom n Nothing z = tt
-some_atom n (Of x y w) z = some_if (ltb n 1024) _ _ (some_if (eqb z 10) _ _ tt tt) tt
+any_atom n None z = tt
+any_atom n (Some (x, y, w)) z = any_if (ltb n 1024) _ _ (any_if (eqb z 10) _ _ tt tt) tt
 
-some_exclusion : (a b z : ℕ) → Some (exclusion_of a b z)
+any_exclusion : (a b z : ℕ) → AnyLine (exclusion_of a b z)
 unfolding exclusion_of
-some_exclusion a b z = some_if (ltb a (2 ^ 16)) _ _ (some_if (ltb b (2 ^ 16)) _ _ (some_if (eqb z 10) _ _ tt tt) tt) tt
+any_exclusion a b z = any_if (ltb a (2 ^ 16)) _ _ (any_if (ltb b (2 ^ 16)) _ _ (any_if (eqb z 10) _ _ tt tt) tt) tt
 
-some_line : (s : List ℕ) (at : ℕ) → at < length s → Some (line_at s at)
+any_line : (s : List ℕ) (at : ℕ) → at < length s → AnyLine (line_at s at)
 unfolding line_at
-some_line s at h =
+any_line s at h =
     simp (lt-ltb at (length s) h)
-    (some_if (eqb (hex2 s at) 1) _ _ (some_header (hex4 s (at + 2)) (three_at s (at + 6)) (hex2 s (at + 30)) (hex8 s (at + 32)) (byte_at s (at + 40)))
-    (some_if (eqb (hex2 s at) 2) _ _ (some_atom (hex4 s (at + 2)) (three_at s (at + 6)) (byte_at s (at + 30)))
-    (some_if (eqb (hex2 s at) 3) _ _ (some_exclusion (hex4 s (at + 2)) (hex4 s (at + 6)) (byte_at s (at + 10))) tt)))
+    (any_if (eqb (hex2 s at) 1) _ _ (any_header (hex4 s (at + 2)) (three_at s (at + 6)) (hex2 s (at + 30)) (hex8 s (at + 32)) (byte_at s (at + 40)))
+    (any_if (eqb (hex2 s at) 2) _ _ (any_atom (hex4 s (at + 2)) (three_at s (at + 6)) (byte_at s (at + 30)))
+    (any_if (eqb (hex2 s at) 3) _ _ (any_exclusion (hex4 s (at + 2)) (hex4 s (at + 6)) (byte_at s (at + 10))) tt)))
 
 -- a whole line reads the same before any rest
 module _ (pre c r t : List ℕ) (w : WholeLine c) where
@@ -101,7 +100,7 @@ module _ (pre c r t : List ℕ) (w : WholeLine c) where
       let k = sound_good (here pre c r w) (length pre) l g (rw e at (text_line (here pre c r w) (length pre))) in
       e ∙ sym (reads_as pre c t w l k.0 (read_is pre c r w l k.0 k.1))
 
-same_line : (pre c r t : List ℕ) (w : WholeLine c) (l k : Line) → line_at (here pre c r w) (length pre) ≡ l → line_at (here pre c t w) (length pre) ≡ k → Some l → Some k → l ≡ k
+same_line : (pre c r t : List ℕ) (w : WholeLine c) (l k : Line) → line_at (here pre c r w) (length pre) ≡ l → line_at (here pre c t w) (length pre) ≡ k → AnyLine l → AnyLine k → l ≡ k
 same_line pre c r t w (Header h) k e f a b = sym e ∙ (same_good pre c r t w (Header h) e tt ∙ f)
 same_line pre c r t w (Atom n x y z) k e f a b = sym e ∙ (same_good pre c r t w (Atom n x y z) e tt ∙ f)
 same_line pre c r t w (Exclusion n m) k e f a b = sym e ∙ (same_good pre c r t w (Exclusion n m) e tt ∙ f)
@@ -115,7 +114,7 @@ same_line pre c r t w End k e f a b = absurd a
 pub reads_alike : (pre c r t : List ℕ) (w : WholeLine c) → line_at (pre ++ (c ++ r)) (length pre) ≡ line_at (pre ++ (c ++ t)) (length pre)
 reads_alike pre c r t w =
     same_line pre c r t w (line_at (here pre c r w) (length pre)) (line_at (here pre c t w) (length pre)) refl refl
-    (some_line (here pre c r w) (length pre) (inside pre c r w)) (some_line (here pre c t w) (length pre) (inside pre c t w))
+    (any_line (here pre c r w) (length pre) (inside pre c r w)) (any_line (here pre c t w) (length pre) (inside pre c t w))
 
 -- ---- the lines up to the first malformed one
 

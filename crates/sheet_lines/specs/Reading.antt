@@ -1,22 +1,21 @@
 -- The line that stands at a place of a sheet (01, "Job sheet"): which bytes are read as which line. Definitions only.
+use Rattle.std.specs.Prelude.{None, Option, Some}
 use Rattle.std.specs.Prelude.{ℕ, zero, suc, ◌+◌, ◌^◌, cond, List, [], ◌∷◌, length, ltb, eqb}
 use Rattle.hexadecimal.specs.Digits.{byte_at, hex2, hex4, hex8}
-use Rattle.sheet_lines.specs.declared.Three.{Three}
-use Rattle.sheet_lines.specs.declared.Three.TheVariants.{Of, Nothing}
 use Rattle.sheet_lines.specs.declared.Line.{Line}
 use Rattle.sheet_lines.specs.declared.Line.TheVariants.{Header, Atom, Exclusion, Malformed, End}
 
 -- three numbers of 8 digits: each a number, and no mark of a digit that is none
-unfoldable pub three_of : ℕ → ℕ → ℕ → Three
-three_of x y z = cond (ltb x (2 ^ 32)) (cond (ltb y (2 ^ 32)) (cond (ltb z (2 ^ 32)) (Of x y z) Nothing) Nothing) Nothing
+unfoldable pub three_of : ℕ → ℕ → ℕ → Option (ℕ × ℕ × ℕ)
+three_of x y z = cond (ltb x (2 ^ 32)) (cond (ltb y (2 ^ 32)) (cond (ltb z (2 ^ 32)) (Some (x, y, z)) None) None) None
 
-unfoldable pub three_at : List ℕ → ℕ → Three
+unfoldable pub three_at : List ℕ → ℕ → Option (ℕ × ℕ × ℕ)
 three_at s at = three_of (hex8 s at) (hex8 s (at + 8)) (hex8 s (at + 16))
 
 -- header: atoms (4 digits), edges, periodic mask 00 to 07, radius (8), newline
-unfoldable pub header_of : ℕ → Three → ℕ → ℕ → ℕ → Line
-header_of atoms Nothing mask radius end = Malformed
-header_of atoms (Of x y z) mask radius end =
+unfoldable pub header_of : ℕ → Option (ℕ × ℕ × ℕ) → ℕ → ℕ → ℕ → Line
+header_of atoms None mask radius end = Malformed
+header_of atoms (Some (x, y, z)) mask radius end =
     cond (ltb atoms (2 ^ 16))
     (cond (ltb mask 8)
     (cond (ltb radius (2 ^ 32))
@@ -28,9 +27,9 @@ header_of atoms (Of x y z) mask radius end =
     Malformed
 
 -- atom: number (4 digits, below 1,024), place, newline
-unfoldable pub atom_of : ℕ → Three → ℕ → Line
-atom_of number Nothing end = Malformed
-atom_of number (Of x y z) end = cond (ltb number 1024) (cond (eqb end 10) (Atom number x y z) Malformed) Malformed
+unfoldable pub atom_of : ℕ → Option (ℕ × ℕ × ℕ) → ℕ → Line
+atom_of number None end = Malformed
+atom_of number (Some (x, y, z)) end = cond (ltb number 1024) (cond (eqb end 10) (Atom number x y z) Malformed) Malformed
 
 -- exclusion: two numbers (4 digits each), newline
 unfoldable pub exclusion_of : ℕ → ℕ → ℕ → Line

@@ -17,13 +17,6 @@ pub struct Head {
     pub radius: u32,
 }
 
-// Three numbers of eight digits, where all are numbers.
-#[derive(Drop)]
-pub enum Three {
-    Of(u32, u32, u32),
-    Nothing,
-}
-
 #[derive(Clone, Copy)]
 pub enum Line {
     Header(Head),
@@ -35,21 +28,22 @@ pub enum Line {
     End,
 }
 
-pub fn three_of(x: u64, y: u64, z: u64) -> Three
+// Three numbers of eight digits, where all are numbers.
+pub fn three_of(x: u64, y: u64, z: u64) -> Option<(u32, u32, u32)>
     ensures { result ≡ three_of x y z }
 {
     if x < 4294967296 {
         if y < 4294967296 {
             if z < 4294967296 {
-                return Three::Of(x as u32, y as u32, z as u32);
+                return Some((x as u32, y as u32, z as u32));
             }
         }
     }
-    Three::Nothing
+    None
 }
 
 // Three numbers of eight digits each.
-fn three_at(s: &[u8], at: usize) -> Three
+fn three_at(s: &[u8], at: usize) -> Option<(u32, u32, u32)>
     requires { at + 23 < 2 ^ 64 }
     ensures { result ≡ three_at s.now at }
 {
@@ -59,10 +53,16 @@ fn three_at(s: &[u8], at: usize) -> Three
     three_of(x, y, z)
 }
 
-pub fn header_of(atoms: u64, edges: Three, mask: u64, radius: u64, end: u8) -> Line
+pub fn header_of(
+    atoms: u64,
+    edges: Option<(u32, u32, u32)>,
+    mask: u64,
+    radius: u64,
+    end: u8,
+) -> Line
     ensures { result ≡ header_of atoms edges mask radius end }
 {
-    let Three::Of(x, y, z) = edges else {
+    let Some((x, y, z)) = edges else {
         return Line::Malformed;
     };
     if 65536 <= atoms {
@@ -87,10 +87,10 @@ pub fn header_of(atoms: u64, edges: Three, mask: u64, radius: u64, end: u8) -> L
     })
 }
 
-pub fn atom_of(number: u64, place: Three, end: u8) -> Line
+pub fn atom_of(number: u64, place: Option<(u32, u32, u32)>, end: u8) -> Line
     ensures { result ≡ atom_of number place end }
 {
-    let Three::Of(x, y, z) = place else {
+    let Some((x, y, z)) = place else {
         return Line::Malformed;
     };
     if number < 1024 {

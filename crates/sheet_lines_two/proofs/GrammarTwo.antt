@@ -1,4 +1,5 @@
 -- The reader of the second form accepts exactly its grammar: a line's bytes read as that line, and a line that was read stands there in bytes. Assumes nothing.
+use Rattle.std.specs.Prelude.{None, Option, Some}
 use Prim.Native.Nat.{ℕ, zero, suc, ◌+◌, ◌/◌, ◌%◌, ◌^◌, ◌<◌}
 use mathlib.Core.Path.{◌≡◌, refl, ◌∙◌}
 use mathlib.Core.Bool.{Bool, true, false, cond}
@@ -13,8 +14,6 @@ use Rattle.hexadecimal.proofs.Writing.{length2, length4, length8}
 use Rattle.hexadecimal.proofs.Reading.{stands_split, stands_join, hex2_text, text_hex2, hex4_text, text_hex4, hex8_text, text_hex8, in_range}
 use Rattle.sheet_lines.specs.Reading.{three_at, header_of, atom_of, exclusion_of}
 use Rattle.sheet_lines.specs.Grammar.{text888, line_text}
-use Rattle.sheet_lines.specs.declared.Three.{Three}
-use Rattle.sheet_lines.specs.declared.Three.TheVariants.{Of, Nothing}
 use Rattle.sheet_lines.specs.declared.Line.{Line}
 use Rattle.sheet_lines.specs.declared.Line.TheVariants.{Header, Atom, Exclusion, Malformed, End}
 use Rattle.sheet_lines.proofs.GrammarLaws.{length888, three_text, ThreeStands, text_three}
@@ -69,7 +68,7 @@ text_two s at (Atom n x y z) t v k =
     let here : at < length s = in_range s at (omega arith) in
     let small : n < 2 ^ 16 = omega (arith, v.0.0) in
     let fn : hex4 s (at + 2) ≡ n = hex4_text s (at + 2) n small (simp length2 at r.1) in
-    let fx : three_at s (at + 6) ≡ Of x y z = three_text s (at + 6) x y z v.0.1 v.0.2 v.0.3 (simp (length-append, length2, length4) at q.1) in
+    let fx : three_at s (at + 6) ≡ Some (x, y, z) = three_text s (at + 6) x y z v.0.1 v.0.2 v.0.3 (simp (length-append, length2, length4) at q.1) in
     let ft : hex8 s (at + 30) ≡ t = hex8_text s (at + 30) t v.1 (simp (length-append, length2, length4, length888) at o.1) in
     let end = simp (length-append, length2, length4, length8, length888) at p.1 in
     simp (lt-ltb at (length s) here, kind, fn, fx, ft, end.0, lt-ltb n 1024 v.0.0, lt-ltb t (2 ^ 32) v.1)
@@ -83,7 +82,7 @@ text_two s at (Header h) t v k =
     let kind : hex2 s at ≡ 17 = hex2_text s at 17 (omega arith) r.0 in
     let here : at < length s = in_range s at (omega arith) in
     let fn : hex4 s (at + 2) ≡ h.atoms = hex4_text s (at + 2) h.atoms v.0.0 (simp length2 at r.1) in
-    let fx : three_at s (at + 6) ≡ Of h.ex h.ey h.ez = three_text s (at + 6) h.ex h.ey h.ez v.0.1 v.0.2 v.0.3 (simp (length-append, length2, length4) at q.1) in
+    let fx : three_at s (at + 6) ≡ Some (h.ex, h.ey, h.ez) = three_text s (at + 6) h.ex h.ey h.ez v.0.1 v.0.2 v.0.3 (simp (length-append, length2, length4) at q.1) in
     let small : h.mask < 256 = omega (arith, v.0.4) in
     let fm : hex2 s (at + 30) ≡ h.mask = hex2_text s (at + 30) h.mask small (simp (length-append, length2, length4, length888) at m.1) in
     let fr : hex8 s (at + 32) ≡ h.radius = hex8_text s (at + 32) h.radius v.0.5 (simp (length-append, length2, length4, length888) at o.1) in
@@ -137,10 +136,10 @@ sound_exclusion s at kind =
     tt)
     tt
 
-sound_atom : (s : List ℕ) (at : ℕ) (t : Three) → hex2 s at ≡ 18 → ThreeStands s (at + 6) t → hex8 s (at + 30) < 2 ^ 32 → StoodWith s at (atom_of (hex4 s (at + 2)) t (byte_at s (at + 38))) (hex8 s (at + 30))
+sound_atom : (s : List ℕ) (at : ℕ) (t : Option (ℕ × ℕ × ℕ)) → hex2 s at ≡ 18 → ThreeStands s (at + 6) t → hex8 s (at + 30) < 2 ^ 32 → StoodWith s at (atom_of (hex4 s (at + 2)) t (byte_at s (at + 38))) (hex8 s (at + 30))
 unfolding atom_of text_with
-sound_atom s at Nothing kind h e = tt
-sound_atom s at (Of x y z) kind h e =
+sound_atom s at None kind h e = tt
+sound_atom s at (Some (x, y, z)) kind h e =
     line_if s at (ltb (hex4 s (at + 2)) 1024) _ _ (hex8 s (at + 30))
     (λ a. line_if s at (eqb (byte_at s (at + 38)) 10) _ _ (hex8 s (at + 30))
     (λ d.
@@ -160,10 +159,10 @@ sound_atom s at (Of x y z) kind h e =
     tt
 
 -- with the byte at its end, and what stands after the 40 digits where that is a newline
-sound_header : (s : List ℕ) (at : ℕ) (t : Three) (e z : ℕ) → hex2 s at ≡ 17 → ThreeStands s (at + 6) t → e < 3 → (z ≡ 10 → Stands s (at + 40) (rule_text e)) → StoodWith s at (header_of (hex4 s (at + 2)) t (hex2 s (at + 30)) (hex8 s (at + 32)) z) e
+sound_header : (s : List ℕ) (at : ℕ) (t : Option (ℕ × ℕ × ℕ)) (e z : ℕ) → hex2 s at ≡ 17 → ThreeStands s (at + 6) t → e < 3 → (z ≡ 10 → Stands s (at + 40) (rule_text e)) → StoodWith s at (header_of (hex4 s (at + 2)) t (hex2 s (at + 30)) (hex8 s (at + 32)) z) e
 unfolding header_of text_with head_text
-sound_header s at Nothing e z kind h f g = tt
-sound_header s at (Of x y w) e z kind h f g =
+sound_header s at None e z kind h f g = tt
+sound_header s at (Some (x, y, w)) e z kind h f g =
     line_if s at (ltb (hex4 s (at + 2)) (2 ^ 16)) _ _ e
     (λ a. line_if s at (ltb (hex2 s (at + 30)) 8) _ _ e
     (λ b. line_if s at (ltb (hex8 s (at + 32)) (2 ^ 32)) _ _ e

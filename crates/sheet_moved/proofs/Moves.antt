@@ -1,4 +1,5 @@
 -- What `read_two` answers and leaves, for what is written from it; `to_one` and `to_two` by their cases. Assumes nothing.
+use Rattle.std.specs.Prelude.{Result}
 use Prim.Native.Nat.{ℕ, ◌*◌, ◌≤◌, ◌<◌}
 use mathlib.Core.Path.{◌≡◌, refl, sym, ap, ◌∙◌}
 use mathlib.Core.Bool.{true, false, cond}
@@ -7,9 +8,7 @@ use native.Mathlib.Omega.{arith}
 use lib.ListN.{length, take}
 use lib.Dec.{ltb, eqb}
 use borrow.Author.Tests.{lt-ltb, le-ltb, ltb-false, eq-eqb, ne_eqb}
-use Rattle.answer.specs.Seen.{Seen, answered, refused, refused_by, seen_whole}
-use Rattle.answer.specs.declared.Whole.{Whole}
-use Rattle.answer.specs.declared.Whole.TheVariants as wholes
+use Rattle.answer.specs.Seen.{Seen, answered, refused, refused_by, seen}
 use Rattle.answer.specs.declared.Refusal.{Refusal}
 use Rattle.answer.specs.declared.Refusal.TheVariants.{Lengths}
 use Rattle.lists.specs.Lists.{flat}
@@ -27,7 +26,7 @@ use Rattle.sheet_written.specs.Write as writing
 use Rattle.sheet_written.specs.WrittenTwo.{WriteTwoSays}
 use Rattle.sheet_rewritten.specs.Rewrite.{box_of}
 use Rattle.sheet_rewritten.proofs.Forms.{front, Handed}
-use Rattle.sheet_moved.specs.Moved.{at_rule, back, to_one_of, wrote_as, seen_moved, forth, to_two_of}
+use Rattle.sheet_moved.specs.Moved.{at_rule, back, to_one_of, forth, to_two_of}
 
 -- ---- what `read_two` told
 module _ (s co sp ex : List ℕ) (a : 3072 ≤ length co) (b : 1024 ≤ length sp) (c : 2048 ≤ length ex) where
@@ -122,16 +121,12 @@ module _ (s co sp ex : List ℕ) (a : 3072 ≤ length co) (b : 1024 ≤ length s
           let t : ltb k h.sound.sound.head.atoms ≡ true = lt-ltb k h.sound.sound.head.atoms (rw h.same at q) in
           sym (opened ∙ rw (ruled_one, lead_is, t))
 
-      pub wrote_back : j.job.atoms ≤ k → (f : Frame) (n m : ℕ) (w : Whole) (out' : List ℕ) → f ≡ frame_for j.job → n ≡ 3 * j.job.atoms → m ≡ 2 * j.job.count → writing.WriteSays f (take n co') (take m ex') out w out' → record { shown = seen_whole w; out = out' } ≡ to_one_of s out
+      pub wrote_back : j.job.atoms ≤ k → (f : Frame) (n m : ℕ) (w : Result ℕ Refusal) (out' : List ℕ) → f ≡ frame_for j.job → n ≡ 3 * j.job.atoms → m ≡ 2 * j.job.count → writing.WriteSays f (take n co') (take m ex') out w out' → record { shown = seen w; out = out' } ≡ to_one_of s out
       wrote_back q f n m w out' p u v says =
           let t : ltb k h.sound.sound.head.atoms ≡ false = le-ltb k h.sound.sound.head.atoms (rw h.same at q) in
           let x : take n co' ≡ h.sound.sound.coords = ap (λ (i : ℕ). take i co') u ∙ h.coords in
           let y : take m ex' ≡ flat h.sound.sound.rows = ap (λ (i : ℕ). take i ex') v ∙ h.pairs in
           (rw (p, h.frame, x, y) at says) ∙ sym (opened ∙ rw (ruled_one, lead_is, t))
-
-pub seen_moved_lem : (w : Whole) → seen_moved (wrote_as w) ≡ seen_whole w
-seen_moved_lem (wholes.Answered n) = refl
-seen_moved_lem (wholes.Refused r) = refl
 
 -- ---- `to_two` by its cases
 module _ (s co ex : List ℕ) (a : 3072 ≤ length co) (b : 2048 ≤ length ex) where
@@ -139,7 +134,7 @@ module _ (s co ex : List ℕ) (a : 3072 ≤ length co) (b : 2048 ≤ length ex) 
   unfolding reading.read_of
   one_is = rw (le-ltb (length co) 3072 a, le-ltb (length ex) 2048 b)
 
-  pub wrote_forth : (j : Job) (co' ex' out : List ℕ) → Handed s co ex a b j co' ex' → (f : Frame) (n m : ℕ) (w : Whole) (out' : List ℕ) → f ≡ frame_for j → n ≡ 3 * j.atoms → m ≡ 2 * j.count → WriteTwoSays f (take n co') (take m ex') out w out' → record { shown = seen_whole w; out = out' } ≡ to_two_of s out
+  pub wrote_forth : (j : Job) (co' ex' out : List ℕ) → Handed s co ex a b j co' ex' → (f : Frame) (n m : ℕ) (w : Result ℕ Refusal) (out' : List ℕ) → f ≡ frame_for j → n ≡ 3 * j.atoms → m ≡ 2 * j.count → WriteTwoSays f (take n co') (take m ex') out w out' → record { shown = seen w; out = out' } ≡ to_two_of s out
   unfolding to_two_of
   wrote_forth j co' ex' out h f n m w out' p u v says =
       let x : take n co' ≡ h.sound.coords = ap (λ (i : ℕ). take i co') u ∙ h.coords in

@@ -1,5 +1,7 @@
 -- THEOREMS. Moving there and back is the written first form; what is written in the second form reads back; going back is possible exactly when the rule is 1 and every species is 0; whole lines
 -- in another order are moved alike. Assumes nothing.
+use Rattle.std.specs.Prelude.{Err, Ok, Result}
+use Rattle.answer.specs.declared.Refusal.{Refusal}
 use Prim.Native.Nat.{ℕ, zero, suc, ◌/◌, ◌≤◌, ◌<◌}
 use mathlib.Core.Path.{◌≡◌, refl, sym, ap, ◌∙◌}
 use mathlib.Core.Bool.{Bool, true, false, cond}
@@ -10,10 +12,7 @@ use lib.ListN.{length, get_or, take, replicate}
 use lib.Seq.{sets, length-sets}
 use lib.Dec.{ltb, eqb}
 use borrow.Author.Tests.{lt-ltb, le-ltb, ltb-false, eq-eqb, ne_eqb, eqb-true}
-use Rattle.answer.specs.Seen.{Seen, answered, refused, refused_by, seen_whole}
-use Rattle.answer.specs.declared.Done.{Done}
-use Rattle.answer.specs.declared.Done.TheVariants as dones
-use Rattle.answer.specs.declared.Whole.{Whole}
+use Rattle.answer.specs.Seen.{Seen, answered, refused, refused_by, seen}
 use Rattle.answer.specs.declared.Refusal.TheVariants.{Lengths, Range}
 use Rattle.lists.specs.Lists.{rows, flat}
 use Rattle.lists.proofs.Cases.{by_test, impossible}
@@ -37,7 +36,7 @@ use Rattle.sheet_rewritten.proofs.Forms.{asked_is, form_reads}
 use Rattle.sheet_rewritten.proofs.OneForm.{form_is}
 use Rattle.sheet_moved.specs.Moved.{at_rule, untyped_back, back, to_one_of, forth, to_two_of, seen_moved, ToOneSays, ToTwoSays}
 use Rattle.sheet_moved.specs.Theorems.{ThereAndBack, formed_there, TwoReads, BackExactly, ToOneInAnyOrder, ToTwoInAnyOrder}
-use Rattle.sheet_moved.specs.declared.Moved as moved
+use Rattle.sheet_moved.specs.declared.MoveError.{MoveError}
 
 -- ---- the lowest that is not 0
 lead_all : (l : List ℕ) → ((k : ℕ) → get_or l k 0 ≡ 0) → lead_of 0 l ≡ length l
@@ -110,7 +109,7 @@ peel : (b : Bool) (x : Outcome) (out : List ℕ) (n : ℕ) → (cond b (record {
 peel true x out n e = impossible (cc)
 peel false x out n e = refl
 
-ranged_by : (b : Bool) (text out : List ℕ) (n : ℕ) → (write_after (cond b dones.Answered (dones.Refused Range)) text out).shown ≡ answered n → (b ≡ true) × (take n (write_after (cond b dones.Answered (dones.Refused Range)) text out).out ≡ text)
+ranged_by : (b : Bool) (text out : List ℕ) (n : ℕ) → (write_after (cond b (Ok tt) (Err Range)) text out).shown ≡ answered n → (b ≡ true) × (take n (write_after (cond b (Ok tt) (Err Range)) text out).out ≡ text)
 ranged_by true text out n e = (refl, laid_front text out n e)
 ranged_by false text out n e = impossible (cc)
 
@@ -118,8 +117,8 @@ wrote_two : (s out : List ℕ) (n : ℕ) (a : Sound) → sheet_of s ≡ answered
 unfolding write_two_of
 wrote_two s out n a e q =
     let p = asked_is s a e in
-    let r = ranged_by (ranges_ok (box_of a) a.coords) (written_two (box_of a) a.coords (flat a.rows)) out n (sym (ap (λ (d : Done). (write_after d (written_two (box_of a) a.coords (flat a.rows)) out).shown) p) ∙ q) in
-    (r.0, ap (λ (d : Done). take n (write_after d (written_two (box_of a) a.coords (flat a.rows)) out).out) p ∙ r.1)
+    let r = ranged_by (ranges_ok (box_of a) a.coords) (written_two (box_of a) a.coords (flat a.rows)) out n (sym (ap (λ (d : Result (Unit {0}) Refusal). (write_after d (written_two (box_of a) a.coords (flat a.rows)) out).shown) p) ∙ q) in
+    (r.0, ap (λ (d : Result (Unit {0}) Refusal). take n (write_after d (written_two (box_of a) a.coords (flat a.rows)) out).out) p ∙ r.1)
 
 forth_by : (s out : List ℕ) (n : ℕ) (x : Seen Sound) → length s ≤ 65536 → sheet_of s ≡ x → to_two_of s out ≡ forth x out → (forth x out).shown ≡ answered n → Moved s out n
 forth_by s out n (answered a) h e o q =
@@ -146,7 +145,7 @@ module _ (s out : List ℕ) (n : ℕ) (m : Moved s out n) where
   a = m.sound
 
   passed : Fine (box_of a) a.coords (flat a.rows)
-  passed = fine (box_of a) a.coords (flat a.rows) (sym (asked_is s a m.is ∙ ap (λ (b : Bool). cond b dones.Answered (dones.Refused Range)) m.ranged))
+  passed = fine (box_of a) a.coords (flat a.rows) (sym (asked_is s a m.is ∙ ap (λ (b : Bool). cond b (Ok tt) (Err Range)) m.ranged))
 
   -- the sound sheet is the one that is read back
   same : record { head = head_of (box_of a) (length a.coords / 3); coords = a.coords; rows = rows (flat a.rows) } ≡ a
@@ -179,7 +178,7 @@ module _ (s out : List ℕ) (n : ℕ) (m : Moved s out n) where
   written : (to : List ℕ) → write_of (box_of a) a.coords (flat a.rows) to ≡ laid_in (rewritten s) to
   unfolding write_of form_of
   written to =
-      ap (λ (d : Done). write_after d (written_text (box_of a) a.coords (flat a.rows)) to) (asked_is s a m.is ∙ ap (λ (b : Bool). cond b dones.Answered (dones.Refused Range)) m.ranged)
+      ap (λ (d : Result (Unit {0}) Refusal). write_after d (written_text (box_of a) a.coords (flat a.rows)) to) (asked_is s a m.is ∙ ap (λ (b : Bool). cond b (Ok tt) (Err Range)) m.ranged)
       ∙ ap (λ (t : List ℕ). laid_in t to) (sym (form_is s (record { short = m.short; sound = a; is = m.is; ranged = m.ranged })))
 
   one_back : (to : List ℕ) → to_one_of (take n (to_two_of s out).out) to ≡ laid_in (rewritten s) to
@@ -227,14 +226,14 @@ laid_fits text out n =
     (λ _ q. impossible (cc))
     (λ p q. let k : length text ≡ n = cc in omega (arith, ltb-false (length out) (length text) p, length-sets out 0 text))
 
-after_fits : (d : Done) (text out : List ℕ) (n : ℕ) → (write_after d text out).shown ≡ answered n → n ≤ length (write_after d text out).out
-after_fits (dones.Refused r) text out n q = impossible (cc)
-after_fits dones.Answered text out n q = laid_fits text out n q
+after_fits : (d : Result (Unit {0}) Refusal) (text out : List ℕ) (n : ℕ) → (write_after d text out).shown ≡ answered n → n ≤ length (write_after d text out).out
+after_fits (Err r) text out n q = impossible (cc)
+after_fits (Ok tt) text out n q = laid_fits text out n q
 
-abbrev back_by : Bool → ℕ → Done → List ℕ → List ℕ → Outcome
+abbrev back_by : Bool → ℕ → Result (Unit {0}) Refusal → List ℕ → List ℕ → Outcome
 back_by t k d text out = cond t (record { shown = refused 12 k; out = out }) (write_after d text out)
 
-type_fits : (t : Bool) (k : ℕ) (d : Done) (text out : List ℕ) (n : ℕ) → (back_by t k d text out).shown ≡ answered n → n ≤ length (back_by t k d text out).out
+type_fits : (t : Bool) (k : ℕ) (d : Result (Unit {0}) Refusal) (text out : List ℕ) (n : ℕ) → (back_by t k d text out).shown ≡ answered n → n ≤ length (back_by t k d text out).out
 type_fits true k d text out n q = impossible (cc)
 type_fits false k d text out n q = after_fits d text out n q
 
@@ -267,8 +266,8 @@ unfolding to_two_of
 two_fits s out n q = if_fits (ltb 65536 (length s)) (forth (sheet_of s) out) out n (forth_fits (sheet_of s) out n) q
 
 -- the bytes that a move answers stand in what it left
-pub to_one_fits : (s out : List ℕ) (r : moved.Moved) (out' : List ℕ) (n : ℕ) → ToOneSays s out r out' → seen_moved r ≡ answered n → n ≤ length out'
+pub to_one_fits : (s out : List ℕ) (r : Result ℕ MoveError) (out' : List ℕ) (n : ℕ) → ToOneSays s out r out' → seen_moved r ≡ answered n → n ≤ length out'
 to_one_fits s out r out' n says e = rw (ap (λ (o : Outcome). o.out) says) (one_fits s out n (sym (ap (λ (o : Outcome). o.shown) says) ∙ e))
 
-pub to_two_fits : (s out : List ℕ) (r : Whole) (out' : List ℕ) (n : ℕ) → ToTwoSays s out r out' → seen_whole r ≡ answered n → n ≤ length out'
+pub to_two_fits : (s out : List ℕ) (r : Result ℕ Refusal) (out' : List ℕ) (n : ℕ) → ToTwoSays s out r out' → seen r ≡ answered n → n ≤ length out'
 to_two_fits s out r out' n says e = rw (ap (λ (o : Outcome). o.out) says) (two_fits s out n (sym (ap (λ (o : Outcome). o.shown) says) ∙ e))

@@ -1,4 +1,6 @@
 -- With room for the longest sheet the writer's 8 never occurs. Assumes nothing.
+use Rattle.std.specs.Prelude.{Err, Ok, Result}
+use Rattle.answer.specs.declared.Refusal.{Refusal}
 use Prim.Native.Nat.{ℕ, ◌≤◌}
 use mathlib.Core.Path.{◌≡◌, refl, sym}
 use mathlib.Core.Bool.{Bool, true, false, cond}
@@ -8,8 +10,6 @@ use lib.ListN.{length}
 use lib.Dec.{ltb, eqb}
 use borrow.Author.Tests.{le-ltb}
 use Rattle.answer.specs.Seen.{Seen, answered, refused}
-use Rattle.answer.specs.declared.Done.{Done}
-use Rattle.answer.specs.declared.Done.TheVariants as dones
 use Rattle.lists.specs.Lists.{flat}
 use Rattle.sheet.specs.Reading.{lead_of, Sound, sheet_of}
 use Rattle.sheet.specs.ReadTwo.{SoundTwo, sheet_two}
@@ -27,9 +27,9 @@ module _ (out : List ℕ) where
   unfolding laid_in
   laid text h = rw (le-ltb (length out) (length text) h)
 
-  after : (d : Done) (text : List ℕ) → (d ≡ dones.Answered → length text ≤ length out) → write_after d text out ≡ laid_whole (seen_text d text) out
-  after (dones.Refused r) text h = refl
-  after dones.Answered text h = laid text (h refl)
+  after : (d : Result (Unit {0}) Refusal) (text : List ℕ) → (d ≡ Ok tt → length text ≤ length out) → write_after d text out ≡ laid_whole (seen_text d text) out
+  after (Err r) text h = refl
+  after (Ok tt) text h = laid text (h refl)
 
   -- of two outcomes
   either : (b : Bool) (x x' : Outcome) (y y' : Seen (List ℕ)) → x ≡ laid_whole y out → x' ≡ laid_whole y' out → cond b x x' ≡ laid_whole (cond b y y') out

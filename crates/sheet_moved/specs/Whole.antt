@@ -1,9 +1,9 @@
 -- What a move gives where there is room for every sheet: a text or a refusal, and no 8 of the writer's. Definitions only.
+use Rattle.std.specs.Prelude.{Err, Ok, Result}
+use Rattle.answer.specs.declared.Refusal.{Refusal}
 use Rattle.std.specs.Prelude.{ℕ, ◌≤◌, ◌≡◌, cond, List, length, ltb, eqb}
 use Rattle.std.proofs.lemmas.List.Edits.{sets}
 use Rattle.answer.specs.Seen.{Seen, answered, refused, refused_by}
-use Rattle.answer.specs.declared.Done.{Done}
-use Rattle.answer.specs.declared.Done.TheVariants as dones
 use Rattle.answer.specs.declared.Refusal.TheVariants.{Lengths}
 use Rattle.lists.specs.Lists.{flat}
 use Rattle.sheet.specs.Reading.{lead_of, Sound, sheet_of}
@@ -15,9 +15,9 @@ use Rattle.sheet_rewritten.specs.Rewrite.{box_of}
 use Rattle.sheet_moved.specs.Moved.{at_rule, to_one_of, to_two_of}
 
 -- the text where the writer's tests pass
-abbrev pub seen_text : Done → List ℕ → Seen (List ℕ)
-seen_text (dones.Refused r) text = refused_by r
-seen_text dones.Answered text = answered text
+abbrev pub seen_text : Result (Unit {0}) Refusal → List ℕ → Seen (List ℕ)
+seen_text (Err r) text = refused_by r
+seen_text (Ok tt) text = answered text
 
 abbrev pub forth_text : Seen Sound → Seen (List ℕ)
 forth_text (answered a) = seen_text (write_asked (box_of a) a.coords (flat a.rows)) (written_two (box_of a) a.coords (flat a.rows))

@@ -53,10 +53,8 @@ fn put_pairs(out: &mut [u8], pairs: &[u32], count: usize)
     requires { 2 * count ≤ length pairs.now }
     ensures { out.new ≡ sets out.old 21 (pair_lines (take count (rows pairs.now))) }
 {
-    let mut i: usize = 0;
-    while i < count {
+    for i in 0..count {
         put_pair(out, 21 + 11 * i, pairs[2 * i], pairs[2 * i + 1]);
-        i += 1;
     }
 }
 

@@ -1,4 +1,6 @@
 -- No rewritten text is longer than 43,049 bytes, so an answered buffer holds it whole. Assumes nothing.
+use Rattle.std.specs.Prelude.{Result}
+use Rattle.answer.specs.declared.Refusal.{Refusal}
 use Prim.Native.Nat.{ℕ, ◌≤◌}
 use mathlib.Core.Path.{◌≡◌, refl, sym, ap, ◌∙◌}
 use mathlib.Core.Bool.{cond}
@@ -8,8 +10,7 @@ use lib.ListN.{length, take}
 use lib.Seq.{sets, length-sets}
 use lib.Dec.{ltb}
 use borrow.Author.Tests.{ltb-false}
-use Rattle.answer.specs.Seen.{Seen, answered, refused, refused_by, seen_whole}
-use Rattle.answer.specs.declared.Whole.{Whole}
+use Rattle.answer.specs.Seen.{Seen, answered, refused, refused_by, seen}
 use Rattle.answer.specs.declared.Refusal.TheVariants.{Lengths}
 use Rattle.lists.proofs.Cases.{by_test, impossible}
 use Rattle.frame.specs.Build.{ranges_ok}
@@ -45,11 +46,11 @@ fits_by s out out' n h e q =
       text = ap (λ (l : List ℕ). take n l) q ∙ front (rewritten s) out n (sym e) (omega arith);
     }
 
-pub rewrite_fits : (s out : List ℕ) (r : Whole) (out' : List ℕ) → RewriteSays s out r out' → RewriteFits s r out'
+pub rewrite_fits : (s out : List ℕ) (r : Result ℕ Refusal) (out' : List ℕ) → RewriteSays s out r out' → RewriteFits s r out'
 unfolding rewrite_of
 rewrite_fits s out r out' says n a =
     by_test
-    (λ t. ◌≡◌ {A = Outcome} (record { shown = seen_whole r; out = out' }) (cond t (record { shown = refused_by Lengths; out = out }) (record { shown = answered (length (rewritten s)); out = sets out 0 (rewritten s) })) → WholeForm s n out')
+    (λ t. ◌≡◌ {A = Outcome} (record { shown = seen r; out = out' }) (cond t (record { shown = refused_by Lengths; out = out }) (record { shown = answered (length (rewritten s)); out = sets out 0 (rewritten s) })) → WholeForm s n out')
     (ltb (length out) 43049)
     (λ _ q. let h : answered n ≡ refused 1 0 = sym a ∙ ap (λ (o : Outcome). o.shown) q in impossible (cc))
     (λ e q. let h : answered n ≡ answered (length (rewritten s)) = sym a ∙ ap (λ (o : Outcome). o.shown) q in

@@ -1,4 +1,5 @@
 -- What `read` answers and leaves passes the writer's tests but 3, and what `write` then leaves is the sheet's written form. Assumes nothing.
+use Rattle.std.specs.Prelude.{Err, Ok, Result}
 use Prim.Native.Nat.{ℕ, ◌+◌, ◌*◌, ◌/◌, ◌%◌, ◌≤◌, ◌<◌}
 use mathlib.Core.Path.{◌≡◌, refl, sym, ap, ap₂, ◌∙◌}
 use mathlib.Core.Bool.{Bool, true, false, cond}
@@ -9,10 +10,6 @@ use lib.Seq.{sets, sets-eq, take_at}
 use lib.Dec.{ltb}
 use borrow.Author.Tests.{le-ltb, lt-ltb, ltb-false, eq-eqb}
 use Rattle.answer.specs.Seen.{Seen, answered, refused, refused_by, number_of, place_of}
-use Rattle.answer.specs.declared.Done.{Done}
-use Rattle.answer.specs.declared.Done.TheVariants as dones
-use Rattle.answer.specs.declared.Whole.{Whole}
-use Rattle.answer.specs.declared.Whole.TheVariants as wholes
 use Rattle.answer.specs.declared.Refusal.{Refusal}
 use Rattle.answer.specs.declared.Refusal.TheVariants.{Lengths, Range}
 use Rattle.lists.specs.Lists.{flat}
@@ -25,8 +22,6 @@ use Rattle.sheet_printed.specs.Printed.{refusal_line}
 use Rattle.sheet.specs.declared.Job.{Job}
 use Rattle.sheet.specs.Reading.{Sound, sheet_of}
 use Rattle.sheet.specs.Read as reading
-use Rattle.sheet.specs.declared.Sheet as sheet
-use Rattle.sheet.specs.declared.Sheet.TheVariants as sheets
 use Rattle.sheet.proofs.Sizes.{Full, full}
 use Rattle.sheet_answer.specs.Solve.{frame_for}
 use Rattle.sheet_written.specs.Written.{head_of, written_text}
@@ -39,7 +34,7 @@ use Rattle.sheet_rewritten.specs.Steps.{done_text, frame_text}
 use Rattle.sheet_rewritten.proofs.Sane.{SoundSane, sound_sane}
 
 -- ---- the text of a frame
-done_text_lem : (b : Bool) (text : List ℕ) → done_text (cond b dones.Answered (dones.Refused Range)) text ≡ cond b text (refusal_line 3 0)
+done_text_lem : (b : Bool) (text : List ℕ) → done_text (cond b (Ok tt) (Err Range)) text ≡ cond b text (refusal_line 3 0)
 done_text_lem true text = refl
 done_text_lem false text = refl
 
@@ -64,21 +59,21 @@ module _ (s : List ℕ) (a : Sound) (is : sheet_of s ≡ answered a) where
   fitting : Fitting (flat a.rows)
   fitting = record { few = omega (arith, twos, sizes.few); ascending = rw (rows_flat a.rows) sane.sorted; short = sane.short }
 
-  asked_by : (b : Bool) → ranges_ok (box_of a) a.coords ≡ b → writing.write_asked (box_of a) a.coords (flat a.rows) ≡ cond b dones.Answered (dones.Refused Range)
+  asked_by : (b : Bool) → ranges_ok (box_of a) a.coords ≡ b → writing.write_asked (box_of a) a.coords (flat a.rows) ≡ cond b (Ok tt) (Err Range)
   asked_by b e =
       let u : writing.uneven_rows (length a.coords) (length (flat a.rows)) ≡ false = even_rows (length a.coords) (length (flat a.rows)) (omega (arith, sizes.size)) (omega (arith, twos)) in
       let f : length a.coords / 3 ≤ 1024 = omega (arith, atoms_are, sizes.atoms) in
-      by_test (λ x. ranges_ok (box_of a) a.coords ≡ x → writing.write_asked (box_of a) a.coords (flat a.rows) ≡ cond x dones.Answered (dones.Refused Range)) b
+      by_test (λ x. ranges_ok (box_of a) a.coords ≡ x → writing.write_asked (box_of a) a.coords (flat a.rows) ≡ cond x (Ok tt) (Err Range)) b
       (λ _ q. sym (ask_fine (box_of a) a.coords (flat a.rows) u f q (fits_by (flat a.rows) fitting)))
       (λ _ q. sym (ask_range (box_of a) a.coords (flat a.rows) u f q))
       e
 
-  pub asked_is : writing.write_asked (box_of a) a.coords (flat a.rows) ≡ cond (ranges_ok (box_of a) a.coords) dones.Answered (dones.Refused Range)
+  pub asked_is : writing.write_asked (box_of a) a.coords (flat a.rows) ≡ cond (ranges_ok (box_of a) a.coords) (Ok tt) (Err Range)
   asked_is = asked_by (ranges_ok (box_of a) a.coords) refl
 
   pub frame_form : frame_text (box_of a) a.coords (flat a.rows) ≡ form_text (answered a)
   unfolding frame_text form_of
-  frame_form = ap (λ (d : Done). done_text d (written_text (box_of a) a.coords (flat a.rows))) asked_is ∙ done_text_lem (ranges_ok (box_of a) a.coords) (written_text (box_of a) a.coords (flat a.rows))
+  frame_form = ap (λ (d : Result (Unit {0}) Refusal). done_text d (written_text (box_of a) a.coords (flat a.rows))) asked_is ∙ done_text_lem (ranges_ok (box_of a) a.coords) (written_text (box_of a) a.coords (flat a.rows))
 
   -- the header that is written is the header that was read
   head_is : head_of (box_of a) (length a.coords / 3) ≡ a.head
@@ -89,7 +84,7 @@ module _ (s : List ℕ) (a : Sound) (is : sheet_of s ≡ answered a) where
 
   module _ (r : ranges_ok (box_of a) a.coords ≡ true) where
     passed : Fine (box_of a) a.coords (flat a.rows)
-    passed = fine (box_of a) a.coords (flat a.rows) (sym (asked_is ∙ ap (λ (b : Bool). cond b dones.Answered (dones.Refused Range)) r))
+    passed = fine (box_of a) a.coords (flat a.rows) (sym (asked_is ∙ ap (λ (b : Bool). cond b (Ok tt) (Err Range)) r))
 
     pub form_reads : sheet_of (form_of a) ≡ answered a
     unfolding form_of
@@ -103,34 +98,34 @@ module _ (s : List ℕ) (a : Sound) (is : sheet_of s ≡ answered a) where
 
 -- ---- `write` with room for the longest text
 module _ (f : Frame) (xs table out out' : List ℕ) (room : 43049 ≤ length out) where
-  laid : (d : Done) → d ≡ writing.write_asked f xs table → d ≡ dones.Answered → writing.laid_in (written_text f xs table) out ≡ record { shown = answered (length (written_text f xs table)); out = sets out 0 (written_text f xs table) }
+  laid : (d : Result (Unit {0}) Refusal) → d ≡ writing.write_asked f xs table → d ≡ Ok tt → writing.laid_in (written_text f xs table) out ≡ record { shown = answered (length (written_text f xs table)); out = sets out 0 (written_text f xs table) }
   unfolding writing.laid_in
   laid d e q =
       let few = bytes_few f xs table (fine f xs table (sym q ∙ e)) in
       rw (le-ltb (length out) (length (written_text f xs table)) (omega arith))
 
-  answered_by : (n : ℕ) (d : Done) → d ≡ writing.write_asked f xs table → ◌≡◌ {A = writing.Outcome} (record { shown = answered n; out = out' }) (writing.write_after d (written_text f xs table) out) → (n ≡ length (done_text d (written_text f xs table))) × (out' ≡ sets out 0 (done_text d (written_text f xs table)))
-  answered_by n (dones.Refused r) e q = let h : answered n ≡ refused_by r = ap (λ (o : writing.Outcome). o.shown) q in impossible (cc)
-  answered_by n dones.Answered e q =
-      let p = q ∙ laid dones.Answered e refl in
+  answered_by : (n : ℕ) (d : Result (Unit {0}) Refusal) → d ≡ writing.write_asked f xs table → ◌≡◌ {A = writing.Outcome} (record { shown = answered n; out = out' }) (writing.write_after d (written_text f xs table) out) → (n ≡ length (done_text d (written_text f xs table))) × (out' ≡ sets out 0 (done_text d (written_text f xs table)))
+  answered_by n (Err r) e q = let h : answered n ≡ refused_by r = ap (λ (o : writing.Outcome). o.shown) q in impossible (cc)
+  answered_by n (Ok tt) e q =
+      let p = q ∙ laid (Ok tt) e refl in
       let h : answered n ≡ answered (length (written_text f xs table)) = ap (λ (o : writing.Outcome). o.shown) p in
       (cc, ap (λ (o : writing.Outcome). o.out) p)
 
-  pub write_answered : (w : Whole) (n : ℕ) → w ≡ wholes.Answered n → writing.WriteSays f xs table out w out' → (n ≡ length (frame_text f xs table)) × (out' ≡ sets out 0 (frame_text f xs table))
+  pub write_answered : (w : Result ℕ Refusal) (n : ℕ) → w ≡ Ok n → writing.WriteSays f xs table out w out' → (n ≡ length (frame_text f xs table)) × (out' ≡ sets out 0 (frame_text f xs table))
   unfolding writing.write_of frame_text
   write_answered w n e says = answered_by n (writing.write_asked f xs table) refl (rw e at says)
 
-  refused_by_lem : (r : Refusal) (d : Done) → d ≡ writing.write_asked f xs table → ◌≡◌ {A = writing.Outcome} (record { shown = refused_by r; out = out' }) (writing.write_after d (written_text f xs table) out) → (out' ≡ out) × (refusal_line (number_of r) (place_of r) ≡ done_text d (written_text f xs table))
-  refused_by_lem r (dones.Refused t) e q =
+  refused_by_lem : (r : Refusal) (d : Result (Unit {0}) Refusal) → d ≡ writing.write_asked f xs table → ◌≡◌ {A = writing.Outcome} (record { shown = refused_by r; out = out' }) (writing.write_after d (written_text f xs table) out) → (out' ≡ out) × (refusal_line (number_of r) (place_of r) ≡ done_text d (written_text f xs table))
+  refused_by_lem r (Err t) e q =
       let h : ◌≡◌ {A = Seen ℕ} (refused (number_of r) (place_of r)) (refused (number_of t) (place_of t)) = ap (λ (o : writing.Outcome). o.shown) q in
       let a : number_of r ≡ number_of t = cc in
       let b : place_of r ≡ place_of t = cc in
       (ap (λ (o : writing.Outcome). o.out) q, ap₂ refusal_line a b)
-  refused_by_lem r dones.Answered e q =
-      let h : refused_by r ≡ answered (length (written_text f xs table)) = ap (λ (o : writing.Outcome). o.shown) (q ∙ laid dones.Answered e refl) in
+  refused_by_lem r (Ok tt) e q =
+      let h : refused_by r ≡ answered (length (written_text f xs table)) = ap (λ (o : writing.Outcome). o.shown) (q ∙ laid (Ok tt) e refl) in
       impossible (cc)
 
-  pub write_refused : (w : Whole) (r : Refusal) → w ≡ wholes.Refused r → writing.WriteSays f xs table out w out' → (out' ≡ out) × (refusal_line (number_of r) (place_of r) ≡ frame_text f xs table)
+  pub write_refused : (w : Result ℕ Refusal) (r : Refusal) → w ≡ Err r → writing.WriteSays f xs table out w out' → (out' ≡ out) × (refusal_line (number_of r) (place_of r) ≡ frame_text f xs table)
   unfolding writing.write_of frame_text
   write_refused w r e says = refused_by_lem r (writing.write_asked f xs table) refl (rw e at says)
 
@@ -191,7 +186,7 @@ module _ (s co ex : List ℕ) (a : 3072 ≤ length co) (b : 2048 ≤ length ex) 
       refl
       (says ∙ read_is)
 
-  pub read_answered : (r : sheet.Sheet) (j : Job) (co' ex' : List ℕ) → r ≡ sheets.Answered j → reading.ReadSays s co ex r co' ex' → Handed j co' ex'
+  pub read_answered : (r : Result Job Refusal) (j : Job) (co' ex' : List ℕ) → r ≡ Ok j → reading.ReadSays s co ex r co' ex' → Handed j co' ex'
   read_answered r j co' ex' e says = read_told j co' ex' (rw e at says)
 
   line_by : (n p : ℕ) (co' ex' : List ℕ) (x : Seen Sound) → told (refused n p) co' ex' ≡ reading.handed x co ex → refusal_line n p ≡ form_text x
@@ -204,7 +199,7 @@ module _ (s co ex : List ℕ) (a : 3072 ≤ length co) (b : 2048 ≤ length ex) 
       let v : p ≡ l = cc in
       ap₂ refusal_line u v
 
-  pub read_refused : (r : sheet.Sheet) (w : Refusal) (co' ex' : List ℕ) → r ≡ sheets.Refused w → reading.ReadSays s co ex r co' ex' → refusal_line (number_of w) (place_of w) ≡ rewritten s
+  pub read_refused : (r : Result Job Refusal) (w : Refusal) (co' ex' : List ℕ) → r ≡ Err w → reading.ReadSays s co ex r co' ex' → refusal_line (number_of w) (place_of w) ≡ rewritten s
   unfolding rewritten
   read_refused r w co' ex' e says =
       by_test

@@ -1,4 +1,6 @@
 -- THEOREMS. Sheets of equal meaning, and these alone, have one written form; it is a sheet of that meaning, and rewritten it is itself. Assumes nothing.
+use Rattle.std.specs.Prelude.{Err, Ok, Result}
+use Rattle.answer.specs.declared.Refusal.{Refusal}
 use Prim.Native.Nat.{ℕ, ◌≤◌}
 use mathlib.Core.Path.{◌≡◌, refl, sym, ap, ap₂, ◌∙◌, subst}
 use mathlib.Core.Bool.{Bool, true, false, cond}
@@ -9,8 +11,6 @@ use native.Mathlib.Omega.{arith}
 use lib.ListN.{length}
 use borrow.Author.Tests.{le-ltb}
 use Rattle.answer.specs.Seen.{Seen, answered, refused}
-use Rattle.answer.specs.declared.Done.{Done}
-use Rattle.answer.specs.declared.Done.TheVariants as dones
 use Rattle.answer.specs.declared.Refusal.TheVariants.{Range}
 use Rattle.lists.specs.Lists.{flat}
 use Rattle.exclusions.specs.Table.{is_row}
@@ -85,7 +85,7 @@ module _ (s t : List ℕ) (v : Written s) (w : Written t) where
   one_form = record { same = same; calls = calls; only = only }
 
 -- ---- `write` of what `read` answered and left
-after_by : (b : Bool) (text out : List ℕ) → writing.write_after (cond b dones.Answered (dones.Refused Range)) text out ≡ cond b (writing.laid_in text out) (record { shown = refused 3 0; out = out })
+after_by : (b : Bool) (text out : List ℕ) → writing.write_after (cond b (Ok tt) (Err Range)) text out ≡ cond b (writing.laid_in text out) (record { shown = refused 3 0; out = out })
 after_by true text out = refl
 after_by false text out = refl
 
@@ -103,7 +103,7 @@ writes_read s co ex out a b j e =
     let h : Handed s co ex a b j (reading.read_of s co ex).coordinates (reading.read_of s co ex).exclusions =
     read_told s co ex a b j (reading.read_of s co ex).coordinates (reading.read_of s co ex).exclusions (ap (λ (x : Seen Job). record { shown = x; coordinates = (reading.read_of s co ex).coordinates; exclusions = (reading.read_of s co ex).exclusions }) (sym e)) in
     rw (h.frame, h.coords, h.pairs)
-    (ap (λ (d : Done). writing.write_after d (written_text (box_of h.sound) h.sound.coords (flat h.sound.rows)) out) (asked_is s h.sound h.is)
+    (ap (λ (d : Result (Unit {0}) Refusal). writing.write_after d (written_text (box_of h.sound) h.sound.coords (flat h.sound.rows)) out) (asked_is s h.sound h.is)
     ∙ (after_by (ranges_ok (box_of h.sound) h.sound.coords) (written_text (box_of h.sound) h.sound.coords (flat h.sound.rows)) out
     ∙ laid_by (ranges_ok (box_of h.sound) h.sound.coords) (written_text (box_of h.sound) h.sound.coords (flat h.sound.rows)) (rewritten s) out
     (λ r. text_is h.sound ∙ sym (form_is s (record { short = h.short; sound = h.sound; is = h.is; ranged = r })))))

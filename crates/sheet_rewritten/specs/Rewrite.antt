@@ -1,8 +1,9 @@
 -- The written form of a sheet's text (02, No. 8), whole, and what `rewrite` answers and leaves: one outcome from the entry values alone. Definitions only.
+use Rattle.std.specs.Prelude.{Result}
+use Rattle.answer.specs.declared.Refusal.{Refusal}
 use Rattle.std.specs.Prelude.{ℕ, ◌≡◌, cond, List, length, ltb}
 use Rattle.std.proofs.lemmas.List.Edits.{sets}
-use Rattle.answer.specs.Seen.{Seen, answered, refused, refused_by, seen_whole}
-use Rattle.answer.specs.declared.Whole.{Whole}
+use Rattle.answer.specs.Seen.{Seen, answered, refused, refused_by, seen}
 use Rattle.answer.specs.declared.Refusal.TheVariants.{Lengths}
 use Rattle.lists.specs.Lists.{flat}
 use Rattle.frame.specs.declared.Frame.{Frame}
@@ -40,5 +41,5 @@ rewrite_of s out =
     cond (ltb (length out) 43049) (record { shown = refused_by Lengths; out = out })
     (record { shown = answered (length (rewritten s)); out = sets out 0 (rewritten s) })
 
-abbrev pub RewriteSays : List ℕ → List ℕ → Whole → List ℕ → Type 0
-RewriteSays s out r out' = record { shown = seen_whole r; out = out' } ≡ rewrite_of s out
+abbrev pub RewriteSays : List ℕ → List ℕ → Result ℕ Refusal → List ℕ → Type 0
+RewriteSays s out r out' = record { shown = seen r; out = out' } ≡ rewrite_of s out

@@ -1,9 +1,10 @@
 -- THEOREMS (02, No. 8): "writing what was read gives the same bytes for every sheet with equal meaning". proofs/OneForm.antt proves them of every input.
 -- Definitions only.
+use Rattle.std.specs.Prelude.{Result}
+use Rattle.answer.specs.declared.Refusal.{Refusal}
 use Rattle.std.specs.Prelude.{ℕ, ◌*◌, ◌≤◌, ◌≡◌, true, cond, length, take}
 use mathlib.Core.List.{List, Perm}
-use Rattle.answer.specs.Seen.{answered, refused, seen_whole}
-use Rattle.answer.specs.declared.Whole.{Whole}
+use Rattle.answer.specs.Seen.{answered, refused, seen}
 use Rattle.exclusions.specs.Table.{is_row}
 use Rattle.frame.specs.Build.{ranges_ok}
 use Rattle.sheet_lines.specs.Grammar.{AllWhole, join_all}
@@ -46,7 +47,7 @@ WritesRead s co ex out =
     3072 ≤ length co → 2048 ≤ length ex → (j : Job) → (reading.read_of s co ex).shown ≡ answered j
     → writing.write_of (frame_for j) (take (3 * j.atoms) (reading.read_of s co ex).coordinates) (take (2 * j.count) (reading.read_of s co ex).exclusions) out ≡ cond (ranges_ok (frame_for j) (take (3 * j.atoms) (reading.read_of s co ex).coordinates)) (writing.laid_in (rewritten s) out) (record { shown = refused 3 0; out = out })
 
--- Whole lines of a written sheet in another order are rewritten to the same bytes.
+-- (Result ℕ Refusal) lines of a written sheet in another order are rewritten to the same bytes.
 abbrev pub AnyOrder : List ℕ → Type 0
 AnyOrder s = Written s → (cs ds : List (List ℕ)) → AllWhole cs → s ≡ join_all cs → Perm cs ds → rewritten (join_all ds) ≡ rewritten s
 
@@ -56,5 +57,5 @@ pub record WholeForm (s : List ℕ) (n : ℕ) (out' : List ℕ) : Type 0 where
   pub room : n ≤ length out'
   pub text : take n out' ≡ rewritten s
 
-abbrev pub RewriteFits : List ℕ → Whole → List ℕ → Type 0
-RewriteFits s r out' = (n : ℕ) → seen_whole r ≡ answered n → WholeForm s n out'
+abbrev pub RewriteFits : List ℕ → Result ℕ Refusal → List ℕ → Type 0
+RewriteFits s r out' = (n : ℕ) → seen r ≡ answered n → WholeForm s n out'

@@ -10,9 +10,9 @@ ghost use Rattle.sheet_answer.specs.Solve.{frame_for};
 ghost use Rattle.sheet_rewritten.specs.Rewrite.{RewriteSays};
 ghost use Rattle.sheet_rewritten.specs.Steps.{frame_text};
 
-use answer::{Refusal, Whole};
+use answer::Refusal;
 use frame::{Frame, Side};
-use sheet::{Job, Sheet, read};
+use sheet::{Job, read};
 use sheet_printed::put_refusal;
 use sheet_written::write;
 
@@ -51,32 +51,32 @@ fn put_frame(f: Frame, coordinates: &[u32], exclusions: &[u32], out: &mut [u8]) 
 {
     let wrote = write(f, coordinates, exclusions, out);
     match wrote {
-        Whole::Answered(n) => n as usize,
-        Whole::Refused(r) => refuse(r, out),
+        Ok(n) => n as usize,
+        Err(r) => refuse(r, out),
     }
 }
 
 // The written form of a sheet at the front of `out`, or the line of its refusal, and how many bytes that is. 1: out is under 43,049 bytes,
 // which is a header, 1,024 atoms and 1,024 exclusions.
-pub fn rewrite(input: &[u8], out: &mut [u8]) -> Whole
+pub fn rewrite(input: &[u8], out: &mut [u8]) -> Result<u64, Refusal>
     ensures { RewriteSays input.now out.old result out.new }
 {
     if out.len() < 43049 {
-        return Whole::Refused(Refusal::Lengths);
+        return Err(Refusal::Lengths);
     }
     let mut coordinates = [0u32; 3072];
     let mut exclusions = [0u32; 2048];
     let sheet = read(input, &mut coordinates, &mut exclusions);
     match sheet {
-        Sheet::Answered(job) => {
+        Ok(job) => {
             let n = 3 * (job.atoms as usize);
             let m = 2 * (job.count as usize);
             let bytes = put_frame(frame_of(job), &coordinates[..n], &exclusions[..m], out);
-            Whole::Answered(bytes as u64)
+            Ok(bytes as u64)
         }
-        Sheet::Refused(r) => {
+        Err(r) => {
             let bytes = refuse(r, out);
-            Whole::Answered(bytes as u64)
+            Ok(bytes as u64)
         }
     }
 }

@@ -1,4 +1,6 @@
 -- The written lines of a header, atoms and exclusions come to just these. Assumes nothing.
+use Rattle.std.specs.Prelude.{Err, Ok, Result}
+use Rattle.answer.specs.declared.Refusal.{Refusal}
 use Prim.Native.Nat.{ℕ, zero, suc, ◌+◌, ◌*◌, ◌-◌, ◌/◌, ◌≤◌, ◌<◌}
 use mathlib.Core.Path.{◌≡◌, refl, sym, ap, ap₂, ◌∙◌}
 use mathlib.Core.Bool.{Bool, true, false, cond, ◌&&◌}
@@ -12,8 +14,6 @@ use lib.Seq.{sets, sets-eq, take_at, drop_at, take_all, take-suc, get_or_at, len
 use lib.Dec.{ltb, leb}
 use borrow.Author.Tests.{le-ltb, le-leb, leb-true, ltb-true, ltb-false, ne_eqb}
 use Rattle.answer.specs.Seen.{Seen, answered, refused}
-use Rattle.answer.specs.declared.Done.{Done}
-use Rattle.answer.specs.declared.Done.TheVariants.{Answered, Refused}
 use Rattle.lists.specs.Lists.{numbers, up_to, ordered, every, rows, flat}
 use Rattle.lists.proofs.Cases.{and_both, by_test, impossible}
 use Rattle.lists.proofs.Rows.{length_rows, flat_rows}
@@ -323,9 +323,9 @@ laid_front text out n =
     ap (λ (r : List ℕ). take n r) (front text out (ltb-false (length out) (length text) q)) ∙ take_at text (drop (length text) out) n k)
 
 -- an answered `write` has passed its tests, and its bytes are the text
-read_of_lem : (f : Frame) (xs table out : List ℕ) (n : ℕ) (d : Done) → d ≡ write_asked f xs table → (write_after d (written_text f xs table) out).shown ≡ answered n → (take n (write_after d (written_text f xs table) out).out ≡ written_text f xs table) × Fine f xs table
-read_of_lem f xs table out n (Refused r) e s = impossible (cc)
-read_of_lem f xs table out n Answered e s = (laid_front (written_text f xs table) out n s, fine f xs table e)
+read_of_lem : (f : Frame) (xs table out : List ℕ) (n : ℕ) (d : Result (Unit {0}) Refusal) → d ≡ write_asked f xs table → (write_after d (written_text f xs table) out).shown ≡ answered n → (take n (write_after d (written_text f xs table) out).out ≡ written_text f xs table) × Fine f xs table
+read_of_lem f xs table out n (Err r) e s = impossible (cc)
+read_of_lem f xs table out n (Ok tt) e s = (laid_front (written_text f xs table) out n s, fine f xs table e)
 
 pub write_reads : (f : Frame) (xs table out : List ℕ) → WriteReads f xs table out
 unfolding write_of

@@ -1,4 +1,5 @@
 -- `write` by its cases: each test, and what an answered call has passed. Assumes nothing.
+use Rattle.std.specs.Prelude.{Err, Ok, Result}
 use Prim.Native.Nat.{ℕ, ◌+◌, ◌*◌, ◌/◌, ◌%◌, ◌≤◌, ◌<◌}
 use mathlib.Core.Path.{◌≡◌, refl, sym, ap, ◌∙◌}
 use mathlib.Core.Bool.{Bool, true, false, cond, not, ◌&&◌}
@@ -8,8 +9,6 @@ use lib.Seq.{sets}
 use lib.Dec.{eqb, leb, ltb}
 use borrow.Author.Tests.{lt-ltb, le-ltb, ltb-false, not-true, not-false, eqb-true}
 use Rattle.answer.specs.Seen.{answered, refused, refused_by}
-use Rattle.answer.specs.declared.Done.{Done}
-use Rattle.answer.specs.declared.Done.TheVariants.{Answered, Refused}
 use Rattle.answer.specs.declared.Refusal.{Refusal}
 use Rattle.answer.specs.declared.Refusal.TheVariants.{Lengths, TooMany, Range, Order}
 use Rattle.lists.specs.Lists.{every, rows}
@@ -53,26 +52,26 @@ module _ (table : List ℕ) where
 
 -- ---- the tests in turn
 module _ (f : Frame) (xs table : List ℕ) where
-  pub ask_lengths : uneven_rows (length xs) (length table) ≡ true → Refused Lengths ≡ write_asked f xs table
+  pub ask_lengths : uneven_rows (length xs) (length table) ≡ true → Err Lengths ≡ write_asked f xs table
   unfolding write_asked
   ask_lengths h = rw h
 
   module _ (h : uneven_rows (length xs) (length table) ≡ false) where
-    pub ask_many : 1024 < length xs / 3 → Refused (TooMany (length xs / 3)) ≡ write_asked f xs table
+    pub ask_many : 1024 < length xs / 3 → Err (TooMany (length xs / 3)) ≡ write_asked f xs table
     unfolding write_asked
     ask_many k = rw (h, lt-ltb 1024 (length xs / 3) k)
 
     module _ (k : length xs / 3 ≤ 1024) where
-      pub ask_range : ranges_ok f xs ≡ false → Refused Range ≡ write_asked f xs table
+      pub ask_range : ranges_ok f xs ≡ false → Err Range ≡ write_asked f xs table
       unfolding write_asked
       ask_range l = rw (h, le-ltb 1024 (length xs / 3) k, l)
 
       module _ (l : ranges_ok f xs ≡ true) where
-        pub ask_table : table_fits table ≡ false → Refused Order ≡ write_asked f xs table
+        pub ask_table : table_fits table ≡ false → Err Order ≡ write_asked f xs table
         unfolding write_asked
         ask_table m = rw (h, le-ltb 1024 (length xs / 3) k, l, m)
 
-        pub ask_fine : table_fits table ≡ true → Answered ≡ write_asked f xs table
+        pub ask_fine : table_fits table ≡ true → Ok tt ≡ write_asked f xs table
         unfolding write_asked
         ask_fine m = rw (h, le-ltb 1024 (length xs / 3) k, l, m)
 
@@ -84,7 +83,9 @@ pub record Fine (f : Frame) (xs table : List ℕ) : Type 0 where
   pub ranges : ranges_ok f xs ≡ true
   pub exclusions : Fitting table
 
-all_passed : (a b p q : Bool) (n : ℕ) → Answered ≡ cond a (Refused Lengths) (cond b (Refused (TooMany n)) (cond (not p) (Refused Range) (cond (not q) (Refused Order) Answered))) → (a ≡ false) × (b ≡ false) × (p ≡ true) × (q ≡ true)
+all_passed : (a b p q : Bool) (n : ℕ)
+    → ◌≡◌ {A = Result (Unit {0}) Refusal} (Ok tt) (cond a (Err Lengths) (cond b (Err (TooMany n)) (cond (not p) (Err Range) (cond (not q) (Err Order) (Ok tt)))))
+    → (a ≡ false) × (b ≡ false) × (p ≡ true) × (q ≡ true)
 all_passed true b p q n e = impossible (cc)
 all_passed false true p q n e = impossible (cc)
 all_passed false false false q n e = impossible (cc)
@@ -97,7 +98,7 @@ even_rows a b h =
     let p = or_neither (not (eqb (a % 3) 0)) (not (eqb (b % 2) 0)) h in
     (eqb-true (a % 3) 0 (not-false (eqb (a % 3) 0) p.0), eqb-true (b % 2) 0 (not-false (eqb (b % 2) 0) p.1))
 
-pub fine : (f : Frame) (xs table : List ℕ) → Answered ≡ write_asked f xs table → Fine f xs table
+pub fine : (f : Frame) (xs table : List ℕ) → Ok tt ≡ write_asked f xs table → Fine f xs table
 unfolding write_asked
 fine f xs table e =
     let p = all_passed (uneven_rows (length xs) (length table)) (ltb 1024 (length xs / 3)) (ranges_ok f xs) (table_fits table) (length xs / 3) e in
@@ -109,12 +110,12 @@ pub bytes_are : (f : Frame) (xs table : List ℕ) → length (written_text f xs 
 unfolding written_text
 bytes_are f xs table = long_written (head_of f (length xs / 3)) xs (rows table) ∙ ap (λ (k : ℕ). 41 + 31 * (length xs / 3) + 11 * k) (length_rows table)
 
-module _ (f : Frame) (xs table out : List ℕ) (d : Done) (is : d ≡ write_asked f xs table) where
-  pub write_refused : {r : Refusal} → d ≡ Refused r → record { shown = refused_by r; out = out } ≡ write_of f xs table out
+module _ (f : Frame) (xs table out : List ℕ) (d : Result (Unit {0}) Refusal) (is : d ≡ write_asked f xs table) where
+  pub write_refused : {r : Refusal} → d ≡ Err r → record { shown = refused_by r; out = out } ≡ write_of f xs table out
   unfolding write_of
   write_refused e = rw (← is, e)
 
-  module _ (e : d ≡ Answered) where
+  module _ (e : d ≡ Ok tt) where
     abbrev bytes : ℕ
     bytes = 41 + 31 * (length xs / 3) + 11 * (length table / 2)
 

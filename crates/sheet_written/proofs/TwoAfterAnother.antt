@@ -1,4 +1,5 @@
 -- Laws of lines of the second form written one after the other; `write_two` by its cases. Assumes nothing.
+use Rattle.std.specs.Prelude.{Err, Ok, Result}
 use Prim.Native.Nat.{ℕ, ◌+◌, ◌*◌, ◌-◌, ◌/◌, ◌<◌, ◌≤◌}
 use mathlib.Core.Path.{◌≡◌, refl, sym, ap, ◌∙◌}
 use mathlib.Core.List.{List, [], ◌∷◌, ◌++◌, map, append_assoc}
@@ -8,8 +9,6 @@ use lib.ListN.{length, get_or, set, length-append}
 use lib.Seq.{sets, length-sets}
 use borrow.Author.Tests.{lt-ltb, le-ltb}
 use Rattle.answer.specs.Seen.{answered, refused, refused_by}
-use Rattle.answer.specs.declared.Done.{Done}
-use Rattle.answer.specs.declared.Done.TheVariants.{Answered, Refused}
 use Rattle.answer.specs.declared.Refusal.{Refusal}
 use Rattle.lists.specs.Lists.{numbers, up_to, rows}
 use Rattle.lists.proofs.Exactness.{length_up_to}
@@ -119,12 +118,12 @@ pub bytes_two : (f : Frame) (xs table : List ℕ) → length (written_two f xs t
 unfolding written_two
 bytes_two f xs table = long_two (head_of f (length xs / 3)) xs (rows table) ∙ ap (λ (k : ℕ). 43 + 39 * (length xs / 3) + 11 * k) (length_rows table)
 
-module _ (f : Frame) (xs table out : List ℕ) (d : Done) (is : d ≡ write_asked f xs table) where
-  pub two_refused : {r : Refusal} → d ≡ Refused r → record { shown = refused_by r; out = out } ≡ write_two_of f xs table out
+module _ (f : Frame) (xs table out : List ℕ) (d : Result (Unit {0}) Refusal) (is : d ≡ write_asked f xs table) where
+  pub two_refused : {r : Refusal} → d ≡ Err r → record { shown = refused_by r; out = out } ≡ write_two_of f xs table out
   unfolding write_two_of
   two_refused e = rw (← is, e)
 
-  module _ (e : d ≡ Answered) where
+  module _ (e : d ≡ Ok tt) where
     abbrev bytes : ℕ
     bytes = 43 + 39 * (length xs / 3) + 11 * (length table / 2)
 

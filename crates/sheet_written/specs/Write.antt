@@ -1,10 +1,9 @@
 -- What `write` answers, and what it leaves in the lent buffer: one outcome from the entry values alone, the tests in 01's order. Definitions only.
+use Rattle.std.specs.Prelude.{Err, Ok, Result}
+use Rattle.answer.specs.declared.Refusal.{Refusal}
 use Rattle.std.specs.Prelude.{ℕ, ◌/◌, ◌%◌, ◌≡◌, Bool, cond, not, ◌&&◌, ◌||◌, List, length, eqb, ltb, leb}
 use Rattle.std.proofs.lemmas.List.Edits.{sets}
-use Rattle.answer.specs.Seen.{Seen, answered, refused_by, seen_whole}
-use Rattle.answer.specs.declared.Done.{Done}
-use Rattle.answer.specs.declared.Done.TheVariants as DoneCases
-use Rattle.answer.specs.declared.Whole.{Whole}
+use Rattle.answer.specs.Seen.{Seen, answered, refused_by, seen}
 use Rattle.answer.specs.declared.Refusal.TheVariants.{Lengths, TooMany, Range, Order, Room}
 use Rattle.lists.specs.Atoms.{atoms_of}
 use Rattle.lists.specs.Lists.{every, rows}
@@ -22,11 +21,11 @@ unfoldable pub table_fits : List ℕ → Bool
 table_fits table = not (ltb 1024 (length table / 2)) && (is_table (rows table) && every (λ k. leb k 65535) table)
 
 -- 1, "2 past 1,024 atoms; 3 as for a build", 5
-unfoldable pub write_asked : Frame → List ℕ → List ℕ → Done
+unfoldable pub write_asked : Frame → List ℕ → List ℕ → Result (Unit {0}) Refusal
 write_asked f xs table =
-    cond (uneven_rows (length xs) (length table)) (DoneCases.Refused Lengths)
-    (cond (ltb 1024 (atoms_of xs)) (DoneCases.Refused (TooMany (atoms_of xs)))
-    (cond (not (ranges_ok f xs)) (DoneCases.Refused Range) (cond (not (table_fits table)) (DoneCases.Refused Order) DoneCases.Answered)))
+    cond (uneven_rows (length xs) (length table)) (Err Lengths)
+    (cond (ltb 1024 (atoms_of xs)) (Err (TooMany (atoms_of xs)))
+    (cond (not (ranges_ok f xs)) (Err Range) (cond (not (table_fits table)) (Err Order) (Ok tt))))
 
 -- what is shown, and the lent buffer as it is left
 pub record Outcome : Type 0 where
@@ -39,12 +38,12 @@ laid_in text out =
     cond (ltb (length out) (length text)) (record { shown = refused_by (Room (length text)); out = out })
     (record { shown = answered (length text); out = sets out 0 text })
 
-abbrev pub write_after : Done → List ℕ → List ℕ → Outcome
-write_after (DoneCases.Refused r) text out = record { shown = refused_by r; out = out }
-write_after DoneCases.Answered text out = laid_in text out
+abbrev pub write_after : Result (Unit {0}) Refusal → List ℕ → List ℕ → Outcome
+write_after (Err r) text out = record { shown = refused_by r; out = out }
+write_after (Ok tt) text out = laid_in text out
 
 unfoldable pub write_of : Frame → List ℕ → List ℕ → List ℕ → Outcome
 write_of f xs table out = write_after (write_asked f xs table) (written_text f xs table) out
 
-abbrev pub WriteSays : Frame → List ℕ → List ℕ → List ℕ → Whole → List ℕ → Type 0
-WriteSays f xs table out r out' = record { shown = seen_whole r; out = out' } ≡ write_of f xs table out
+abbrev pub WriteSays : Frame → List ℕ → List ℕ → List ℕ → Result ℕ Refusal → List ℕ → Type 0
+WriteSays f xs table out r out' = record { shown = seen r; out = out' } ≡ write_of f xs table out

@@ -1,8 +1,9 @@
 -- The written form of a frame in the second form (02, No. 9 and 10), and what `write_two` answers and leaves: the lines of the first form in their order, each in the second form's
 -- text, the header with rule 01, the atoms with species 0; the tests are those of `write`. Definitions only.
+use Rattle.std.specs.Prelude.{Result}
+use Rattle.answer.specs.declared.Refusal.{Refusal}
 use Rattle.std.specs.Prelude.{ℕ, ◌≡◌, List, ◌∷◌, ◌++◌, map}
-use Rattle.answer.specs.Seen.{seen_whole}
-use Rattle.answer.specs.declared.Whole.{Whole}
+use Rattle.answer.specs.Seen.{seen}
 use Rattle.lists.specs.Atoms.{atoms_of}
 use Rattle.lists.specs.Lists.{rows}
 use Rattle.frame.specs.declared.Frame.{Frame}
@@ -30,5 +31,5 @@ written_two f xs table = text_two (two_lines (head_of f (atoms_of xs)) xs (rows 
 unfoldable pub write_two_of : Frame → List ℕ → List ℕ → List ℕ → Outcome
 write_two_of f xs table out = write_after (write_asked f xs table) (written_two f xs table) out
 
-abbrev pub WriteTwoSays : Frame → List ℕ → List ℕ → List ℕ → Whole → List ℕ → Type 0
-WriteTwoSays f xs table out r out' = record { shown = seen_whole r; out = out' } ≡ write_two_of f xs table out
+abbrev pub WriteTwoSays : Frame → List ℕ → List ℕ → List ℕ → Result ℕ Refusal → List ℕ → Type 0
+WriteTwoSays f xs table out r out' = record { shown = seen r; out = out' } ≡ write_two_of f xs table out

@@ -3,7 +3,7 @@ ghost use Rattle.std.specs.Prelude.{◌≡◌, leb};
 ghost use Rattle.lists.specs.Lists.{every};
 ghost use Rattle.sheet_written.specs.Write.{uneven_rows, table_fits, write_asked};
 
-use answer::{Done, Refusal};
+use answer::Refusal;
 use frame::Frame;
 
 fn uneven(xs: usize, table: usize) -> bool
@@ -16,14 +16,7 @@ fn uneven(xs: usize, table: usize) -> bool
 fn four_digits(table: &[u32]) -> bool
     ensures { result ≡ every (λ k. leb k 65535) table.now }
 {
-    let mut i: usize = 0;
-    while i < table.len() {
-        if 65535 < table[i] {
-            return false;
-        }
-        i += 1;
-    }
-    true
+    table.iter().all(|atom| *atom <= 65535)
 }
 
 fn table_fits(table: &[u32]) -> bool
@@ -37,21 +30,21 @@ fn table_fits(table: &[u32]) -> bool
     ascending & short
 }
 
-pub(crate) fn asked(f: Frame, xs: &[u32], table: &[u32]) -> Done
+pub(crate) fn asked(f: Frame, xs: &[u32], table: &[u32]) -> Result<(), Refusal>
     ensures { result ≡ write_asked f xs.now table.now }
 {
     if uneven(xs.len(), table.len()) {
-        return Done::Refused(Refusal::Lengths);
+        return Err(Refusal::Lengths);
     }
     let n = xs.len() / 3;
     if 1024 < n {
-        return Done::Refused(Refusal::TooMany { atoms: n });
+        return Err(Refusal::TooMany { atoms: n });
     }
     if !frame::asked::ranges_ok(f, xs) {
-        return Done::Refused(Refusal::Range);
+        return Err(Refusal::Range);
     }
     if !table_fits(table) {
-        return Done::Refused(Refusal::Order);
+        return Err(Refusal::Order);
     }
-    Done::Answered
+    Ok(())
 }

@@ -2,7 +2,7 @@
 // answers and leaves, specs/Theorems.antt that `read` gives back what was written.
 #![tactic(auto)]
 
-use answer::{Done, Refusal, Whole};
+use answer::Refusal;
 use frame::Frame;
 use sheet_lines::Head;
 
@@ -40,21 +40,23 @@ pub(crate) fn head_of(f: Frame, atoms: u32) -> Head
 
 // The written form of a frame, its atoms and its exclusions at the front of `out`, and how many bytes it is. Refusals 1, 2, 3, 5, and
 // 8 where the bytes don't fit, with `out` as it came.
-pub fn write(f: Frame, coordinates: &[u32], exclusions: &[u32], out: &mut [u8]) -> Whole
+pub fn write(
+    f: Frame,
+    coordinates: &[u32],
+    exclusions: &[u32],
+    out: &mut [u8],
+) -> Result<u64, Refusal>
     ensures { WriteSays f coordinates.now exclusions.now out.old result out.new }
 {
-    let a = asked::asked(f, coordinates, exclusions);
-    if let Done::Refused(why) = a {
-        return Whole::Refused(why);
-    }
+    asked::asked(f, coordinates, exclusions)?;
     let n = coordinates.len() / 3;
     let m = exclusions.len() / 2;
     let bytes = 41 + 31 * n + 11 * m;
     if out.len() < bytes {
-        return Whole::Refused(Refusal::Room { count: bytes });
+        return Err(Refusal::Room { count: bytes });
     }
     lines::put_header(out, head_of(f, n as u32));
     lines::put_atoms(out, coordinates);
     lines::put_rows(out, 41 + 31 * n, exclusions);
-    Whole::Answered(bytes as u64)
+    Ok(bytes as u64)
 }

@@ -56,8 +56,7 @@ pub(crate) fn put_atoms(out: &mut [u8], xs: &[u32])
     ensures { out.new ≡ sets out.old 41 (sheet_text (atom_lines xs.now)) }
 {
     let n = xs.len() / 3;
-    let mut i: usize = 0;
-    while i < n {
+    for i in 0..n {
         put_atom(
             out,
             41 + 31 * i,
@@ -66,7 +65,6 @@ pub(crate) fn put_atoms(out: &mut [u8], xs: &[u32])
             xs[3 * i + 1],
             xs[3 * i + 2],
         );
-        i += 1;
     }
 }
 
@@ -76,9 +74,7 @@ pub(crate) fn put_rows(out: &mut [u8], at: usize, table: &[u32])
     ensures { out.new ≡ sets out.old at (sheet_text (map row_line (rows table.now))) }
 {
     let m = table.len() / 2;
-    let mut i: usize = 0;
-    while i < m {
+    for i in 0..m {
         put_exclusion(out, at + 11 * i, table[2 * i], table[2 * i + 1]);
-        i += 1;
     }
 }

@@ -10,7 +10,7 @@ ghost use Rattle.sheet_written.specs.WrittenTwo.{plain_text, WriteTwoSays};
 use crate::asked::asked;
 use crate::head_of;
 use crate::lines::{put_rows, put888};
-use answer::{Done, Refusal, Whole};
+use answer::Refusal;
 use frame::Frame;
 use hexadecimal::{put_byte, put2, put4, put8};
 use sheet_lines::Head;
@@ -44,8 +44,7 @@ fn put_atoms_two(out: &mut [u8], xs: &[u32])
     ensures { out.new ≡ sets out.old 43 (plain_text (atom_lines xs.now)) }
 {
     let n = xs.len() / 3;
-    let mut i: usize = 0;
-    while i < n {
+    for i in 0..n {
         put_atom_two(
             out,
             43 + 39 * i,
@@ -54,26 +53,27 @@ fn put_atoms_two(out: &mut [u8], xs: &[u32])
             xs[3 * i + 1],
             xs[3 * i + 2],
         );
-        i += 1;
     }
 }
 
 // As `write`, in the second form.
-pub fn write_two(f: Frame, coordinates: &[u32], exclusions: &[u32], out: &mut [u8]) -> Whole
+pub fn write_two(
+    f: Frame,
+    coordinates: &[u32],
+    exclusions: &[u32],
+    out: &mut [u8],
+) -> Result<u64, Refusal>
     ensures { WriteTwoSays f coordinates.now exclusions.now out.old result out.new }
 {
-    let a = asked(f, coordinates, exclusions);
-    if let Done::Refused(why) = a {
-        return Whole::Refused(why);
-    }
+    asked(f, coordinates, exclusions)?;
     let n = coordinates.len() / 3;
     let m = exclusions.len() / 2;
     let bytes = 43 + 39 * n + 11 * m;
     if out.len() < bytes {
-        return Whole::Refused(Refusal::Room { count: bytes });
+        return Err(Refusal::Room { count: bytes });
     }
     put_header_two(out, head_of(f, n as u32));
     put_atoms_two(out, coordinates);
     put_rows(out, 43 + 39 * n, exclusions);
-    Whole::Answered(bytes as u64)
+    Ok(bytes as u64)
 }

@@ -1,12 +1,11 @@
 -- In a frame whose numbers are in range, the distance of two of its atoms is answered. Assumes nothing.
+use Rattle.std.specs.Prelude.{Err, Ok, Result}
 use Prim.Native.Nat.{ℕ, ◌+◌, ◌*◌, ◌/◌, ◌<◌}
 use mathlib.Core.Path.{◌≡◌, ap, ◌∙◌}
 use mathlib.Core.Bool.{true}
 use mathlib.Core.List.{List}
 use native.Mathlib.Nat.{zero-add}
 use lib.ListN.{length, get_or}
-use Rattle.answer.specs.declared.Whole.{Whole}
-use Rattle.answer.specs.declared.Whole.TheVariants.{Answered, Refused}
 use Rattle.answer.specs.declared.Refusal.{Refusal}
 use Rattle.answer.specs.Seen.{answered}
 use Rattle.lists.specs.Lists.{up_to, every, rows}
@@ -34,11 +33,11 @@ module _ (f : Frame) (xs : List ℕ) (h : ranges_ok f xs ≡ true) where
     unfolding squared_seen
     seen = rw (both.0, at i li, at j lj)
 
-    module _ {d : Whole} (says : SquaredSays f (spot_of xs i) (spot_of xs j) d) where
-      pub never_refused : {A : Type 0} {r : Refusal} → d ≡ Refused r → A
+    module _ {d : Result ℕ Refusal} (says : SquaredSays f (spot_of xs i) (spot_of xs j) d) where
+      pub never_refused : {A : Type 0} {r : Refusal} → d ≡ Err r → A
       never_refused e = let s = says ∙ seen in impossible (cc)
 
-      pub squared_is : {n : ℕ} → d ≡ Answered n → n ≡ squared_of f (spot_of xs i) (spot_of xs j)
+      pub squared_is : {n : ℕ} → d ≡ Ok n → n ≡ squared_of f (spot_of xs i) (spot_of xs j)
       squared_is e = let s = says ∙ seen in cc
 
 -- the shell of the pair in row k

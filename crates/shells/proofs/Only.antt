@@ -1,4 +1,5 @@
 -- No second answer and no second memory fits the contract of `add_shells`. Assumes nothing.
+use Rattle.std.specs.Prelude.{Err, Ok, Result}
 use Prim.Native.Nat.{ℕ}
 use mathlib.Core.Path.{◌≡◌, refl, sym, ap, ◌∙◌}
 use mathlib.Core.Bool.{cond}
@@ -8,17 +9,17 @@ use Rattle.answer.specs.declared.Refusal.{Refusal}
 use Rattle.answer.specs.declared.Refusal.TheVariants.{Lengths, TooMany, Range, Drifted, NotThere, Order, HouseOrder, Claims, Cells, Room, Malformed, Again, Absent}
 use Rattle.answer.specs.Seen.{Seen, answered, refused, number_of, place_of}
 use Rattle.answer.proofs.Only.{told, told_back}
-use Rattle.frame.specs.Build.{Counts}
-use Rattle.shells.specs.declared.Counted.{Counted}
-use Rattle.shells.specs.declared.Counted.TheVariants as CountedCases
+use Rattle.frame.specs.declared.Built.{Built}
+use Rattle.shells.specs.declared.CountError.{CountError}
+use Rattle.shells.specs.declared.CountError.TheVariants.{Refused, Full}
 use Rattle.shells.specs.Shells.{Adding, Tallied, seen_counted, AddShellsSays}
 
 -- the answer made again from what is seen of it
-abbrev again : Seen Counts → Counted
-again (answered c) = CountedCases.Answered c.pairs c.checks c.fallback
-again (refused n p) = cond (eqb n 13) CountedCases.Full (CountedCases.Refused (told n p))
+abbrev again : Seen Built → Result Built CountError
+again (answered c) = Ok c
+again (refused n p) = Err (cond (eqb n 13) Full (Refused (told n p)))
 
-no_other : (r : Refusal) → again (refused (number_of r) (place_of r)) ≡ CountedCases.Refused (told (number_of r) (place_of r))
+no_other : (r : Refusal) → again (refused (number_of r) (place_of r)) ≡ Err (Refused (told (number_of r) (place_of r)))
 no_other Lengths = refl
 no_other (TooMany n) = refl
 no_other Range = refl
@@ -33,15 +34,15 @@ no_other (Malformed k) = refl
 no_other (Again k) = refl
 no_other (Absent k) = refl
 
-counted_again : (x : Counted) → again (seen_counted x) ≡ x
-counted_again (CountedCases.Answered p c f) = refl
-counted_again (CountedCases.Refused r) = no_other r ∙ ap CountedCases.Refused (told_back r)
-counted_again CountedCases.Full = refl
+counted_again : (x : Result Built CountError) → again (seen_counted x) ≡ x
+counted_again (Ok c) = refl
+counted_again (Err (Refused r)) = no_other r ∙ ap (λ (why : Refusal). Err (Refused why)) (told_back r)
+counted_again (Err Full) = refl
 
-pub counted_only : (x y : Counted) → seen_counted x ≡ seen_counted y → x ≡ y
+pub counted_only : (x y : Result Built CountError) → seen_counted x ≡ seen_counted y → x ≡ y
 counted_only x y e = sym (counted_again x) ∙ ap again e ∙ counted_again y
 
-module _ (j : Adding) (r r' : Counted) (totals totals' pairs pairs' starts starts' items items' : List ℕ) (h : AddShellsSays j r totals pairs starts items) (k : AddShellsSays j r' totals' pairs' starts' items') where
+module _ (j : Adding) (r r' : Result Built CountError) (totals totals' pairs pairs' starts starts' items items' : List ℕ) (h : AddShellsSays j r totals pairs starts items) (k : AddShellsSays j r' totals' pairs' starts' items') where
   abbrev first : Tallied
   first = record { answer = seen_counted r; totals = totals; pairs = pairs; starts = starts; items = items }
 

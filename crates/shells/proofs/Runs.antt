@@ -1,4 +1,6 @@
 -- What an outcome of `add_shells` counts, and what a run of calls counts. Assumes nothing.
+use Rattle.std.specs.Prelude.{Err, Ok, Result}
+use Rattle.answer.specs.declared.Refusal.{Refusal}
 use Prim.Native.Nat.{ℕ, ◌+◌, ◌/◌, ◌<◌}
 use mathlib.Core.Path.{◌≡◌, refl, sym, ap, ◌∙◌}
 use mathlib.Core.Bool.{cond, not, ◌||◌}
@@ -7,18 +9,16 @@ use native.Mathlib.Omega.{arith}
 use lib.ListN.{length, get_or, replicate, length-replicate}
 use lib.Dec.{eqb, ltb}
 use borrow.Author.Tests.{eqb-false}
-use Rattle.answer.specs.declared.Done.{Done}
-use Rattle.answer.specs.declared.Done.TheVariants.{Answered, Refused}
 use Rattle.answer.specs.declared.Refusal.TheVariants.{Lengths, TooMany, Range}
 use Rattle.answer.specs.Seen.{Seen, answered, refused}
 use Rattle.answer.proofs.Passed.{pass}
 use Rattle.lists.specs.Exact.{Exactly}
 use Rattle.lists.proofs.Cases.{by_test, or_neither, impossible}
-use Rattle.frame.specs.declared.Built.TheVariants as BuiltCases
-use Rattle.frame.specs.Build.{Given, Counts, lengths_bad, ranges_ok, build_of}
+use Rattle.frame.specs.declared.Built.{Built}
+use Rattle.frame.specs.Build.{Given, lengths_bad, ranges_ok, build_of}
 use Rattle.frame.specs.Listed.{Close}
 use Rattle.frame.proofs.Outcomes.{build_lists}
-use Rattle.shells.specs.declared.Counted.{Counted}
+use Rattle.shells.specs.declared.CountError.{CountError}
 use Rattle.shells.specs.Shells.{Adding, Tallied, adding, seen_counted, shell_of, shell_at, is_past, totals_with, listed_rows, totals_after, shells_asked, after_build, after_tests, add_shells_of, AddShellsSays}
 use Rattle.shells.specs.Theorems.{pairs_within, pairs_in_shell, ShellsGrown, AddShellsCounts, Call, Follow, if_answered, sum_over, RunCounts}
 use Rattle.shells.proofs.Totals.{grown_long, grown_at}
@@ -26,10 +26,10 @@ use Rattle.shells.proofs.Within.{listed_many, listed_in}
 use Rattle.shells.proofs.Sums.{sum, sum_zeros, zero_at, sum_grown}
 
 -- an answered build lists exactly the unexcluded pairs within the radius
-listed_exactly : (i : Given) (c : Counts) → (build_of i).answer ≡ answered c → Exactly (Close i) (listed_rows c (build_of i).pairs)
+listed_exactly : (i : Given) (c : Built) → (build_of i).answer ≡ answered c → Exactly (Close i) (listed_rows c (build_of i).pairs)
 listed_exactly i c e =
-    (build_lists i (BuiltCases.Answered c.pairs c.checks c.fallback) (build_of i).pairs (build_of i).starts (build_of i).items
-    (ap (λ (a : Seen Counts). record { answer = a; pairs = (build_of i).pairs; starts = (build_of i).starts; items = (build_of i).items }) (sym e)) c refl
+    (build_lists i (Ok c) (build_of i).pairs (build_of i).starts (build_of i).items
+    (ap (λ (a : Seen Built). record { answer = a; pairs = (build_of i).pairs; starts = (build_of i).starts; items = (build_of i).items }) (sym e)) c refl
     ).exactly
 
 -- ---- one call
@@ -44,16 +44,16 @@ module _ (j : Adding) where
   shell = shell_at i.frame i.coordinates j.width shells
 
   -- what was counted: a build that was answered, into one shell or more
-  record Answers (c : Counts) (totals : List ℕ) : Type 0 where
+  record Answers (c : Built) (totals : List ℕ) : Type 0 where
     built : (build_of i).answer ≡ answered c
     are : totals ≡ totals_after j c (build_of i).pairs
     many : 0 < shells
 
   record Shows (t : Tallied) : Type 0 where
-    yes : (c : Counts) → t.answer ≡ answered c → Answers c t.totals
+    yes : (c : Built) → t.answer ≡ answered c → Answers c t.totals
     no : (n p : ℕ) → t.answer ≡ refused n p → t.totals ≡ j.totals
 
-  after_shows : 0 < shells → (a : Seen Counts) → (build_of i).answer ≡ a → Shows (after_build j (build_of i) a)
+  after_shows : 0 < shells → (a : Seen Built) → (build_of i).answer ≡ a → Shows (after_build j (build_of i) a)
   unfolding after_build
   after_shows many (refused n p) e = record { yes = λ c q. impossible (cc); no = λ n p q. refl }
   after_shows many (answered c) e =
@@ -61,14 +61,14 @@ module _ (j : Adding) where
       (λ _. record { yes = λ d q. impossible (cc); no = λ n p q. refl })
       (λ _. record { yes = λ d q. let same : c ≡ d = cc in record { built = e ∙ ap answered same; are = rw (← same); many = many }; no = λ n p q. impossible (cc) })
     where
-      full : Counts → Tallied
+      full : Built → Tallied
       full c = record { answer = refused 13 0; totals = j.totals; pairs = (build_of i).pairs; starts = (build_of i).starts; items = (build_of i).items }
 
-      fine : Counts → Tallied
+      fine : Built → Tallied
       fine c = record { answer = answered c; totals = totals_after j c (build_of i).pairs; pairs = (build_of i).pairs; starts = (build_of i).starts; items = (build_of i).items }
 
   -- the tests have passed, so there are shells
-  some_shells : shells_asked j ≡ Answered → 0 < shells
+  some_shells : shells_asked j ≡ Ok tt → 0 < shells
   unfolding shells_asked
   some_shells h =
       let b =
@@ -79,30 +79,30 @@ module _ (j : Adding) where
       let z = eqb-false shells 0 (or_neither (eqb j.width 0) (eqb shells 0) w).1 in
       omega (arith, z)
 
-  tests_show : (d : Done) → shells_asked j ≡ d → Shows (after_tests j d)
+  tests_show : (d : Result (Unit {0}) Refusal) → shells_asked j ≡ d → Shows (after_tests j d)
   unfolding after_tests
-  tests_show (Refused r) e = record { yes = λ c q. impossible (cc); no = λ n p q. refl }
-  tests_show Answered e = after_shows (some_shells e) (build_of i).answer refl
+  tests_show (Err r) e = record { yes = λ c q. impossible (cc); no = λ n p q. refl }
+  tests_show (Ok tt) e = after_shows (some_shells e) (build_of i).answer refl
 
   outcome_shows : Shows (add_shells_of j)
   unfolding add_shells_of
   outcome_shows = tests_show (shells_asked j) refl
 
   -- of the answer and the totals that fit the contract
-  module _ (r : Counted) (totals pairs starts items : List ℕ) (says : AddShellsSays j r totals pairs starts items) where
+  module _ (r : Result Built CountError) (totals pairs starts items : List ℕ) (says : AddShellsSays j r totals pairs starts items) where
     answer_is : seen_counted r ≡ (add_shells_of j).answer
     answer_is = ap (λ (t : Tallied). t.answer) says
 
     totals_are : totals ≡ (add_shells_of j).totals
     totals_are = ap (λ (t : Tallied). t.totals) says
 
-    answers : (c : Counts) → seen_counted r ≡ answered c → Answers c totals
+    answers : (c : Built) → seen_counted r ≡ answered c → Answers c totals
     answers c e = rw totals_are (outcome_shows.yes c (sym answer_is ∙ e))
 
     nothing_added : (n p : ℕ) → seen_counted r ≡ refused n p → totals ≡ j.totals
     nothing_added n p e = totals_are ∙ outcome_shows.no n p (sym answer_is ∙ e)
 
-    module _ (c : Counts) (e : seen_counted r ≡ answered c) where
+    module _ (c : Built) (e : seen_counted r ≡ answered c) where
       abbrev listed : List (ℕ × ℕ)
       listed = listed_rows c (build_of i).pairs
 
@@ -138,16 +138,16 @@ module _ (j : Adding) where
     add_shells_counts = record { counts = grown_each; nothing = nothing_added }
 
     -- whatever the answer
-    call_long : (s : Seen Counts) → seen_counted r ≡ s → length totals ≡ shells
+    call_long : (s : Seen Built) → seen_counted r ≡ s → length totals ≡ shells
     call_long (answered c) e = (grown_each c e).long
     call_long (refused n p) e = ap length (nothing_added n p e)
 
-    call_sum : (s : Seen Counts) → seen_counted r ≡ s → sum totals ≡ sum j.totals + if_answered s (pairs_within i)
+    call_sum : (s : Seen Built) → seen_counted r ≡ s → sum totals ≡ sum j.totals + if_answered s (pairs_within i)
     unfolding if_answered
     call_sum (answered c) e = grown_sum c e
     call_sum (refused n p) e = ap sum (nothing_added n p e) ∙ omega arith
 
-    call_each : (s : Seen Counts) → seen_counted r ≡ s → (k : ℕ) → k < shells → get_or totals k 0 ≡ get_or j.totals k 0 + if_answered s (pairs_in_shell i j.width shells k)
+    call_each : (s : Seen Built) → seen_counted r ≡ s → (k : ℕ) → k < shells → get_or totals k 0 ≡ get_or j.totals k 0 + if_answered s (pairs_in_shell i j.width shells k)
     unfolding if_answered
     call_each (answered c) e k h = (grown_each c e).each k h
     call_each (refused n p) e k h = ap (λ (t : List ℕ). get_or t k 0) (nothing_added n p e) ∙ omega arith

@@ -1,9 +1,8 @@
 -- What the private functions ask and say of themselves: nobody has to believe it. Definitions only.
+use Rattle.std.specs.Prelude.{Err, Ok, Result}
 use Rattle.std.specs.Prelude.{ℕ, ◌+◌, ◌-◌, ◌*◌, ◌/◌, ◌≤◌, ◌<◌, ◌≡◌, true, false, cond, List, length, get_or, take, eqb}
 use Rattle.lists.specs.Lists.{how_many}
 use Rattle.lists.specs.Loops.{map_at}
-use Rattle.answer.specs.declared.Done.{Done}
-use Rattle.answer.specs.declared.Done.TheVariants as DoneCases
 use Rattle.answer.specs.declared.Refusal.{Refusal}
 use Rattle.answer.specs.declared.Refusal.TheVariants.{Range}
 use Rattle.answer.specs.Seen.{number_of}
@@ -15,9 +14,9 @@ use Rattle.shells.specs.Shells.{totals_with, is_past}
 unfoldable pub before_order : Refusal → Refusal
 before_order r = cond (eqb (number_of r) 5) Range r
 
-unfoldable pub refusal_of : Done → Refusal
-refusal_of DoneCases.Answered = Range
-refusal_of (DoneCases.Refused r) = before_order r
+unfoldable pub refusal_of : Result (Unit {0}) Refusal → Refusal
+refusal_of (Ok tt) = Range
+refusal_of (Err r) = before_order r
 
 -- the frame is in range, the pairs are of its atoms, and there are shells
 pub record Countable (f : Frame) (xs : List ℕ) (width shells : ℕ) (pairs : List ℕ) : Type 0 where

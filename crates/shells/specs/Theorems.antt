@@ -1,12 +1,13 @@
 -- What calls of `add_shells` count, said of the frames themselves: over all pairs of a frame's atoms, by exact distances. 02, No. 12. Definitions only.
-use Rattle.std.specs.Prelude.{ℕ, ◌+◌, ◌/◌, ◌<◌, ◌≡◌, Bool, cond, not, ◌&&◌, List, [], ◌∷◌, length, get_or, eqb, ltb, leb}
+use Rattle.std.specs.Prelude.{Result, ℕ, ◌+◌, ◌/◌, ◌<◌, ◌≡◌, Bool, cond, not, ◌&&◌, List, [], ◌∷◌, length, get_or, eqb, ltb, leb}
 use Rattle.lists.specs.Atoms.{atoms_of}
 use Rattle.lists.specs.Lists.{how_many, all_pairs, rows}
 use Rattle.answer.specs.Seen.{Seen, answered, refused}
 use Rattle.exclusions.specs.Table.{is_row}
 use Rattle.frame.specs.Distance.{spot_of, square_of, squared_of}
-use Rattle.frame.specs.Build.{Given, Counts}
-use Rattle.shells.specs.declared.Counted.{Counted}
+use Rattle.frame.specs.declared.Built.{Built}
+use Rattle.frame.specs.Build.{Given}
+use Rattle.shells.specs.declared.CountError.{CountError}
 use Rattle.shells.specs.Shells.{Adding, adding, seen_counted, AddShellsSays}
 
 -- ---- of one frame
@@ -36,15 +37,15 @@ pub record ShellsGrown (j : Adding) (totals : List ℕ) : Type 0 where
   pub each : (k : ℕ) → k < length j.totals → get_or totals k 0 ≡ get_or j.totals k 0 + pairs_in_shell j.build j.width (length j.totals) k
 
 -- an answered call counts its frame; a refused one adds nothing
-pub record AddShellsCounts (j : Adding) (r : Counted) (totals : List ℕ) : Type 0 where
-  pub counts : (c : Counts) → seen_counted r ≡ answered c → ShellsGrown j totals
+pub record AddShellsCounts (j : Adding) (r : Result Built CountError) (totals : List ℕ) : Type 0 where
+  pub counts : (c : Built) → seen_counted r ≡ answered c → ShellsGrown j totals
   pub nothing : (number place : ℕ) → seen_counted r ≡ refused number place → totals ≡ j.totals
 
 -- ---- of a run: calls one after the other, each with a frame and a width of its own, on the totals that the one before left
 pub record Call : Type 0 where
   pub build : Given
   pub width : ℕ
-  pub answer : Counted
+  pub answer : Result Built CountError
   pub pairs : List ℕ
   pub starts : List ℕ
   pub items : List ℕ
@@ -57,7 +58,7 @@ Follow before (c ∷ cs) after =
     × Follow between cs after
 
 -- n, where the call was answered
-unfoldable pub if_answered : Seen Counts → ℕ → ℕ
+unfoldable pub if_answered : Seen Built → ℕ → ℕ
 if_answered (answered c) n = n
 if_answered (refused number place) n = 0
 

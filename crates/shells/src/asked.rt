@@ -3,7 +3,7 @@ ghost use Rattle.std.specs.Prelude.{◌≡◌};
 ghost use Rattle.frame.specs.Build.{frame_asked};
 ghost use Rattle.shells.specs.Steps.{before_order, refusal_of};
 
-use answer::{Done, Refusal};
+use answer::Refusal;
 use frame::Frame;
 
 // 1 and 2 come before it, 5 after it.
@@ -21,7 +21,7 @@ pub(crate) fn refusal(f: Frame, xs: &[u32], table: &[u32], items: usize) -> Refu
 {
     let a = frame::asked::asked(f, xs, table, items);
     match a {
-        Done::Answered => Refusal::Range,
-        Done::Refused(why) => before_order(why),
+        Ok(()) => Refusal::Range,
+        Err(why) => before_order(why),
     }
 }

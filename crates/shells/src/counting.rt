@@ -6,7 +6,6 @@ ghost use Rattle.frame.specs.Build.{ranges_ok};
 ghost use Rattle.shells.specs.Shells.{shell_of, shell_at, totals_with, is_past};
 ghost use Rattle.shells.specs.Steps.{Countable, AddedSome, totals_without};
 
-use answer::Whole;
 use frame::{Frame, Spot};
 
 fn spot(xs: &[u32], i: usize) -> Spot
@@ -25,7 +24,7 @@ fn squared(f: Frame, xs: &[u32], i: u32, j: u32) -> u64
     ensures { result ≡ squared_of f (spot_of xs.now i) (spot_of xs.now j) }
 {
     let d = frame::squared_distance(f, spot(xs, i as usize), spot(xs, j as usize));
-    let Whole::Answered(square) = d else {
+    let Ok(square) = d else {
         return 0;
     };
     square
@@ -71,17 +70,15 @@ fn add_some(f: Frame, xs: &[u32], width: u64, pairs: &[u32], totals: &mut [u64])
 {
     let shells = totals.len();
     let n = pairs.len() / 2;
-    let mut k = 0;
-    while k < n {
+    for k in 0..n {
         let s = shell_at(f, xs, width, shells, pairs, k);
         let total = totals[s];
         if total == 18446744073709551615 {
             return k;
         }
         totals[s] = total + 1;
-        k += 1;
     }
-    k
+    n
 }
 
 // The first n pairs taken back.
@@ -90,12 +87,10 @@ fn take_back(f: Frame, xs: &[u32], width: u64, pairs: &[u32], totals: &mut [u64]
     ensures { totals.new ≡ totals_without (shell_at f xs.now width (length totals.old)) (take n (rows pairs.now)) totals.old }
 {
     let shells = totals.len();
-    let mut k = 0;
-    while k < n {
+    for k in 0..n {
         let s = shell_at(f, xs, width, shells, pairs, k);
         let less = one_less(totals[s]);
         totals[s] = less;
-        k += 1;
     }
 }
 

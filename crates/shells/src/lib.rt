@@ -8,19 +8,24 @@ use frame::{Built, Frame};
 mod asked;
 mod counting;
 
+ghost use Rattle.std.specs.Prelude.{◌≡◌};
 ghost use Rattle.frame.specs.Build.{given};
+ghost use Rattle.shells.specs.declared.CountError.TheVariants.{Refused};
 ghost use Rattle.shells.specs.Shells.{adding, AddShellsSays};
 
-// A build's numbers; or why there is no list; or 13, that a total would pass 2^64 - 1: the list is there, the totals are as they came.
-#[derive(Drop)]
-pub enum Counted {
-    Answered {
-        pairs: u32,
-        checks: u32,
-        fallback: bool,
-    },
+// Why a frame was not counted: there is no list; or 13, a total would pass 2^64 - 1: the list is there, the totals are as they came.
+#[derive(Clone, Copy)]
+pub enum CountError {
     Refused(Refusal),
     Full,
+}
+
+impl From<Refusal> for CountError {
+    ghost from_gives = { λ why e. e ≡ Refused why };
+
+    fn from(why: Refusal) -> CountError {
+        CountError::Refused(why)
+    }
 }
 
 // The frame's list is built, and each listed pair adds one to the total of its shell: its squared distance by the width, the last shell open upward.
@@ -34,29 +39,16 @@ pub fn add_shells(
     pairs: &mut [u32],
     starts: &mut [u32],
     items: &mut [u32],
-) -> Counted
+) -> Result<Built, CountError>
     ensures { AddShellsSays (adding (given f coordinates.now exclusions.now pairs.old starts.old items.old) width totals.old) result totals.new pairs.new starts.new items.new }
 {
     if (width == 0) | (totals.len() == 0) {
-        return Counted::Refused(asked::refusal(f, coordinates, exclusions, items.len()));
+        return Err(CountError::Refused(asked::refusal(f, coordinates, exclusions, items.len())));
     }
-    let b = frame::build(f, coordinates, exclusions, pairs, starts, items);
-    match b {
-        Built::Refused(why) => Counted::Refused(why),
-        Built::Answered {
-            pairs: count,
-            checks,
-            fallback,
-        } => {
-            let to = 2 * (count as usize);
-            if counting::add(f, coordinates, width, &pairs[..to], totals) {
-                return Counted::Answered {
-                    pairs: count,
-                    checks: checks,
-                    fallback: fallback,
-                };
-            }
-            Counted::Full
-        }
+    let b = frame::build(f, coordinates, exclusions, pairs, starts, items)?;
+    let to = 2 * (b.pairs as usize);
+    if counting::add(f, coordinates, width, &pairs[..to], totals) {
+        return Ok(b);
     }
+    Err(CountError::Full)
 }

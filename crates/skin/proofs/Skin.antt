@@ -1,4 +1,5 @@
 -- What the tests of `within_skin` show, and its answer by its cases. Assumes nothing.
+use Rattle.std.specs.Prelude.{Err, Ok, Result}
 use Prim.Native.Nat.{ℕ, ◌+◌, ◌*◌, ◌/◌, ◌%◌, ◌≤◌, ◌<◌}
 use native.Mathlib.Omega.{arith}
 use native.Mathlib.Nat.{zero-add}
@@ -10,9 +11,7 @@ use lib.ListN.{length}
 use lib.Dec.{eqb}
 use borrow.Author.Tests.{lt-ltb, le-ltb, leb-true, le-leb, lt-leb, eqb-true, not-false}
 use Rattle.answer.specs.declared.Refusal.{Refusal}
-use Rattle.answer.specs.declared.Whole.{Whole}
-use Rattle.answer.specs.declared.Whole.TheVariants.{Answered, Refused}
-use Rattle.answer.specs.Seen.{answered, refused, refused_by, seen_whole}
+use Rattle.answer.specs.Seen.{answered, refused, refused_by, seen}
 use Rattle.lists.specs.Lists.{up_to, every}
 use Rattle.lists.proofs.Cases.{and_both, both_and, or_neither, true_or_false}
 use Rattle.lists.proofs.Exactness.{numbers_at, length_up_to}
@@ -60,11 +59,11 @@ module _ (f : Frame) (a b : Spot) (h : frame_ok f && spot_ok f a && spot_ok f b 
   unfolding squared_seen
   seen_squared = rw h
 
-  pub squared_value : (r : Whole) (n : ℕ) → seen_whole r ≡ squared_seen f a b → r ≡ Answered n → n ≡ squared_of f a b
-  squared_value r n q e = let s : answered n ≡ answered (squared_of f a b) = ap seen_whole (sym e) ∙ q ∙ seen_squared in cc
+  pub squared_value : (r : Result ℕ Refusal) (n : ℕ) → seen r ≡ squared_seen f a b → r ≡ Ok n → n ≡ squared_of f a b
+  squared_value r n q e = let s : answered n ≡ answered (squared_of f a b) = ap seen (sym e) ∙ q ∙ seen_squared in cc
 
-  pub squared_not_refused : (r : Whole) (y : Refusal) (n : ℕ) → seen_whole r ≡ squared_seen f a b → r ≡ Refused y → n ≡ squared_of f a b
-  squared_not_refused r y n q e = let s : refused_by y ≡ answered (squared_of f a b) = ap seen_whole (sym e) ∙ q ∙ seen_squared in cc
+  pub squared_not_refused : (r : Result ℕ Refusal) (y : Refusal) (n : ℕ) → seen r ≡ squared_seen f a b → r ≡ Err y → n ≡ squared_of f a b
+  squared_not_refused r y n q e = let s : refused_by y ≡ answered (squared_of f a b) = ap seen (sym e) ∙ q ∙ seen_squared in cc
 
 -- a radius past that of any frame
 too_wide : (f : Frame) (xs : List ℕ) → 1048576 < f.radius → ranges_ok f xs ≡ false

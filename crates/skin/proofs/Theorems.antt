@@ -1,4 +1,7 @@
 -- A kept list misses nothing while `within_skin` says yes. Assumes nothing.
+use Rattle.std.specs.Prelude.{Result}
+use Rattle.answer.specs.declared.Refusal.{Refusal}
+use Rattle.frame.specs.declared.Built.{Built}
 use Prim.Native.Nat.{ℕ, ◌+◌, ◌*◌, ◌/◌, ◌≤◌, ◌<◌}
 use native.Mathlib.Omega.{arith}
 use mathlib.Core.Path.{◌≡◌, refl, sym, ◌∙◌, subst}
@@ -9,7 +12,6 @@ use lib.ListN.{length}
 use lib.Dec.{ltb}
 use borrow.Author.Tests.{leb-true, le-leb}
 use native.Mathlib.Nat.{zero-add}
-use Rattle.answer.specs.declared.YesNo.{YesNo}
 use Rattle.answer.specs.Seen.{answered, refused}
 use Rattle.lists.specs.Atoms.{atoms_of, most_atoms}
 use Rattle.lists.specs.Lists.{up_to, keep}
@@ -20,9 +22,8 @@ use Rattle.bins.specs.Edge.{gap, distance}
 use Rattle.frame.specs.declared.Side.{Side}
 use Rattle.frame.specs.declared.Frame.{Frame}
 use Rattle.frame.specs.declared.Spot.{Spot}
-use Rattle.frame.specs.declared.Built.{Built}
 use Rattle.frame.specs.Distance.{spot_of, along, square_of, squared_of, near_of}
-use Rattle.frame.specs.Build.{Given, Counts, ranges_ok, BuildSays}
+use Rattle.frame.specs.Build.{Given, ranges_ok, BuildSays}
 use Rattle.frame.specs.Listed.{Close, Listed}
 use Rattle.frame.specs.Steps.{Inside, Framed}
 use Rattle.frame.proofs.Ranges.{ranges_framed}
@@ -163,7 +164,7 @@ module _ (f : Frame) (skin : ℕ) (i : Given) (new : List ℕ) (same : i.frame �
   unfolding near_of
   close_near p u = (was_close p u, le-leb (squared_of f (spot_of new p.0) (spot_of new p.1)) (square_of f.radius) u.2)
 
-  pub enough : (c : Counts) (pairs : List ℕ) → Listed i c pairs → Enough f i c pairs new
+  pub enough : (c : Built) (pairs : List ℕ) → Listed i c pairs → Enough f i c pairs new
   enough c pairs l =
       let exact = exactly_as (keep (near_now f new) (kept_rows c pairs)) (exactly_keep (near_now f new) (kept_rows c pairs) l.exactly) near_close close_near in
       record {
@@ -173,13 +174,13 @@ module _ (f : Frame) (skin : ℕ) (i : Given) (new : List ℕ) (same : i.frame �
       }
 
 -- THEOREM. Where a build at cutoff plus skin was answered and `within_skin` says yes, each unexcluded pair now within the cutoff is a row of the old list.
-pub skin_enough : (f : Frame) (skin : ℕ) (i : Given) (r : Built) (pairs starts items new : List ℕ) (a : YesNo) → BuildSays i r pairs starts items
+pub skin_enough : (f : Frame) (skin : ℕ) (i : Given) (r : Result Built Refusal) (pairs starts items new : List ℕ) (a : Result Bool Refusal) → BuildSays i r pairs starts items
     → WithinSkinSays f skin i.coordinates new a → SkinEnough f skin i r pairs new a
 skin_enough f skin i r pairs starts items new a h w same c q said =
     enough f skin i new same (yes_stayed f skin i.coordinates new (sym w ∙ said)) c pairs (build_lists i r pairs starts items h c q)
 
 -- THEOREM. So a whole run may keep the list, each frame held against the build's coordinates.
-pub run_enough : (f : Frame) (skin : ℕ) (i : Given) (r : Built) (pairs starts items : List ℕ) (run : List (List ℕ)) → BuildSays i r pairs starts items
+pub run_enough : (f : Frame) (skin : ℕ) (i : Given) (r : Result Built Refusal) (pairs starts items : List ℕ) (run : List (List ℕ)) → BuildSays i r pairs starts items
     → RunEnough f skin i r pairs run
 run_enough f skin i r pairs starts items run h same c q said new m =
     enough f skin i new same (yes_stayed f skin i.coordinates new (said new m)) c pairs (build_lists i r pairs starts items h c q)

@@ -1,7 +1,8 @@
 -- The question whether a kept list is still enough: 02, No. 14. The frame's radius is the cutoff. Definitions only.
+use Rattle.std.specs.Prelude.{Result}
+use Rattle.answer.specs.declared.Refusal.{Refusal}
 use Rattle.std.specs.Prelude.{ℕ, ◌+◌, ◌*◌, ◌/◌, ◌%◌, ◌≡◌, Bool, cond, not, ◌&&◌, ◌||◌, List, length, eqb, ltb, leb}
-use Rattle.answer.specs.declared.YesNo.{YesNo}
-use Rattle.answer.specs.Seen.{Seen, answered, refused, seen_yes_no}
+use Rattle.answer.specs.Seen.{Seen, answered, refused, seen}
 use Rattle.lists.specs.Atoms.{atoms_of, most_atoms}
 use Rattle.lists.specs.Lists.{up_to, every}
 use Rattle.frame.specs.declared.Frame.{Frame}
@@ -32,5 +33,5 @@ skin_seen f skin old new =
     (cond (ltb most_atoms (atoms_of old)) (refused 2 (atoms_of old))
     (cond (ranges_ok (widened f skin) old && ranges_ok (widened f skin) new) (answered (all_moved_little f skin old new)) (refused 3 0)))
 
-abbrev pub WithinSkinSays : Frame → ℕ → List ℕ → List ℕ → YesNo → Type 0
-WithinSkinSays f skin old new r = seen_yes_no r ≡ skin_seen f skin old new
+abbrev pub WithinSkinSays : Frame → ℕ → List ℕ → List ℕ → Result Bool Refusal → Type 0
+WithinSkinSays f skin old new r = seen r ≡ skin_seen f skin old new

@@ -1,15 +1,16 @@
 -- Why the skin is enough: 02, No. 14, "each unexcluded pair now within the cutoff stands in the old list", said of the memory that an answered build
 -- left. Definitions only.
+use Rattle.std.specs.Prelude.{Result}
+use Rattle.answer.specs.declared.Refusal.{Refusal}
+use Rattle.frame.specs.declared.Built.{Built}
 use Rattle.std.specs.Prelude.{ℕ, ◌+◌, ◌*◌, ◌≤◌, ◌<◌, ◌≡◌, Bool, true, List, length, take}
-use Rattle.answer.specs.declared.YesNo.{YesNo}
-use Rattle.answer.specs.Seen.{answered, seen_yes_no}
+use Rattle.answer.specs.Seen.{answered, seen}
 use Rattle.lists.specs.Exact.{◌∈◌, Exactly}
 use Rattle.lists.specs.Lists.{rows, keep, how_many}
 use Rattle.frame.specs.declared.Side.{Side}
 use Rattle.frame.specs.declared.Frame.{Frame}
-use Rattle.frame.specs.declared.Built.{Built}
 use Rattle.frame.specs.Distance.{spot_of, along, near_of}
-use Rattle.frame.specs.Build.{Given, given, Counts, seen_built}
+use Rattle.frame.specs.Build.{Given, given}
 use Rattle.frame.specs.Listed.{Close}
 use Rattle.skin.specs.Skin.{widened, skin_seen}
 
@@ -18,13 +19,13 @@ abbrev pub now_given : Frame → Given → List ℕ → Given
 now_given f i new = given f new i.exclusions i.pairs i.starts i.items
 
 -- the rows of the kept list, and whether one is now within the cutoff
-abbrev pub kept_rows : Counts → List ℕ → List (ℕ × ℕ)
+abbrev pub kept_rows : Built → List ℕ → List (ℕ × ℕ)
 kept_rows c pairs = rows (take (2 * c.pairs) pairs)
 
 abbrev pub near_now : Frame → List ℕ → ℕ × ℕ → Bool
 near_now f new p = near_of f (spot_of new p.0) (spot_of new p.1)
 
-pub record Enough (f : Frame) (i : Given) (c : Counts) (pairs new : List ℕ) : Type 0 where
+pub record Enough (f : Frame) (i : Given) (c : Built) (pairs new : List ℕ) : Type 0 where
   -- each unexcluded pair now within the cutoff stands in the old list
   pub listed : (p : ℕ × ℕ) → Close (now_given f i new) p → p ∈ kept_rows c pairs
   -- so the old rows that are now within the cutoff are these pairs, once each,
@@ -33,14 +34,14 @@ pub record Enough (f : Frame) (i : Given) (c : Counts) (pairs new : List ℕ) : 
   pub counted : (l : List (ℕ × ℕ)) → Exactly (Close (now_given f i new)) l → length l ≡ how_many (near_now f new) (kept_rows c pairs)
 
 -- of a build at cutoff plus skin that was answered, and of coordinates for which `within_skin` said yes
-abbrev pub SkinEnough : Frame → ℕ → Given → Built → List ℕ → List ℕ → YesNo → Type 0
+abbrev pub SkinEnough : Frame → ℕ → Given → Result Built Refusal → List ℕ → List ℕ → Result Bool Refusal → Type 0
 SkinEnough f skin i r pairs new a =
-    i.frame ≡ widened f skin → (c : Counts) → seen_built r ≡ answered c → seen_yes_no a ≡ answered true → Enough f i c pairs new
+    i.frame ≡ widened f skin → (c : Built) → seen r ≡ answered c → seen a ≡ answered true → Enough f i c pairs new
 
 -- of a whole run: each frame held against the build's coordinates
-abbrev pub RunEnough : Frame → ℕ → Given → Built → List ℕ → List (List ℕ) → Type 0
+abbrev pub RunEnough : Frame → ℕ → Given → Result Built Refusal → List ℕ → List (List ℕ) → Type 0
 RunEnough f skin i r pairs run =
-    i.frame ≡ widened f skin → (c : Counts) → seen_built r ≡ answered c
+    i.frame ≡ widened f skin → (c : Built) → seen r ≡ answered c
     → ((new : List ℕ) → new ∈ run → skin_seen f skin i.coordinates new ≡ answered true)
     → (new : List ℕ) → new ∈ run → Enough f i c pairs new
 

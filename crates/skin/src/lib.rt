@@ -8,7 +8,7 @@ ghost use Rattle.frame.specs.Distance.{spot_of, squared_of, frame_ok, spot_ok};
 ghost use Rattle.frame.specs.Build.{ranges_ok};
 ghost use Rattle.skin.specs.Skin.{moved_little, counts_differ, WithinSkinSays};
 
-use answer::{Refusal, Whole, YesNo};
+use answer::Refusal;
 use frame::{Frame, Spot};
 
 fn counts_differ(old: usize, new: usize) -> bool
@@ -35,8 +35,8 @@ fn squared_move(f: Frame, a: Spot, b: Spot) -> u64
 {
     let d = frame::squared_distance(f, a, b);
     match d {
-        Whole::Answered(n) => n,
-        Whole::Refused(_) => 0,
+        Ok(n) => n,
+        Err(_) => 0,
     }
 }
 
@@ -53,32 +53,30 @@ fn all_moved_little(f: Frame, skin: u32, old: &[u32], new: &[u32]) -> bool
 {
     let most = most_of(skin);
     let n = old.len() / 3;
-    let mut i = 0;
-    while i < n {
+    for i in 0..n {
         if most < squared_move(f, spot_at(old, i), spot_at(new, i)) {
             return false;
         }
-        i += 1;
     }
     true
 }
 
 // Whether each atom has moved, by nearest image, so that four times its squared displacement is at most the squared skin. The frame's radius is the
 // cutoff; the list was built at cutoff plus skin, and 2 and 3 are what a build there refuses. Refusals 1, 2, 3.
-pub fn within_skin(f: Frame, skin: u32, old: &[u32], new: &[u32]) -> YesNo
+pub fn within_skin(f: Frame, skin: u32, old: &[u32], new: &[u32]) -> Result<bool, Refusal>
     ensures { WithinSkinSays f skin old.now new.now result }
 {
     if counts_differ(old.len(), new.len()) {
-        return YesNo::Refused(Refusal::Lengths);
+        return Err(Refusal::Lengths);
     }
     let n = old.len() / 3;
     if 16384 < n {
-        return YesNo::Refused(Refusal::TooMany { atoms: n });
+        return Err(Refusal::TooMany { atoms: n });
     }
     // exact, and past the radius of any frame before it is past 32 bits
     let radius = f.radius as u64 + skin as u64;
     if 1048576 < radius {
-        return YesNo::Refused(Refusal::Range);
+        return Err(Refusal::Range);
     }
     let x = f.x;
     let y = f.y;
@@ -90,10 +88,10 @@ pub fn within_skin(f: Frame, skin: u32, old: &[u32], new: &[u32]) -> YesNo
         radius: radius as u32,
     };
     if !frame::asked::ranges_ok(wide, old) {
-        return YesNo::Refused(Refusal::Range);
+        return Err(Refusal::Range);
     }
     if !frame::asked::ranges_ok(wide, new) {
-        return YesNo::Refused(Refusal::Range);
+        return Err(Refusal::Range);
     }
-    YesNo::Answered(all_moved_little(wide, skin, old, new))
+    Ok(all_moved_little(wide, skin, old, new))
 }

@@ -1,4 +1,5 @@
 -- What stands where after a strike: specs/Theorems. Assumes nothing.
+use Rattle.std.specs.Prelude.{Ok}
 use Prim.Native.Nat.{ℕ, zero, suc, ◌+◌, ◌*◌, ◌-◌, ◌/◌, ◌≤◌, ◌<◌}
 use mathlib.Core.Path.{◌≡◌, refl, sym, ap, ◌∙◌}
 use mathlib.Core.Logic.{⊎_elim}
@@ -19,7 +20,6 @@ use Rattle.strike.specs.Calls.{LentAtoms, Links, strike_asked, atoms_left, names
 use Rattle.strike.specs.Steps.{Fitting}
 use Rattle.strike.proofs.Passed.{fit_of}
 use Rattle.strike.proofs.Turns.{link_there, row_there_at, survivor_below}
-use Rattle.answer.specs.declared.Done.TheVariants.{Answered}
 use Rattle.strike.specs.Theorems.{Keeps, Stays, AtomsKept, LinksKept, StrikeKeeps, RowsGoWith, NamesThere}
 use Rattle.strike.proofs.Rows.{sets_at, sets_past, rows_long, row_long, row_below, row_there, keep_append, many_more, many_same, many_few}
 
@@ -115,7 +115,7 @@ module _ {A : Type 0} (d : A) (f : A → A) (w m : ℕ) (q : ℕ → Bool) (xs :
       }
 
 -- ---- what the calls leave
-module _ (marks : List ℕ) (a : LentAtoms) (l : Links) (h : strike_asked marks a l ≡ Answered) where
+module _ (marks : List ℕ) (a : LentAtoms) (l : Links) (h : strike_asked marks a l ≡ Ok tt) where
   abbrev fit : Fitting marks a
   fit = fit_of marks a l h
 

@@ -1,4 +1,5 @@
 -- What an answer shows of the tests before it, and what the two calls leave then. Assumes nothing.
+use Rattle.std.specs.Prelude.{Err, Ok, Result}
 use Prim.Native.Nat.{ℕ, suc, ◌+◌, ◌*◌, ◌/◌, ◌%◌, ◌≤◌, ◌<◌}
 use mathlib.Core.Path.{◌≡◌, refl, sym, ◌∙◌}
 use mathlib.Core.Bool.{Bool, true, false, cond, not, ◌&&◌}
@@ -14,9 +15,7 @@ use Rattle.lists.specs.Atoms.{atoms_of, most_atoms}
 use Rattle.lists.specs.Lists.{every}
 use Rattle.lists.proofs.Cases.{and_both, impossible}
 use Rattle.answer.proofs.Passed.{pass}
-use Rattle.answer.specs.Seen.{seen_done}
-use Rattle.answer.specs.declared.Done.{Done}
-use Rattle.answer.specs.declared.Done.TheVariants.{Answered, Refused}
+use Rattle.answer.specs.Seen.{seen}
 use Rattle.answer.specs.declared.Refusal.{Refusal}
 use Rattle.answer.specs.declared.Refusal.TheVariants.{Lengths, TooMany, Range}
 use Rattle.neighbor.specs.declared.State.{State}
@@ -29,7 +28,7 @@ use Rattle.strike.specs.Steps.{Fitting, Closed, Roomy}
 use Rattle.strike.specs.Left.{AtomsClosed, BondsClosed, AnglesClosed, LinksClosed}
 
 -- a test that was passed, where it had to be true
-pub passed : (t : Bool) (r : Refusal) (rest : Done) → cond t rest (Refused r) ≡ Answered → (t ≡ true) × (rest ≡ Answered)
+pub passed : (t : Bool) (r : Refusal) (rest : Result (Unit {0}) Refusal) → cond t rest (Err r) ≡ Ok tt → (t ≡ true) × (rest ≡ Ok tt)
 passed true r rest q = (refl, q)
 passed false r rest q = let z : ◌≡◌ {A = ℕ} 0 1 = cc in impossible z
 
@@ -57,19 +56,19 @@ module _ (p v m c s : ℕ) (h : atoms_fit p v m c s ≡ true) where
       (omega (arith, eqb-true (p % 3) 0 b.0), eqb-true v p b.1, eqb-true m (p / 3) c'.1, eqb-true c (p / 3) d.1, eqb-true s (p / 3) e.1)
 
 -- of an answered strike
-module _ (marks : List ℕ) (a : LentAtoms) (l : Links) (h : strike_asked marks a l ≡ Answered) where
+module _ (marks : List ℕ) (a : LentAtoms) (l : Links) (h : strike_asked marks a l ≡ Ok tt) where
   abbrev room : ℕ
   room = atoms_of a.positions
 
-  abbrev later : Done
-  later = cond (ltb most_atoms room) (Refused (TooMany room)) (cond (every is_mark marks) (links_asked room l) (Refused Range))
+  abbrev later : Result (Unit {0}) Refusal
+  later = cond (ltb most_atoms room) (Err (TooMany room)) (cond (every is_mark marks) (links_asked room l) (Err Range))
 
-  first : (strike_fits marks a l ≡ true) × (later ≡ Answered)
+  first : (strike_fits marks a l ≡ true) × (later ≡ Ok tt)
   unfolding strike_asked
   first = passed (strike_fits marks a l) Lengths later h
 
   few : room ≤ 16384
-  few = ltb-false most_atoms room (pass (ltb most_atoms room) (TooMany room) (cond (every is_mark marks) (links_asked room l) (Refused Range)) first.1).0
+  few = ltb-false most_atoms room (pass (ltb most_atoms room) (TooMany room) (cond (every is_mark marks) (links_asked room l) (Err Range)) first.1).0
 
   pub fit_of : Fitting marks a
   unfolding strike_fits
@@ -88,20 +87,20 @@ module _ (marks : List ℕ) (a : LentAtoms) (l : Links) (h : strike_asked marks 
       }
 
 -- of an answered put
-module _ (count : ℕ) (new : NewAtom) (a : LentAtoms) (h : put_asked count new a ≡ Answered) where
+module _ (count : ℕ) (new : NewAtom) (a : LentAtoms) (h : put_asked count new a ≡ Ok tt) where
   abbrev fits : Bool
   fits = atoms_fit (length a.positions) (length a.velocities) (length a.masses) (length a.charges) (length a.species)
 
-  abbrev third : Done
-  third = cond (atom_in_range new) Answered (Refused Range)
+  abbrev third : Result (Unit {0}) Refusal
+  third = cond (atom_in_range new) (Ok tt) (Err Range)
 
-  abbrev second : Done
-  second = cond (ltb most_atoms (count + 1)) (Refused (TooMany (count + 1))) third
+  abbrev second : Result (Unit {0}) Refusal
+  second = cond (ltb most_atoms (count + 1)) (Err (TooMany (count + 1))) third
 
   pub roomy_of : Roomy count a
   unfolding put_asked
   roomy_of =
-      let x = passed fits Lengths (cond (leb (atoms_of a.positions) count) (Refused Lengths) second) h in
+      let x = passed fits Lengths (cond (leb (atoms_of a.positions) count) (Err Lengths) second) h in
       let y = pass (leb (atoms_of a.positions) count) Lengths second x.1 in
       let z = pass (ltb most_atoms (count + 1)) (TooMany (count + 1)) third y.1 in
       let f = fit_lengths (length a.positions) (length a.velocities) (length a.masses) (length a.charges) (length a.species) x.0 in
@@ -118,20 +117,20 @@ module _ (count : ℕ) (new : NewAtom) (a : LentAtoms) (h : put_asked count new 
 
 -- ---- what the calls leave
 module _ (marks : List ℕ) (s : State) (a : LentAtoms) (l : Links) where
-  pub strike_refused : (r : Refusal) → strike_asked marks a l ≡ Refused r → record { shown = seen_done (Refused r); left = none_left; state = s; atoms = a; links = l } ≡ strike_of marks s a l
+  pub strike_refused : (r : Refusal) → strike_asked marks a l ≡ Err r → record { shown = seen (Err r); left = none_left; state = s; atoms = a; links = l } ≡ strike_of marks s a l
   unfolding strike_of strike_after
   strike_refused r e = rw e
 
-  pub strike_done : (n : ℕ) (left : Left) (s' : State) (a' : LentAtoms) (l' : Links) → strike_asked marks a l ≡ Answered → AtomsClosed marks a n a' → LinksClosed marks n l left l' → s' ≡ unlisted_of s → record { shown = seen_done Answered; left = left; state = s'; atoms = a'; links = l' } ≡ strike_of marks s a l
+  pub strike_done : (n : ℕ) (left : Left) (s' : State) (a' : LentAtoms) (l' : Links) → strike_asked marks a l ≡ Ok tt → AtomsClosed marks a n a' → LinksClosed marks n l left l' → s' ≡ unlisted_of s → record { shown = seen (Ok tt); left = left; state = s'; atoms = a'; links = l' } ≡ strike_of marks s a l
   unfolding strike_of strike_after
   strike_done n left s' a' l' e c d u = rw (e, d.count, c.count, u, c.held, d.held)
 
 module _ (count : ℕ) (new : NewAtom) (s : State) (a : LentAtoms) where
-  pub put_refused : (r : Refusal) → put_asked count new a ≡ Refused r → record { shown = seen_done (Refused r); count = count; state = s; atoms = a } ≡ put_of count new s a
+  pub put_refused : (r : Refusal) → put_asked count new a ≡ Err r → record { shown = seen (Err r); count = count; state = s; atoms = a } ≡ put_of count new s a
   unfolding put_of put_after
   put_refused r e = rw e
 
-  pub put_done : (s' : State) (p v : List Float) → put_asked count new a ≡ Answered → s' ≡ unlisted_of s → p ≡ sets a.positions (3 * count) (new.position.x ∷ new.position.y ∷ new.position.z ∷ []) → v ≡ sets a.velocities (3 * count) (new.velocity.x ∷ new.velocity.y ∷ new.velocity.z ∷ []) → record { shown = seen_done Answered; count = count + 1; state = s'; atoms = atoms p v (set a.masses count new.mass) (set a.charges count new.charge) (set a.species count new.species) } ≡ put_of count new s a
+  pub put_done : (s' : State) (p v : List Float) → put_asked count new a ≡ Ok tt → s' ≡ unlisted_of s → p ≡ sets a.positions (3 * count) (new.position.x ∷ new.position.y ∷ new.position.z ∷ []) → v ≡ sets a.velocities (3 * count) (new.velocity.x ∷ new.velocity.y ∷ new.velocity.z ∷ []) → record { shown = seen (Ok tt); count = count + 1; state = s'; atoms = atoms p v (set a.masses count new.mass) (set a.charges count new.charge) (set a.species count new.species) } ≡ put_of count new s a
   unfolding put_of put_after atoms_with
   put_done s' p v e u x y = rw (e, u, x, y)
 
@@ -182,7 +181,7 @@ module _ (marks : List ℕ) (a : LentAtoms) (l : Links) (x y : Bool) (ex : x ≡
   unfolding strike_fits
   found = rw (ex, ey)
 
-  pub asked_lengths : not (eqb (length marks) (atoms_of a.positions) && x && y) ≡ true → Refused Lengths ≡ strike_asked marks a l
+  pub asked_lengths : not (eqb (length marks) (atoms_of a.positions) && x && y) ≡ true → Err Lengths ≡ strike_asked marks a l
   unfolding strike_asked
   asked_lengths h = let e : strike_fits marks a l ≡ false = sym found ∙ not-true (eqb (length marks) (atoms_of a.positions) && x && y) h in rw e
 
@@ -190,19 +189,19 @@ module _ (marks : List ℕ) (a : LentAtoms) (l : Links) (x y : Bool) (ex : x ≡
     fit : strike_fits marks a l ≡ true
     fit = sym found ∙ not-false (eqb (length marks) (atoms_of a.positions) && x && y) h
 
-    pub asked_many : 16384 < atoms_of a.positions → Refused (TooMany (atoms_of a.positions)) ≡ strike_asked marks a l
+    pub asked_many : 16384 < atoms_of a.positions → Err (TooMany (atoms_of a.positions)) ≡ strike_asked marks a l
     unfolding strike_asked
     asked_many m = let e = fit in let f : ltb most_atoms (atoms_of a.positions) ≡ true = lt-ltb most_atoms (atoms_of a.positions) m in rw (e, f)
 
     module _ (m : atoms_of a.positions ≤ 16384) (z : Bool) (ez : z ≡ every is_mark marks) where
-      pub asked_marks : not z ≡ true → Refused Range ≡ strike_asked marks a l
+      pub asked_marks : not z ≡ true → Err Range ≡ strike_asked marks a l
       unfolding strike_asked
       asked_marks n =
           let e = fit in
           let f : ltb most_atoms (atoms_of a.positions) ≡ false = le-ltb most_atoms (atoms_of a.positions) m in
           let g : every is_mark marks ≡ false = sym ez ∙ not-true z n in rw (e, f, g)
 
-      pub asked_names : not z ≡ false → (d : Done) → d ≡ links_asked (atoms_of a.positions) l → d ≡ strike_asked marks a l
+      pub asked_names : not z ≡ false → (d : Result (Unit {0}) Refusal) → d ≡ links_asked (atoms_of a.positions) l → d ≡ strike_asked marks a l
       unfolding strike_asked
       asked_names n d ed =
           let e = fit in

@@ -1,4 +1,6 @@
 -- Between survivors every pull is the same, float for float; and an atom that is put stands after the last one. Assumes nothing.
+use Rattle.std.specs.Prelude.{None}
+use Rattle.std.specs.Prelude.{Ok}
 use Prim.Native.Nat.{ℕ, ◌+◌, ◌*◌, ◌/◌, ◌≤◌, ◌<◌}
 use mathlib.Core.Path.{◌≡◌, sym, ap, ◌∙◌}
 use mathlib.Core.Logic.{◌⊎◌, inl, inr, ⊎_elim}
@@ -18,7 +20,6 @@ use Rattle.float.specs.Literals.{f0}
 use Rattle.cell.specs.declared.Vec3.{Vec3}
 use Rattle.cell.specs.declared.Image.{Image}
 use Rattle.cell.specs.Vec.{position_at, sub_of}
-use Rattle.potentials_pair.specs.declared.Pull.TheVariants.{Skip}
 use Rattle.potentials_pair.specs.Lj.{mix_of, lj_pull}
 use Rattle.potentials_pair.specs.Coulomb.{neutral, coulomb_pull}
 use Rattle.potentials_pair.specs.Bond.{bond_pull}
@@ -28,7 +29,6 @@ use Rattle.potentials_angle.specs.Ranged.{angle_row}
 use Rattle.potentials_angle.specs.Terms.{angle_at, angle_bend}
 use Rattle.strike.specs.declared.NewAtom.{NewAtom}
 use Rattle.potentials.specs.Terms.{displaced, lj_pair, coulomb_pair, bond_pair}
-use Rattle.answer.specs.declared.Done.TheVariants.{Answered}
 use Rattle.strike.specs.Closed.{survives, new_number, row_survives, link_survives}
 use Rattle.strike.specs.Calls.{LentAtoms, Links, strike_asked, atoms_left, links_left, beside_many, put_asked, atoms_with}
 use Rattle.strike.specs.Steps.{Roomy}
@@ -38,7 +38,7 @@ use Rattle.strike.proofs.Turns.{survivor_below, link_there}
 use Rattle.strike.proofs.Rows.{many_few, sets_at, sets_before, sets_past}
 use Rattle.strike.proofs.Kept.{strike_keeps, rows_go_with, order, many_rises}
 
-module _ (marks : List ℕ) (a : LentAtoms) (l : Links) (h : strike_asked marks a l ≡ Answered) where
+module _ (marks : List ℕ) (a : LentAtoms) (l : Links) (h : strike_asked marks a l ≡ Ok tt) where
   abbrev k : AtomsKept marks a (atoms_left marks a)
   k = (strike_keeps marks a l h).0
 
@@ -143,7 +143,7 @@ module _ (marks : List ℕ) (a : LentAtoms) (l : Links) (h : strike_asked marks 
   pulls_stay =
       record {
         lj = λ image look t i j e f. λ n. lj_pull t (mix_of t.rule (look (species_same i e n)) (look (species_same j f n))) (displaced_same image i j e f n);
-        coulomb = λ image ke cutoff i j e f. λ n. cond (neutral (charge_same i e n) (charge_same j f n)) Skip (coulomb_pull ke cutoff (charge_same i e n) (charge_same j f n) (displaced_same image i j e f n));
+        coulomb = λ image ke cutoff i j e f. λ n. cond (neutral (charge_same i e n) (charge_same j f n)) None (coulomb_pull ke cutoff (charge_same i e n) (charge_same j f n) (displaced_same image i j e f n));
         bond = λ image t b i j c s e f. λ n. bond_pull (own l.ks (links_left marks l).ks t.k b c s (strike_keeps marks a l h).1.ks n) (own l.lengths (links_left marks l).lengths t.r0 b c s (strike_keeps marks a l h).1.lengths n) (displaced_same image i j e f n);
         angle = λ image t r c b s x y z. λ n. bend_of (own_angle t r b s n) (displaced_same image c.first c.apex x y n) (displaced_same image c.last c.apex z y n);
       }
@@ -152,7 +152,7 @@ pub strike_pulls : (marks : List ℕ) (a : LentAtoms) (l : Links) → StrikePull
 strike_pulls marks a l h = pulls_stay marks a l h
 
 -- ---- put
-module _ (count : ℕ) (new : NewAtom) (a : LentAtoms) (h : put_asked count new a ≡ Answered) where
+module _ (count : ℕ) (new : NewAtom) (a : LentAtoms) (h : put_asked count new a ≡ Ok tt) where
   abbrev room : Roomy count a
   room = roomy_of count new a h
 

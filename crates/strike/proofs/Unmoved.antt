@@ -1,4 +1,6 @@
 -- A strike without a mark: everything stands where it stood. Assumes nothing.
+use Rattle.std.specs.Prelude.{Err, Ok, Result}
+use Rattle.answer.specs.declared.Refusal.{Refusal}
 use Prim.Native.Nat.{ℕ, zero, suc, ◌+◌, ◌*◌, ◌/◌, ◌%◌, ◌≤◌, ◌<◌, min}
 use mathlib.Core.Path.{◌≡◌, refl, sym, ap, ◌∙◌}
 use mathlib.Core.Logic.{⊎_elim}
@@ -18,8 +20,6 @@ use Rattle.lists.proofs.First.{none_there}
 use Rattle.lists.proofs.Rows.{length_rows, rows_at}
 use Rattle.lists.proofs.Walks.{every_at, at_every}
 use Rattle.answer.proofs.Passed.{pass}
-use Rattle.answer.specs.declared.Done.{Done}
-use Rattle.answer.specs.declared.Done.TheVariants.{Answered, Refused}
 use Rattle.answer.specs.declared.Refusal.TheVariants.{Lengths, TooMany, Range, NotThere, Order}
 use Rattle.ranges.specs.Rows.{is_absent, absent_of}
 use Rattle.exclusions.specs.Table.{is_table}
@@ -123,22 +123,22 @@ module _ (marks : List ℕ) (z : every (eqb 0) marks ≡ true) where
   keeps_name : (names : List ℕ) (e : ℕ) → get_or names e 0 < length marks → new_number marks (get_or names e 0) ≡ get_or names e 0
   keeps_name names e l = none_struck marks z (get_or names e 0) (omega arith)
 
-module _ (marks : List ℕ) (a : LentAtoms) (l : Links) (h : strike_asked marks a l ≡ Answered) where
+module _ (marks : List ℕ) (a : LentAtoms) (l : Links) (h : strike_asked marks a l ≡ Ok tt) where
   abbrev room : ℕ
   room = atoms_of a.positions
 
-  abbrev angled : Done
-  angled = cond (ltb (missing_of room l.angles) (length l.angles / 3)) (Refused (NotThere (missing_of room l.angles))) (cond (is_table (rows l.exclusions)) Answered (Refused Order))
+  abbrev angled : Result (Unit {0}) Refusal
+  angled = cond (ltb (missing_of room l.angles) (length l.angles / 3)) (Err (NotThere (missing_of room l.angles))) (cond (is_table (rows l.exclusions)) (Ok tt) (Err Order))
 
-  linked : links_asked room l ≡ Answered
+  linked : links_asked room l ≡ Ok tt
   unfolding strike_asked
   linked =
-      let later = cond (ltb most_atoms room) (Refused (TooMany room)) (cond (every is_mark marks) (links_asked room l) (Refused Range)) in
+      let later = cond (ltb most_atoms room) (Err (TooMany room)) (cond (every is_mark marks) (links_asked room l) (Err Range)) in
       let f = passed (strike_fits marks a l) Lengths later h in
-      let g = pass (ltb most_atoms room) (TooMany room) (cond (every is_mark marks) (links_asked room l) (Refused Range)) f.1 in
+      let g = pass (ltb most_atoms room) (TooMany room) (cond (every is_mark marks) (links_asked room l) (Err Range)) f.1 in
       (passed (every is_mark marks) Range (links_asked room l) g.1).1
 
-  bonded : (ltb (absent_of room (rows l.bonds)) (length l.bonds / 2) ≡ false) × (angled ≡ Answered)
+  bonded : (ltb (absent_of room (rows l.bonds)) (length l.bonds / 2) ≡ false) × (angled ≡ Ok tt)
   unfolding links_asked
   bonded = pass (ltb (absent_of room (rows l.bonds)) (length l.bonds / 2)) (NotThere (absent_of room (rows l.bonds))) angled linked
 
@@ -147,7 +147,7 @@ module _ (marks : List ℕ) (a : LentAtoms) (l : Links) (h : strike_asked marks 
 
   angle_there : (e : ℕ) → e < 3 * (length l.angles / 3) → get_or l.angles e 0 < length marks
   angle_there e x =
-      let b = pass (ltb (missing_of room l.angles) (length l.angles / 3)) (NotThere (missing_of room l.angles)) (cond (is_table (rows l.exclusions)) Answered (Refused Order)) bonded.1 in
+      let b = pass (ltb (missing_of room l.angles) (length l.angles / 3)) (NotThere (missing_of room l.angles)) (cond (is_table (rows l.exclusions)) (Ok tt) (Err Order)) bonded.1 in
       omega (arith, corner_there room l.angles b.0 e x, (fit_of marks a l h).positions)
 
   module _ (z : every (eqb 0) marks ≡ true) where

@@ -1,9 +1,9 @@
 -- What `strike` and `put` answer, and what they leave in everything lent: one outcome each, from the entry values alone (02, No. 11). Definitions only.
+use Rattle.std.specs.Prelude.{Err, Ok, Result}
+use Rattle.answer.specs.declared.Refusal.{Refusal}
 use Rattle.std.specs.Prelude.{ℕ, ◌+◌, ◌*◌, ◌/◌, ◌%◌, ◌≡◌, Bool, cond, ◌&&◌, List, [], ◌∷◌, Float, length, get_or, set, eqb, ltb, leb}
 use Rattle.std.proofs.lemmas.List.Edits.{sets}
-use Rattle.answer.specs.Seen.{Seen, seen_done}
-use Rattle.answer.specs.declared.Done.{Done}
-use Rattle.answer.specs.declared.Done.TheVariants.{Answered, Refused}
+use Rattle.answer.specs.Seen.{Seen, seen}
 use Rattle.answer.specs.declared.Refusal.TheVariants.{Lengths, TooMany, Range, NotThere, Order}
 use Rattle.lists.specs.Atoms.{atoms_of, most_atoms}
 use Rattle.lists.specs.Lists.{rows, up_to, how_many, every}
@@ -79,19 +79,19 @@ abbrev pub is_mark : ℕ → Bool
 is_mark m = ltb m 2
 
 -- 4 of a bond, then of an angle, then 5
-unfoldable pub links_asked : ℕ → Links → Done
+unfoldable pub links_asked : ℕ → Links → Result (Unit {0}) Refusal
 links_asked n l =
-    cond (ltb (absent_of n (rows l.bonds)) (length l.bonds / 2)) (Refused (NotThere (absent_of n (rows l.bonds))))
-    (cond (ltb (missing_of n l.angles) (length l.angles / 3)) (Refused (NotThere (missing_of n l.angles)))
-    (cond (is_table (rows l.exclusions)) Answered (Refused Order)))
+    cond (ltb (absent_of n (rows l.bonds)) (length l.bonds / 2)) (Err (NotThere (absent_of n (rows l.bonds))))
+    (cond (ltb (missing_of n l.angles) (length l.angles / 3)) (Err (NotThere (missing_of n l.angles)))
+    (cond (is_table (rows l.exclusions)) (Ok tt) (Err Order)))
 
 -- "Refusals: 1, 2 and 5 as for the evaluator, 4 for a bond, then an angle, only, 3 for a mark other than 0 or 1"
-unfoldable pub strike_asked : List ℕ → LentAtoms → Links → Done
+unfoldable pub strike_asked : List ℕ → LentAtoms → Links → Result (Unit {0}) Refusal
 strike_asked marks a l =
     cond (strike_fits marks a l)
-    (cond (ltb most_atoms (atoms_of a.positions)) (Refused (TooMany (atoms_of a.positions)))
-    (cond (every is_mark marks) (links_asked (atoms_of a.positions) l) (Refused Range)))
-    (Refused Lengths)
+    (cond (ltb most_atoms (atoms_of a.positions)) (Err (TooMany (atoms_of a.positions)))
+    (cond (every is_mark marks) (links_asked (atoms_of a.positions) l) (Err Range)))
+    (Err Lengths)
 
 -- "close up positions, velocities, masses, charges and species together, survivors in their old order"
 unfoldable pub atoms_left : List ℕ → LentAtoms → LentAtoms
@@ -154,15 +154,15 @@ pub record StrikeOutcome : Type 0 where
   pub links : Links
 
 -- "nothing is moved then"
-unfoldable pub strike_after : List ℕ → State → LentAtoms → Links → Done → StrikeOutcome
-strike_after marks s a l (Refused r) = record { shown = seen_done (Refused r); left = none_left; state = s; atoms = a; links = l }
-strike_after marks s a l Answered = record { shown = seen_done Answered; left = left_of (new_number marks (length marks)) marks l; state = unlisted_of s; atoms = atoms_left marks a; links = links_left marks l }
+unfoldable pub strike_after : List ℕ → State → LentAtoms → Links → Result (Unit {0}) Refusal → StrikeOutcome
+strike_after marks s a l (Err r) = record { shown = seen (Err r); left = none_left; state = s; atoms = a; links = l }
+strike_after marks s a l (Ok tt) = record { shown = seen (Ok tt); left = left_of (new_number marks (length marks)) marks l; state = unlisted_of s; atoms = atoms_left marks a; links = links_left marks l }
 
 unfoldable pub strike_of : List ℕ → State → LentAtoms → Links → StrikeOutcome
 strike_of marks s a l = strike_after marks s a l (strike_asked marks a l)
 
 abbrev pub StrikeSays : List ℕ → State → LentAtoms → Links → Struck → LentAtoms → Links → Type 0
-StrikeSays marks s a l r a' l' = record { shown = seen_done r.done; left = r.left; state = r.state; atoms = a'; links = l' } ≡ strike_of marks s a l
+StrikeSays marks s a l r a' l' = record { shown = seen r.done; left = r.left; state = r.state; atoms = a'; links = l' } ≡ strike_of marks s a l
 
 -- ---- put
 
@@ -171,13 +171,13 @@ unfoldable pub atom_in_range : NewAtom → Bool
 atom_in_range a = vec_within entry_limit a.position && vec_within entry_limit a.velocity && mass a.mass && charge a.charge
 
 -- "1 when the lent room is full, 2 past 16,384 atoms, 3 for a number out of range"
-unfoldable pub put_asked : ℕ → NewAtom → LentAtoms → Done
+unfoldable pub put_asked : ℕ → NewAtom → LentAtoms → Result (Unit {0}) Refusal
 put_asked count new a =
     cond (atoms_fit (length a.positions) (length a.velocities) (length a.masses) (length a.charges) (length a.species))
-    (cond (leb (atoms_of a.positions) count) (Refused Lengths)
-    (cond (ltb most_atoms (count + 1)) (Refused (TooMany (count + 1)))
-    (cond (atom_in_range new) Answered (Refused Range))))
-    (Refused Lengths)
+    (cond (leb (atoms_of a.positions) count) (Err Lengths)
+    (cond (ltb most_atoms (count + 1)) (Err (TooMany (count + 1)))
+    (cond (atom_in_range new) (Ok tt) (Err Range))))
+    (Err Lengths)
 
 -- "puts one atom, with all its numbers, after the last one"
 unfoldable pub atoms_with : ℕ → NewAtom → LentAtoms → LentAtoms
@@ -197,12 +197,12 @@ pub record PutOutcome : Type 0 where
   pub atoms : LentAtoms
 
 -- "nothing is stored then"
-unfoldable pub put_after : ℕ → NewAtom → State → LentAtoms → Done → PutOutcome
-put_after count new s a (Refused r) = record { shown = seen_done (Refused r); count = count; state = s; atoms = a }
-put_after count new s a Answered = record { shown = seen_done Answered; count = count + 1; state = unlisted_of s; atoms = atoms_with count new a }
+unfoldable pub put_after : ℕ → NewAtom → State → LentAtoms → Result (Unit {0}) Refusal → PutOutcome
+put_after count new s a (Err r) = record { shown = seen (Err r); count = count; state = s; atoms = a }
+put_after count new s a (Ok tt) = record { shown = seen (Ok tt); count = count + 1; state = unlisted_of s; atoms = atoms_with count new a }
 
 unfoldable pub put_of : ℕ → NewAtom → State → LentAtoms → PutOutcome
 put_of count new s a = put_after count new s a (put_asked count new a)
 
 abbrev pub PutSays : ℕ → NewAtom → State → LentAtoms → Entered → LentAtoms → Type 0
-PutSays count new s a r a' = record { shown = seen_done r.done; count = r.count; state = r.state; atoms = a' } ≡ put_of count new s a
+PutSays count new s a r a' = record { shown = seen r.done; count = r.count; state = r.state; atoms = a' } ≡ put_of count new s a

@@ -1,5 +1,6 @@
 -- THEOREMS (02, No. 11): "Every survivor keeps all its numbers, every surviving bond its own rest length and strength, and every surviving angle its own k and rest
 -- cosine." Of everything that an answered call leaves; proofs/Kept.antt, Pulls.antt and Ordered.antt prove them. Definitions only.
+use Rattle.std.specs.Prelude.{Ok}
 use Rattle.std.specs.Prelude.{ℕ, ◌+◌, ◌*◌, ◌/◌, ◌≤◌, ◌<◌, ◌≡◌, Bool, true, List, Float, length, get_or, take, eqb}
 use Rattle.std.specs.Float.{nan}
 use Rattle.lists.specs.Lists.{up_to, how_many, every, rows}
@@ -15,7 +16,6 @@ use Rattle.potentials_angle.specs.declared.Corner.{Corner}
 use Rattle.potentials_angle.specs.Terms.{angle_bend}
 use Rattle.potentials.specs.Terms.{lj_pair, coulomb_pair, bond_pair}
 use Rattle.strike.specs.declared.NewAtom.{NewAtom}
-use Rattle.answer.specs.declared.Done.TheVariants.{Answered}
 use Rattle.strike.specs.Closed.{survives, new_number, row_survives, link_survives}
 use Rattle.strike.specs.Calls.{LentAtoms, Links, strike_asked, atoms_left, links_left, names_left, names_many, beside_many, put_asked, atoms_with}
 
@@ -57,7 +57,7 @@ pub record LinksKept (marks : List ℕ) (l after : Links) : Type 0 where
 
 -- after an answered strike
 abbrev pub StrikeKeeps : List ℕ → LentAtoms → Links → Type 0
-StrikeKeeps marks a l = strike_asked marks a l ≡ Answered → AtomsKept marks a (atoms_left marks a) × LinksKept marks l (links_left marks l)
+StrikeKeeps marks a l = strike_asked marks a l ≡ Ok tt → AtomsKept marks a (atoms_left marks a) × LinksKept marks l (links_left marks l)
 
 -- "every surviving bond its own rest length and strength": a bond or angle and its row beside it come to stand in rows of the same number
 abbrev pub RowsGoWith : (marks : List ℕ) (w : ℕ) (names : List ℕ) → Type 0
@@ -81,7 +81,7 @@ pub record PullsStay (marks : List ℕ) (a : LentAtoms) (l : Links) : Type 0 whe
   pub angle : (image : Vec3 → Image) (t : Angle) (r : ℕ) (c : Corner) → r < length l.angles / 3 → row_survives marks 3 l.angles r ≡ true → survives marks c.first ≡ true → survives marks c.apex ≡ true → survives marks c.last ≡ true → angle_bend image t (take (2 * beside_many marks 3 l.angles 2 l.per_angle) (links_left marks l).per_angle) (atoms_left marks a).positions (how_many (row_survives marks 3 l.angles) (up_to r)) (record { first = new_number marks c.first; apex = new_number marks c.apex; last = new_number marks c.last }) ≡ angle_bend image t l.per_angle a.positions r c
 
 abbrev pub StrikePulls : List ℕ → LentAtoms → Links → Type 0
-StrikePulls marks a l = strike_asked marks a l ≡ Answered → PullsStay marks a l
+StrikePulls marks a l = strike_asked marks a l ≡ Ok tt → PullsStay marks a l
 
 -- ---- without a mark nothing is struck: every atom keeps its number
 abbrev pub NoneStruck : List ℕ → Type 0
@@ -101,7 +101,7 @@ pub record Unmoved (marks : List ℕ) (a : LentAtoms) (l : Links) : Type 0 where
   pub per_angle : (e : ℕ) → get_or (links_left marks l).per_angle e nan ≡ get_or l.per_angle e nan
 
 abbrev pub NothingMoves : List ℕ → LentAtoms → Links → Type 0
-NothingMoves marks a l = strike_asked marks a l ≡ Answered → every (eqb 0) marks ≡ true → Unmoved marks a l
+NothingMoves marks a l = strike_asked marks a l ≡ Ok tt → every (eqb 0) marks ≡ true → Unmoved marks a l
 
 -- ---- an atom that is put: it stands after the last one, and every other number is as it was
 pub record PutKeeps (count : ℕ) (new : NewAtom) (a : LentAtoms) : Type 0 where
@@ -113,4 +113,4 @@ pub record PutKeeps (count : ℕ) (new : NewAtom) (a : LentAtoms) : Type 0 where
   pub others : (i : ℕ) → (i ≡ count → ⊥) → (position_at (atoms_with count new a).positions i ≡ position_at a.positions i) × (position_at (atoms_with count new a).velocities i ≡ position_at a.velocities i) × (get_or (atoms_with count new a).masses i nan ≡ get_or a.masses i nan) × (get_or (atoms_with count new a).charges i nan ≡ get_or a.charges i nan) × (get_or (atoms_with count new a).species i 0 ≡ get_or a.species i 0)
 
 abbrev pub PutPuts : ℕ → NewAtom → LentAtoms → Type 0
-PutPuts count new a = put_asked count new a ≡ Answered → PutKeeps count new a
+PutPuts count new a = put_asked count new a ≡ Ok tt → PutKeeps count new a

@@ -4,7 +4,7 @@ ghost use Rattle.lists.specs.Lists.{every};
 ghost use Rattle.strike.specs.Calls.{atoms, links, atoms_fit, links_fit, is_mark, links_asked, strike_asked, atom_in_range, put_asked};
 
 use crate::NewAtom;
-use answer::{Done, Refusal};
+use answer::Refusal;
 use cell::ranged;
 
 // Refusal 1 of the atoms' tables; the arguments are lengths.
@@ -35,12 +35,10 @@ fn links_fit(bonds: usize, angles: usize, per_angle: usize, exclusions: usize) -
 fn are_marks(marks: &[u32]) -> bool
     ensures { result ≡ every is_mark marks.now }
 {
-    let mut i = 0;
-    while i < marks.len() {
-        if 1 < marks[i] {
+    for mark in marks {
+        if 1 < *mark {
             return false;
         }
-        i += 1;
     }
     true
 }
@@ -54,16 +52,16 @@ fn names(
     angles: &[u32],
     per_angle: &[f64],
     exclusions: &[u32],
-) -> Done
+) -> Result<(), Refusal>
     ensures { result ≡ links_asked n (links bonds.now lengths.now ks.now angles.now per_angle.now exclusions.now) }
 {
     let bond = ranges::rows::first_absent(bonds, n);
     if bond < bonds.len() / 2 {
-        return Done::Refused(Refusal::NotThere { row: bond });
+        return Err(Refusal::NotThere { row: bond });
     }
     let angle = potentials_angle::rows::first_missing(angles, n);
     if angle < angles.len() / 3 {
-        return Done::Refused(Refusal::NotThere { row: angle });
+        return Err(Refusal::NotThere { row: angle });
     }
     neighbor::asked::asked_table(exclusions)
 }
@@ -82,7 +80,7 @@ pub(crate) fn strike(
     angles: &[u32],
     per_angle: &[f64],
     exclusions: &[u32],
-) -> Done
+) -> Result<(), Refusal>
     ensures { result ≡ strike_asked marks.now (atoms positions.now velocities.now masses.now charges.now species.now) (links bonds.now lengths.now ks.now angles.now per_angle.now exclusions.now) }
 {
     let n = positions.len() / 3;
@@ -96,13 +94,13 @@ pub(crate) fn strike(
         )
         & links_fit(bonds.len(), angles.len(), per_angle.len(), exclusions.len());
     if !fit {
-        return Done::Refused(Refusal::Lengths);
+        return Err(Refusal::Lengths);
     }
     if 16384 < n {
-        return Done::Refused(Refusal::TooMany { atoms: n });
+        return Err(Refusal::TooMany { atoms: n });
     }
     if !are_marks(marks) {
-        return Done::Refused(Refusal::Range);
+        return Err(Refusal::Range);
     }
     names(n, bonds, lengths, ks, angles, per_angle, exclusions)
 }
@@ -127,7 +125,7 @@ pub(crate) fn put(
     masses: &[f64],
     charges: &[f64],
     species: &[u32],
-) -> Done
+) -> Result<(), Refusal>
     ensures { result ≡ put_asked count new (atoms positions.now velocities.now masses.now charges.now species.now) }
 {
     let at = count as usize;
@@ -138,16 +136,16 @@ pub(crate) fn put(
         charges.len(),
         species.len(),
     ) {
-        return Done::Refused(Refusal::Lengths);
+        return Err(Refusal::Lengths);
     }
     if positions.len() / 3 <= at {
-        return Done::Refused(Refusal::Lengths);
+        return Err(Refusal::Lengths);
     }
     if 16384 < at + 1 {
-        return Done::Refused(Refusal::TooMany { atoms: at + 1 });
+        return Err(Refusal::TooMany { atoms: at + 1 });
     }
     if !atom_in_range(new) {
-        return Done::Refused(Refusal::Range);
+        return Err(Refusal::Range);
     }
-    Done::Answered
+    Ok(())
 }

@@ -33,12 +33,10 @@ fn row_survives(names: &[u32], width: usize, k: usize, marks: &[u32]) -> bool
     ensures { result ≡ row_survives marks.now width names.now k }
 {
     let from = width * k;
-    let mut c = 0;
-    while c < width {
+    for c in 0..width {
         if !survives(marks, wide(names[from + c])) {
             return false;
         }
-        c += 1;
     }
     true
 }
@@ -64,10 +62,8 @@ fn carry(xs: &mut [f64], width: usize, to: usize, from: usize, stays: bool) -> u
     }
     let a = width * to;
     let b = width * from;
-    let mut c = 0;
-    while c < width {
+    for c in 0..width {
         xs[a + c] = xs[b + c];
-        c += 1;
     }
     to + 1
 }
@@ -101,11 +97,9 @@ fn carry_names(
     }
     let a = width * to;
     let b = width * from;
-    let mut c = 0;
-    while c < width {
+    for c in 0..width {
         let i = wide(names[b + c]);
         names[a + c] = fresh[i];
-        c += 1;
     }
     to + 1
 }
@@ -116,11 +110,9 @@ pub(crate) fn number(marks: &[u32], fresh: &mut [u32])
     ensures { Numbered marks.now fresh.new }
 {
     let mut to: u32 = 0;
-    let mut k: usize = 0;
-    while k < marks.len() {
+    for k in 0..marks.len() {
         fresh[k] = to;
         to += one(survives(marks, k));
-        k += 1;
     }
 }
 
@@ -130,11 +122,9 @@ pub(crate) fn close_atoms(xs: &mut [f64], width: usize, marks: &[u32]) -> usize
     ensures { Closed (at xs.old) width (survives marks.now) (length marks.now) xs.old result xs.new }
 {
     let mut to = 0;
-    let mut k = 0;
-    while k < marks.len() {
+    for k in 0..marks.len() {
         let stays = survives(marks, k);
         to = carry(xs, width, to, k, stays);
-        k += 1;
     }
     to
 }
@@ -145,11 +135,9 @@ pub(crate) fn close_whole(xs: &mut [u32], marks: &[u32]) -> usize
     ensures { Closed (λ e. get_or xs.old e 0) 1 (survives marks.now) (length marks.now) xs.old result xs.new }
 {
     let mut to = 0;
-    let mut k = 0;
-    while k < marks.len() {
+    for k in 0..marks.len() {
         let stays = survives(marks, k);
         to = carry_one(xs, to, k, stays);
-        k += 1;
     }
     to
 }
@@ -168,11 +156,9 @@ pub(crate) fn close_beside(
     ensures { Closed (at xs.old) width (link_survives marks.now per links names.now) rows xs.old result xs.new }
 {
     let mut to = 0;
-    let mut k = 0;
-    while k < rows {
+    for k in 0..rows {
         let stays = link_survives(names, per, links, k, marks);
         to = carry(xs, width, to, k, stays);
-        k += 1;
     }
     to
 }
@@ -189,10 +175,8 @@ pub(crate) fn close_names(
     ensures { Closed (λ e. new_number marks.now (get_or names.old e 0)) width (row_survives marks.now width names.old) rows names.old result names.new }
 {
     let mut to = 0;
-    let mut k = 0;
-    while k < rows {
+    for k in 0..rows {
         to = carry_names(names, width, to, k, marks, fresh);
-        k += 1;
     }
     to
 }

@@ -3,7 +3,7 @@
 // means.
 #![tactic(auto)]
 
-use answer::{Done, Refusal};
+use answer::Refusal;
 use cell::Vec3;
 use neighbor::State;
 
@@ -32,7 +32,7 @@ pub struct Left {
 // Struck, or why not; the counts, zeros where refused; and the list's state, which comes back in every case.
 #[derive(Drop)]
 pub struct Struck {
-    pub done: Done,
+    pub done: Result<(), Refusal>,
     pub left: Left,
     pub state: State,
 }
@@ -51,7 +51,7 @@ pub struct NewAtom {
 // Put, or why not; how many atoms there are now; and the list's state, which comes back in every case.
 #[derive(Drop)]
 pub struct Entered {
-    pub done: Done,
+    pub done: Result<(), Refusal>,
     pub count: u32,
     pub state: State,
 }
@@ -197,9 +197,9 @@ pub fn strike(
         marks, positions, velocities, masses, charges, species, bonds, lengths, ks, angles,
         per_angle, exclusions,
     );
-    if let Done::Refused(why) = a {
+    if let Err(why) = a {
         return Struck {
-            done: Done::Refused(why),
+            done: Err(why),
             left: Left {
                 atoms: 0,
                 bonds: 0,
@@ -219,7 +219,7 @@ pub fn strike(
         marks, &fresh, n, bonds, lengths, ks, angles, per_angle, exclusions,
     );
     Struck {
-        done: Done::Answered,
+        done: Ok(()),
         left: left,
         state: unlisted(s),
     }
@@ -250,9 +250,9 @@ pub fn put(
     ensures { PutSays count new s (atoms positions.old velocities.old masses.old charges.old species.old) result (atoms positions.new velocities.new masses.new charges.new species.new) }
 {
     let a = asked::put(count, new, positions, velocities, masses, charges, species);
-    if let Done::Refused(why) = a {
+    if let Err(why) = a {
         return Entered {
-            done: Done::Refused(why),
+            done: Err(why),
             count: count,
             state: s,
         };
@@ -266,7 +266,7 @@ pub fn put(
     charges[at] = new.charge;
     species[at] = new.species;
     Entered {
-        done: Done::Answered,
+        done: Ok(()),
         count: count + 1,
         state: unlisted(s),
     }

@@ -1,8 +1,8 @@
 -- What each public call answers, and what it leaves in the lent velocities: one relation a call. Tests in 01's order, 1, 2, 3; a refusal leaves the velocities as they came. Definitions only.
+use Rattle.std.specs.Prelude.{Result}
+use Rattle.answer.specs.declared.Refusal.{Refusal}
 use Rattle.std.specs.Prelude.{◌≡◌, Bool, cond, List, ◌*◌, eqb, Float, length}
-use Rattle.answer.specs.Seen.{Seen, answered, refused, seen_done, seen_number}
-use Rattle.answer.specs.declared.Done.{Done}
-use Rattle.answer.specs.declared.Number.{Number}
+use Rattle.answer.specs.Seen.{Seen, answered, refused, seen}
 use Rattle.virial.specs.declared.Units.{Units}
 use Rattle.virial.specs.Calls.{few_atoms}
 use Rattle.verlet.specs.Ranged.{atoms_in_range, temperature_in_range, berendsen_in_range}
@@ -17,11 +17,11 @@ seen_of vs ms ranged a =
     (refused 2 (length ms)))
     (refused 1 0)
 
-abbrev pub KineticEnergySays : (units : Units) (velocities masses : List Float) → Number → Type 0
-KineticEnergySays units vs ms r = seen_number r ≡ seen_of vs ms (atoms_in_range units vs ms) (kinetic_energy_of units vs ms)
+abbrev pub KineticEnergySays : (units : Units) (velocities masses : List Float) → Result Float Refusal → Type 0
+KineticEnergySays units vs ms r = seen r ≡ seen_of vs ms (atoms_in_range units vs ms) (kinetic_energy_of units vs ms)
 
-abbrev pub TemperatureSays : (units : Units) (dof : Float) (velocities masses : List Float) → Number → Type 0
-TemperatureSays units dof vs ms r = seen_number r ≡ seen_of vs ms (temperature_in_range units dof vs ms) (temperature_of units dof vs ms)
+abbrev pub TemperatureSays : (units : Units) (dof : Float) (velocities masses : List Float) → Result Float Refusal → Type 0
+TemperatureSays units dof vs ms r = seen r ≡ seen_of vs ms (temperature_in_range units dof vs ms) (temperature_of units dof vs ms)
 
 unfoldable pub berendsen_outcome : Units → (dt target tau : Float) (ms vs : List Float) → Seen (Unit {0}) × List Float
 berendsen_outcome units dt target tau ms vs =
@@ -33,5 +33,5 @@ berendsen_outcome units dt target tau ms vs =
     (refused 2 (length ms), vs))
     (refused 1 0, vs)
 
-abbrev pub BerendsenSays : (units : Units) (dt target tau : Float) (masses velocities : List Float) → Done → (after : List Float) → Type 0
-BerendsenSays units dt target tau ms vs r after = (seen_done r, after) ≡ berendsen_outcome units dt target tau ms vs
+abbrev pub BerendsenSays : (units : Units) (dt target tau : Float) (masses velocities : List Float) → Result (Unit {0}) Refusal → (after : List Float) → Type 0
+BerendsenSays units dt target tau ms vs r after = (seen r, after) ≡ berendsen_outcome units dt target tau ms vs

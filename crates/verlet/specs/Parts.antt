@@ -1,12 +1,12 @@
 -- What the kernels of a step do: the source's loops where the lists fit each other, else nothing. A call that tested its arguments has the first. Definitions only.
+use Rattle.std.specs.Prelude.{None, Option, Some}
+use Rattle.verlet.specs.declared.Thermostat.{Thermostat}
 use Rattle.std.specs.Prelude.{Bool, false, cond, ◌&&◌, List, ℕ, ◌*◌, eqb, Float, length}
 use Rattle.lists.specs.Atoms.{atoms_of}
 pub use Rattle.cell.specs.Ranged.{coordinate}
 use Rattle.lists.specs.Lists.{every}
 use Rattle.virial.specs.declared.Units.{Units}
 use Rattle.virial.specs.Calls.{few_atoms}
-use Rattle.verlet.specs.declared.Thermostat.{Thermostat}
-use Rattle.verlet.specs.declared.Thermostat.TheVariants.{Absent, Present}
 use Rattle.verlet.specs.Verlet.{berendsen_of, kicked_of, drifted_of, moved_of}
 
 -- Berendsen on at most 16,384 atoms
@@ -14,9 +14,9 @@ unfoldable pub rescaled_by : Units → (dt target tau : Float) (ms vs : List Flo
 rescaled_by units dt target tau ms vs = cond (few_atoms (atoms_of vs)) (berendsen_of units dt target tau ms vs) vs
 
 -- `verlet_step`, lines 196 to 198
-unfoldable pub thermostat_by : Thermostat → Units → (dt : Float) (ms vs : List Float) → List Float
-thermostat_by Absent units dt ms vs = vs
-thermostat_by (Present target tau) units dt ms vs = rescaled_by units dt target tau ms vs
+unfoldable pub thermostat_by : Option Thermostat → Units → (dt : Float) (ms vs : List Float) → List Float
+thermostat_by None units dt ms vs = vs
+thermostat_by (Some t) units dt ms vs = rescaled_by units dt t.target_k t.tau_fs ms vs
 
 -- three floats an atom
 unfoldable pub three_each : (floats masses : ℕ) → Bool

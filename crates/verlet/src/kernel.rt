@@ -35,11 +35,9 @@ pub fn kinetic_energy(units: Units, vs: &[f64], ms: &[f64]) -> f64
     let accel = units.force_to_accel;
     let n = virial::ranged::shorter(vs.len() / 3, ms.len());
     let mut ke = 0.0;
-    let mut i = 0;
-    while i < n {
+    for i in 0..n {
         let v = velocity(vs, i);
         ke = ke + kinetic(accel, ms[i], v);
-        i += 1;
     }
     ke
 }
@@ -82,10 +80,8 @@ fn lambda(dt: f64, target: f64, tau: f64, t: f64) -> f64
 fn scale_all(vs: &mut [f64], s: f64)
     ensures { vs.new ≡ scaled_by s vs.old }
 {
-    let mut k = 0;
-    while k < vs.len() {
+    for k in 0..vs.len() {
         vs[k] = vs[k] * s;
-        k += 1;
     }
 }
 
@@ -109,12 +105,12 @@ pub fn rescale(units: Units, dt: f64, target: f64, tau: f64, ms: &[f64], vs: &mu
 }
 
 // The end of a step.
-pub fn thermostat(t: Thermostat, units: Units, dt: f64, ms: &[f64], vs: &mut [f64])
+pub fn thermostat(t: Option<Thermostat>, units: Units, dt: f64, ms: &[f64], vs: &mut [f64])
     ensures { vs.new ≡ thermostat_by t units dt ms.now vs.old }
 {
     match t {
-        Thermostat::Absent => {}
-        Thermostat::Present { target_k, tau_fs } => {
+        None => {}
+        Some(Thermostat { target_k, tau_fs }) => {
             rescale(units, dt, target_k, tau_fs, ms, vs);
         }
     }

@@ -4,50 +4,55 @@
 
 ghost use Rattle.verlet.specs.Calls.{KineticEnergySays, TemperatureSays, BerendsenSays};
 
-use answer::{Done, Number, Refusal};
+use answer::Refusal;
 use virial::Units;
 
 pub mod kernel;
 pub mod moves;
 pub mod ranged;
 
-// The Rust's `Option<Berendsen>`.
+// The Rust's `Berendsen`: the temperature aimed at, and the time in which it is neared.
 #[derive(Clone, Copy)]
-pub enum Thermostat {
-    Absent,
-    Present { target_k: f64, tau_fs: f64 },
+pub struct Thermostat {
+    pub target_k: f64,
+    pub tau_fs: f64,
 }
 
-pub fn kinetic_energy(units: Units, velocities: &[f64], masses: &[f64]) -> Number
+pub fn kinetic_energy(units: Units, velocities: &[f64], masses: &[f64]) -> Result<f64, Refusal>
     ensures { KineticEnergySays units velocities.now masses.now result }
 {
     let atoms = masses.len();
     if velocities.len() != 3 * atoms {
-        return Number::Refused(Refusal::Lengths);
+        return Err(Refusal::Lengths);
     }
     if ranged::MOST < atoms {
-        return Number::Refused(Refusal::TooMany { atoms });
+        return Err(Refusal::TooMany { atoms });
     }
     if !ranged::atoms_in_range(units, velocities, masses) {
-        return Number::Refused(Refusal::Range);
+        return Err(Refusal::Range);
     }
-    Number::Answered(kernel::kinetic_energy(units, velocities, masses))
+    Ok(kernel::kinetic_energy(units, velocities, masses))
 }
 
-pub fn temperature(units: Units, dof: f64, velocities: &[f64], masses: &[f64]) -> Number
+pub fn temperature(
+    units: Units,
+    dof: f64,
+    velocities: &[f64],
+    masses: &[f64],
+) -> Result<f64, Refusal>
     ensures { TemperatureSays units dof velocities.now masses.now result }
 {
     let atoms = masses.len();
     if velocities.len() != 3 * atoms {
-        return Number::Refused(Refusal::Lengths);
+        return Err(Refusal::Lengths);
     }
     if ranged::MOST < atoms {
-        return Number::Refused(Refusal::TooMany { atoms });
+        return Err(Refusal::TooMany { atoms });
     }
     if !ranged::temperature_in_range(units, dof, velocities, masses) {
-        return Number::Refused(Refusal::Range);
+        return Err(Refusal::Range);
     }
-    Number::Answered(kernel::temperature(units, dof, velocities, masses))
+    Ok(kernel::temperature(units, dof, velocities, masses))
 }
 
 // The Rust's `apply_berendsen`.
@@ -58,19 +63,19 @@ pub fn berendsen(
     tau_fs: f64,
     masses: &[f64],
     velocities: &mut [f64],
-) -> Done
+) -> Result<(), Refusal>
     ensures { BerendsenSays units dt target_k tau_fs masses.now velocities.old result velocities.new }
 {
     let atoms = masses.len();
     if velocities.len() != 3 * atoms {
-        return Done::Refused(Refusal::Lengths);
+        return Err(Refusal::Lengths);
     }
     if ranged::MOST < atoms {
-        return Done::Refused(Refusal::TooMany { atoms });
+        return Err(Refusal::TooMany { atoms });
     }
     if !ranged::berendsen_in_range(units, dt, target_k, tau_fs, masses, velocities) {
-        return Done::Refused(Refusal::Range);
+        return Err(Refusal::Range);
     }
     kernel::rescale(units, dt, target_k, tau_fs, masses, velocities);
-    Done::Answered
+    Ok(())
 }

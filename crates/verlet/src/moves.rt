@@ -40,10 +40,8 @@ fn kick_all(units: Units, dt: f64, fs: &[f64], ms: &[f64], vs: &mut [f64])
 {
     let accel = units.force_to_accel;
     let h = 0.5 * dt;
-    let mut k = 0;
-    while k < vs.len() {
+    for k in 0..vs.len() {
         vs[k] = kick_one(accel, h, fs[k], ms[k / 3], vs[k]);
-        k += 1;
     }
 }
 
@@ -51,10 +49,8 @@ fn drift_all(dt: f64, vs: &[f64], xs: &mut [f64])
     requires { length xs.old ≡ length vs.now }
     ensures { xs.new ≡ drifted_of dt vs.now xs.old }
 {
-    let mut k = 0;
-    while k < xs.len() {
+    for k in 0..xs.len() {
         xs[k] = xs[k] + vs[k] * dt;
-        k += 1;
     }
 }
 
@@ -98,13 +94,11 @@ fn all_drift(units: Units, dt: f64, fs: &[f64], ms: &[f64], xs: &[f64], vs: &[f6
     requires { (length vs.now ≡ 3 * length ms.now) × (length fs.now ≡ 3 * length ms.now) × (length xs.now ≡ 3 * length ms.now) }
     ensures { result ≡ every coordinate (drifted_of dt (kicked_of units dt fs.now ms.now vs.now) xs.now) }
 {
-    let mut k = 0;
-    while k < xs.len() {
+    for k in 0..xs.len() {
         let x = drifted_at(units, dt, fs, ms, xs, vs, k);
         if !ranges::is_within(1048576.0, x) {
             return false;
         }
-        k += 1;
     }
     true
 }

@@ -21,12 +21,12 @@ fn thermal(target: f64, tau: f64) -> bool
     ranges::is_between(0.0, 1048576.0, target) & ranges::is_between(0.0009765625, 1048576.0, tau)
 }
 
-pub fn thermostat_in_range(t: Thermostat) -> bool
+pub fn thermostat_in_range(t: Option<Thermostat>) -> bool
     ensures { result ≡ thermostat_in_range t }
 {
     match t {
-        Thermostat::Absent => true,
-        Thermostat::Present { target_k, tau_fs } => thermal(target_k, tau_fs),
+        None => true,
+        Some(Thermostat { target_k, tau_fs }) => thermal(target_k, tau_fs),
     }
 }
 

@@ -5,7 +5,7 @@
 ghost use Rattle.std.specs.Prelude.{◌≡◌};
 ghost use Rattle.verlet_kick.specs.Kick.{second_kick, second_kick_after};
 
-use answer::Done;
+use answer::Refusal;
 use verlet::moves;
 use virial::Units;
 
@@ -18,7 +18,7 @@ pub struct Kick {
 
 // `energy` is the evaluation's; where that refused (7, 8) nothing is kicked, and the old potential stays.
 pub fn second(
-    done: Done,
+    done: Result<(), Refusal>,
     energy: f64,
     potential: f64,
     units: Units,
@@ -29,7 +29,7 @@ pub fn second(
 ) -> Kick
     ensures { second_kick result velocities.new ≡ second_kick_after potential energy units dt forces.now masses.now velocities.old done }
 {
-    if let Done::Refused(_) = done {
+    if let Err(_) = done {
         return Kick {
             stopped: true,
             potential: potential,

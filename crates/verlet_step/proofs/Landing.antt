@@ -1,4 +1,6 @@
 -- A step by its ways: refused, stopped, landed; and that after the tests the kernel's evaluation is the contract's. Assumes nothing.
+use Rattle.std.specs.Prelude.{Err, Ok, Option, Result}
+use Rattle.verlet.specs.declared.Thermostat.{Thermostat}
 use Prim.Native.Nat.{ℕ, ◌≤◌}
 use native.Mathlib.Omega.{arith}
 use mathlib.Core.Path.{◌≡◌, refl, sym, ap, ◌∙◌}
@@ -6,16 +8,13 @@ use mathlib.Core.Bool.{Bool, true, false}
 use mathlib.Core.List.{List}
 use lib.Ieee.{Float}
 use lib.ListN.{length}
-use Rattle.answer.specs.declared.Done.{Done}
-use Rattle.answer.specs.declared.Done.TheVariants.{Answered, Refused}
 use Rattle.answer.specs.declared.Refusal.{Refusal}
 use Rattle.answer.specs.declared.Refusal.TheVariants.{Drifted}
-use Rattle.answer.specs.Seen.{Seen, answered, refused, seen_done}
+use Rattle.answer.specs.Seen.{Seen, answered, refused, seen}
 use Rattle.potentials_pair.specs.declared.Lj.{Lj}
 use Rattle.potentials_pair.specs.declared.Mixed.{Mixed}
 use Rattle.potentials_pair.specs.Species.{Tables, rising}
 use Rattle.verlet_kick.specs.Kick.{second_kick_after}
-use Rattle.verlet.specs.declared.Thermostat.{Thermostat}
 use Rattle.verlet.specs.Parts.{moved_by, drifts}
 use Rattle.neighbor.specs.declared.Question.TheVariants.{Outdated}
 use Rattle.neighbor.specs.Update as Update
@@ -48,24 +47,24 @@ module _ (m : Motion) (e : Evaluated) (pairs : List ℕ) (references : List Floa
   abbrev evaluation : Evaluation.Outcome
   evaluation = Evaluation.shown e pairs references starts items forces
 
-  abbrev seen : Kicked → Outcome
-  seen k = shown k.answer m.job.given.positions k.velocities pairs references starts items forces
+  abbrev kicked_seen : Kicked → Outcome
+  kicked_seen k = shown k.answer m.job.given.positions k.velocities pairs references starts items forces
 
-  landed_after_lem : (d : Done) → ((r : Refusal) → d ≡ Refused r → forces ≡ m.job.forces)
-      → seen (kicked_after m.potential (units_of m) m.dt forces m.masses m.velocities e d) ≡ landed_after m (seen_done d) evaluation
+  landed_after_lem : (d : Result (Unit {0}) Refusal) → ((r : Refusal) → d ≡ Err r → forces ≡ m.job.forces)
+      → kicked_seen (kicked_after m.potential (units_of m) m.dt forces m.masses m.velocities e d) ≡ landed_after m (seen d) evaluation
   unfolding kicked_after second_kick_after landed_after
-  landed_after_lem Answered h = refl
-  landed_after_lem (Refused r) h = rw (h r refl)
+  landed_after_lem (Ok tt) h = refl
+  landed_after_lem (Err r) h = rw (h r refl)
 
   pub landed_by_lem : evaluation ≡ settled_in m.job → {r : Stepped} {vs : List Float}
       → kicked r vs ≡ kicked_after m.potential (units_of m) m.dt forces m.masses m.velocities e e.done
       → shown r m.job.given.positions vs pairs references starts items forces ≡ landed_in m
   unfolding landed_by
   landed_by_lem h k =
-      ap seen k
+      ap kicked_seen k
       ∙ landed_after_lem e.done
       (λ r is. ap (λ (o : Evaluation.Outcome). o.total.forces) h
-      ∙ forces_stay _ _ m.job (sym (ap (λ (o : Evaluation.Outcome). o.list.answer) h) ∙ ap seen_done is))
+      ∙ forces_stay _ _ m.job (sym (ap (λ (o : Evaluation.Outcome). o.list.answer) h) ∙ ap seen is))
       ∙ ap (λ (o : Evaluation.Outcome). landed_after m o.list.answer o) h
 
 -- an answer with everything lent as it came, and an outcome at other velocities
@@ -98,45 +97,45 @@ unfolding advanced_by
 advanced_is m up few = rw (landed_is (moved m) up few)
 
 -- ---- the calls
-module _ (limit : Float) (t : Thermostat) (m : Motion) {d : Done} (is : d ≡ motion_asked limit t m) where
-  pub asked_up : d ≡ Answered → (rising m.job.terms.tables.own_ids ≡ true) × (rising m.job.terms.tables.ids ≡ true)
+module _ (limit : Float) (t : Option Thermostat) (m : Motion) {d : Result (Unit {0}) Refusal} (is : d ≡ motion_asked limit t m) where
+  pub asked_up : d ≡ Ok tt → (rising m.job.terms.tables.own_ids ≡ true) × (rising m.job.terms.tables.ids ≡ true)
   unfolding motion_asked
   asked_up h = asked_rising _ _ m.job.terms m.job.given (length m.job.forces) (sym is ∙ h)
 
-  pub asked_room : d ≡ Answered → length m.job.forces ≤ 49152
+  pub asked_room : d ≡ Ok tt → length m.job.forces ≤ 49152
   unfolding motion_asked
   asked_room h =
       let f = asked_forces _ _ m.job.terms m.job.given (length m.job.forces) (sym is ∙ h) in
       let l = asked_few _ _ m.job.terms m.job.given (length m.job.forces) (sym is ∙ h) in
       omega arith
 
-  refused_by_lem : {why : Refusal} → d ≡ Refused why → {r : Stepped} → r ≡ unmoved_of m.job.given.state m.potential why → (o : Outcome)
+  refused_by_lem : {why : Refusal} → d ≡ Err why → {r : Stepped} → r ≡ unmoved_of m.job.given.state m.potential why → (o : Outcome)
       → as_came m r ≡ unless m (motion_asked limit t m) o
   unfolding unless
   refused_by_lem h q o = rw (← is, h, q)
 
-  cooled_by : d ≡ Answered → {o o' : Outcome} → o ≡ o' → {vs : List Float} → vs ≡ cooled_of t (units_of m) m.dt m.masses o.list.answer o.velocities
+  cooled_by : d ≡ Ok tt → {o o' : Outcome} → o ≡ o' → {vs : List Float} → vs ≡ cooled_of t (units_of m) m.dt m.masses o.list.answer o.velocities
       → at_speeds o vs ≡ unless m (motion_asked limit t m) (cooled t m o')
   unfolding unless
   cooled_by h {o} e q = rw (← is, h) (ap (at_speeds o) q ∙ ap (cooled t m) e)
 
-module _ (t : Thermostat) (m : Motion) {d : Done} where
+module _ (t : Option Thermostat) (m : Motion) {d : Result (Unit {0}) Refusal} where
   module _ (is : d ≡ motion_asked step_limit t m) where
-    pub stepped_refused : {why : Refusal} → d ≡ Refused why → {r : Stepped} → r ≡ unmoved_of m.job.given.state m.potential why → as_came m r ≡ stepped_of t m
+    pub stepped_refused : {why : Refusal} → d ≡ Err why → {r : Stepped} → r ≡ unmoved_of m.job.given.state m.potential why → as_came m r ≡ stepped_of t m
     unfolding stepped_of
     stepped_refused h q = refused_by_lem step_limit t m is h q _
 
-    pub stepped_on : d ≡ Answered → {o : Outcome} → o ≡ advanced_in m → {vs : List Float} → vs ≡ cooled_of t (units_of m) m.dt m.masses o.list.answer o.velocities
+    pub stepped_on : d ≡ Ok tt → {o : Outcome} → o ≡ advanced_in m → {vs : List Float} → vs ≡ cooled_of t (units_of m) m.dt m.masses o.list.answer o.velocities
         → at_speeds o vs ≡ stepped_of t m
     unfolding stepped_of
     stepped_on h e q = cooled_by step_limit t m is h (e ∙ advanced_is m (asked_up step_limit t m is h) (asked_room step_limit t m is h)) q
 
   module _ (is : d ≡ motion_asked finish_limit t m) where
-    pub finished_refused : {why : Refusal} → d ≡ Refused why → {r : Stepped} → r ≡ unmoved_of m.job.given.state m.potential why → as_came m r ≡ finished_of t m
+    pub finished_refused : {why : Refusal} → d ≡ Err why → {r : Stepped} → r ≡ unmoved_of m.job.given.state m.potential why → as_came m r ≡ finished_of t m
     unfolding finished_of
     finished_refused h q = refused_by_lem finish_limit t m is h q _
 
-    pub finished_on : d ≡ Answered → {o : Outcome} → o ≡ landed_in m → {vs : List Float} → vs ≡ cooled_of t (units_of m) m.dt m.masses o.list.answer o.velocities
+    pub finished_on : d ≡ Ok tt → {o : Outcome} → o ≡ landed_in m → {vs : List Float} → vs ≡ cooled_of t (units_of m) m.dt m.masses o.list.answer o.velocities
         → at_speeds o vs ≡ finished_of t m
     unfolding finished_of
     finished_on h e q = cooled_by finish_limit t m is h (e ∙ landed_is m (asked_up finish_limit t m is h) (asked_room finish_limit t m is h)) q

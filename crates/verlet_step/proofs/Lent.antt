@@ -1,4 +1,7 @@
 -- The tests of a motion, one by one; and the old list in other rooms. Assumes nothing.
+use Rattle.std.specs.Prelude.{Ok, Option}
+use Rattle.cell.specs.declared.Lattice.{Lattice}
+use Rattle.verlet.specs.declared.Thermostat.{Thermostat}
 use Prim.Native.Nat.{ℕ, zero, suc, ◌+◌, ◌*◌, ◌/◌, ◌%◌, ◌≤◌, ◌<◌}
 use native.Mathlib.Omega.{arith}
 use mathlib.Core.Path.{◌≡◌, refl, sym, ap, ◌∙◌}
@@ -12,14 +15,11 @@ use lib.Seq.{get_or-take}
 use borrow.Author.Tests.{le-ltb, ne_eqb}
 use Rattle.cell.specs.Vec.{position_at}
 use Rattle.lists.specs.Atoms.{atoms_of}
-use Rattle.answer.specs.declared.Done.TheVariants.{Answered}
 use Rattle.answer.specs.declared.Refusal.TheVariants.{Lengths, Range, Order}
 use Rattle.lists.specs.Lists.{numbers, some, rows}
 use Rattle.lists.proofs.Cases.{neither_or, same_or}
 use Rattle.exclusions.specs.Table.{is_table}
 use Rattle.neighbor_listing.specs.Listed.{unlisted}
-use Rattle.verlet.specs.declared.Thermostat.{Thermostat}
-use Rattle.cell.specs.declared.Cell.{Cell}
 use Rattle.cell.specs.Ranged.{cell_in_range}
 use Rattle.neighbor.specs.declared.Question.TheVariants.{Outdated}
 use Rattle.neighbor.specs.declared.State.{State}
@@ -35,14 +35,14 @@ use Rattle.verlet_step.specs.Calls.{Motion, motion_asked}
 use Rattle.verlet_step.specs.Theorems.{Rooms, Carries}
 
 -- ---- tests in turn
-module _ (s : State) (cell : Cell) (xs : List Float) (table pairs refs items : ℕ) where
+module _ (s : State) (cell : Option Lattice) (xs : List Float) (table pairs refs items : ℕ) where
   first_made : lengths_bad (length xs) table refs items ≡ false → ltb 16384 (atoms_of xs) ≡ false → claims_more s.built_in s.pairs (pairs / 2) s.references (refs / 3) ≡ false → ranges_ok s cell xs ≡ true
-      → first_of s cell xs table pairs refs items ≡ Answered
+      → first_of s cell xs table pairs refs items ≡ Ok tt
   unfolding first_of
   first_made a b c d = rw (a, b, c, d)
 
 -- a motion that passed its tests, test by test
-pub record Passed (limit : Float) (t : Thermostat) (m : Motion) : Type 0 where
+pub record Passed (limit : Float) (t : Option Thermostat) (m : Motion) : Type 0 where
   pub fits :
       motion_fits (length m.job.given.positions) (length m.velocities) (length m.masses)
       && terms_fit (tables_fit (length m.job.terms.tables.own_ids) (length m.job.terms.tables.own_params) (length m.job.terms.tables.ids) (length m.job.terms.tables.params)) (length m.job.terms.species) (length m.job.terms.charges) (length m.job.terms.bonds) (length m.job.terms.angles) (length m.job.terms.per_angle) (length m.job.given.positions) (length m.job.forces)
@@ -55,11 +55,11 @@ pub record Passed (limit : Float) (t : Thermostat) (m : Motion) : Type 0 where
       motion_ok limit m.dt t m.masses m.velocities m.job.forces m.potential
       && numbers_ok m.job.terms.lj m.job.terms.coulomb m.job.terms.bond m.job.terms.angle m.job.terms.units m.job.terms.tables.own_params m.job.terms.tables.params m.job.terms.charges m.job.terms.lengths m.job.terms.ks m.job.terms.per_angle
       ≡ true
-  pub kept : kept_asked m.job.given.state (atoms_of m.job.given.positions) m.job.given.pairs m.job.given.references ≡ Answered
-  pub names : names_asked (atoms_of m.job.given.positions) m.job.terms.bonds m.job.terms.angles m.job.given.exclusions m.job.terms.tables.own_ids m.job.terms.tables.ids ≡ Answered
+  pub kept : kept_asked m.job.given.state (atoms_of m.job.given.positions) m.job.given.pairs m.job.given.references ≡ Ok tt
+  pub names : names_asked (atoms_of m.job.given.positions) m.job.terms.bonds m.job.terms.angles m.job.given.exclusions m.job.terms.tables.own_ids m.job.terms.tables.ids ≡ Ok tt
 
-module _ (limit : Float) (t : Thermostat) (m : Motion) where
-  pub asked_told : motion_asked limit t m ≡ Answered → Passed limit t m
+module _ (limit : Float) (t : Option Thermostat) (m : Motion) where
+  pub asked_told : motion_asked limit t m ≡ Ok tt → Passed limit t m
   unfolding motion_asked job_asked in_turn
   asked_told e =
       let a = both_passed _ _ e in
@@ -78,7 +78,7 @@ module _ (limit : Float) (t : Thermostat) (m : Motion) where
         names = d.1;
       }
 
-  pub asked_made : Passed limit t m → motion_asked limit t m ≡ Answered
+  pub asked_made : Passed limit t m → motion_asked limit t m ≡ Ok tt
   unfolding motion_asked job_asked in_turn first_refusal
   asked_made p =
       let f = first_made m.job.given.state m.job.given.cell m.job.given.positions (length m.job.given.exclusions) (length m.job.given.pairs) (length m.job.given.references) (length m.job.given.items) p.lengths p.few p.claims p.ranges in
@@ -92,12 +92,12 @@ lengths_again xs table refs items more others h r i =
     let rows = not (eqb (xs % 3) 0) || not (eqb (table % 2) 0) in
     neither_or (rows || ltb more xs) (ltb others (xs / 3)) (neither_or rows (ltb more xs) (lengths_told xs table refs items h).0 (le-ltb more xs r)) (le-ltb others (xs / 3) i)
 
-table_told : (n : ℕ) (bonds angles table own_ids ids : List ℕ) → names_asked n bonds angles table own_ids ids ≡ Answered → is_table (rows table) ≡ true
+table_told : (n : ℕ) (bonds angles table own_ids ids : List ℕ) → names_asked n bonds angles table own_ids ids ≡ Ok tt → is_table (rows table) ≡ true
 unfolding names_asked table_asked
 table_told n bonds angles table own_ids ids e =
     passed (is_table (rows table)) Order (both_passed _ (order_asked own_ids ids) (both_passed (angles_named n angles) _ (both_passed (bond_rows_asked n bonds) _ e).1).1).0
 
-module _ (limit : Float) (t : Thermostat) (m : Motion) (p : Passed limit t m) where
+module _ (limit : Float) (t : Option Thermostat) (m : Motion) (p : Passed limit t m) where
   pub list_fits : unfit (length m.job.given.positions) (length m.job.given.references) ≡ false
   list_fits = build_fits m.job.given p.lengths p.few
 
@@ -138,11 +138,11 @@ module _ (s : State) (old new : Rooms) (c : Carries s old new)
       let there = still_there (3 * s.references) old.references new.references c.references in
       rw (there (3 * k) nan (omega arith), there (3 * k + 1) nan (omega arith), there (3 * k + 2) nan (omega arith))
 
-  moved_carried : (cell : Cell) (xs : List Float) (k : ℕ) → k < s.references → strayed_of s cell xs new.references k ≡ strayed_of s cell xs old.references k
+  moved_carried : (cell : Option Lattice) (xs : List Float) (k : ℕ) → k < s.references → strayed_of s cell xs new.references k ≡ strayed_of s cell xs old.references k
   unfolding strayed_of
   moved_carried cell xs k h = rw (spot_carried k h)
 
-  needs_carried : (cell : Cell) (xs : List Float) → needs_of s cell xs new.references ≡ needs_of s cell xs old.references
+  needs_carried : (cell : Option Lattice) (xs : List Float) → needs_of s cell xs new.references ≡ needs_of s cell xs old.references
   unfolding needs_of
   needs_carried cell xs =
       ⊎_elim (λ e. rw (some_same (strayed_of s cell xs new.references) (strayed_of s cell xs old.references) 0 (atoms_of xs) (λ k l. moved_carried cell xs k (omega arith))))
@@ -150,7 +150,7 @@ module _ (s : State) (old new : Rooms) (c : Carries s old new)
       (same_or s.references (atoms_of xs))
 
   -- the question has the old answer
-  pub keeps_carried : (cell : Cell) (xs : List Float) → keeps_of Outdated s cell xs new.references ≡ keeps_of Outdated s cell xs old.references
+  pub keeps_carried : (cell : Option Lattice) (xs : List Float) → keeps_of Outdated s cell xs new.references ≡ keeps_of Outdated s cell xs old.references
   unfolding keeps_of outdated_of
   keeps_carried cell xs = rw (needs_carried cell xs)
 

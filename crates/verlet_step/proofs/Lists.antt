@@ -1,15 +1,15 @@
 -- What a step or a finishing call that built the list anew lists, said of the exit memory: demand 3. Assumes nothing.
+use Rattle.std.specs.Prelude.{Err, Ok, Option, Result}
+use Rattle.answer.specs.declared.Refusal.{Refusal}
+use Rattle.verlet.specs.declared.Thermostat.{Thermostat}
 use Prim.Native.Nat.{ℕ}
 use mathlib.Core.Path.{◌≡◌, refl, sym, subst}
 use mathlib.Core.Bool.{cond, false≢true}
 use mathlib.Core.List.{List}
 use lib.Ieee.{Float}
-use Rattle.answer.specs.declared.Done.{Done}
-use Rattle.answer.specs.declared.Done.TheVariants.{Answered, Refused}
 use Rattle.answer.specs.declared.Refusal.TheVariants.{Drifted}
 use Rattle.answer.specs.Seen.{Seen, answered, refused}
 use Rattle.lists.proofs.Cases.{by_test}
-use Rattle.verlet.specs.declared.Thermostat.{Thermostat}
 use Rattle.neighbor.specs.declared.Question.TheVariants.{Outdated}
 use Rattle.neighbor.specs.Update as Update
 use Rattle.neighbor.proofs.Demands.{Says, update_lists}
@@ -44,13 +44,13 @@ unfolding advanced_by
 advanced_lists m =
     by_test (λ b. Lists m (cond b (landed_by settled_of (moved m)) (all_stays m Drifted))) (drifting m) (λ _. landed_lists (moved m)) (λ _ q. absurd (false≢true q))
 
-unless_lists : (m : Motion) (d : Done) (o : Outcome) → Lists m o → Lists m (unless m d o)
+unless_lists : (m : Motion) (d : Result (Unit {0}) Refusal) (o : Outcome) → Lists m o → Lists m (unless m d o)
 unfolding unless
-unless_lists m (Refused r) o h q = absurd (false≢true q)
-unless_lists m Answered o h q = h q
+unless_lists m (Err r) o h q = absurd (false≢true q)
+unless_lists m (Ok tt) o h q = h q
 
 -- DEMAND 3. What the outcome's equation says of a list built anew.
-module _ (t : Thermostat) (m : Motion) (r : Stepped) {vs : List Float} {pairs : List ℕ} {references : List Float} {starts items : List ℕ} {forces : List Float} where
+module _ (t : Option Thermostat) (m : Motion) (r : Stepped) {vs : List Float} {pairs : List ℕ} {references : List Float} {starts items : List ℕ} {forces : List Float} where
   pub stepped_lists : {xs : List Float} → StepSays t m r xs vs pairs references starts items forces → StepLists m r xs pairs
   unfolding stepped_of
   stepped_lists h = subst (Lists m) (sym h) (unless_lists m (motion_asked step_limit t m) (cooled t m (advanced_by settled_of m)) (advanced_lists m))

@@ -1,4 +1,7 @@
 -- The motion after an accepted drift passes the finishing call's tests: its velocities are at most 2^500, and the step tested all else. Assumes nothing.
+use Rattle.std.specs.Prelude.{Option}
+use Rattle.cell.specs.declared.Lattice.{Lattice}
+use Rattle.verlet.specs.declared.Thermostat.{Thermostat}
 use mathlib.Core.Path.{◌≡◌, sym, ◌∙◌}
 use mathlib.Core.Bool.{Bool, true, ◌&&◌}
 use mathlib.Core.List.{List}
@@ -7,10 +10,8 @@ use lib.ListN.{length}
 use Rattle.lists.specs.Lists.{every}
 use Rattle.lists.proofs.Cases.{and_both, both_and}
 use Rattle.ranges.specs.Ranged.{within}
-use Rattle.cell.specs.declared.Cell.{Cell}
 use Rattle.cell.specs.Ranged.{entry_limit, cell_in_range}
 use Rattle.virial.specs.Ranged.{plain, mass, units_in_range}
-use Rattle.verlet.specs.declared.Thermostat.{Thermostat}
 use Rattle.verlet.specs.Ranged.{time_step, thermostat_in_range}
 use Rattle.verlet.specs.Verlet.{kicked_of, moved_of}
 use Rattle.verlet.proofs.Steps.{kicked_length}
@@ -31,7 +32,7 @@ use Rattle.verlet_step.proofs.Source.{by_source}
 use Rattle.verlet_step.proofs.Stopping.{Stopped, places_length}
 
 -- ---- what was asked of the numbers
-module _ (limit dt : Float) (t : Thermostat) (ms vs fs : List Float) (p : Float) where
+module _ (limit dt : Float) (t : Option Thermostat) (ms vs fs : List Float) (p : Float) where
   motion_told : motion_ok limit dt t ms vs fs p ≡ true
       → (time_step dt ≡ true) × (thermostat_in_range t ≡ true) × (every mass ms ≡ true) × (every (within limit) vs ≡ true) × (every plain fs ≡ true) × (plain p ≡ true)
   unfolding motion_ok
@@ -52,7 +53,7 @@ unfolding numbers_ok
 units_told t h =
     second (lj_ok t.lj && coulomb_ok t.coulomb && bond_ok t.bond && angle_ok t.angle) (units_in_range t.units) (rows_in_range t.tables.own_params t.tables.params) (every charge t.charges) (every Limits.coordinate t.lengths) (every Limits.coordinate t.ks) (per_angle_in_range t.per_angle) h
 
-module _ (limit : Float) (t : Thermostat) (m : Motion) (a : Passed limit t m) where
+module _ (limit : Float) (t : Option Thermostat) (m : Motion) (a : Passed limit t m) where
   asked_numbers : (motion_ok limit m.dt t m.masses m.velocities m.job.forces m.potential ≡ true)
       × (numbers_ok m.job.terms.lj m.job.terms.coulomb m.job.terms.bond m.job.terms.angle m.job.terms.units m.job.terms.tables.own_params m.job.terms.tables.params m.job.terms.charges m.job.terms.lengths m.job.terms.ks m.job.terms.per_angle ≡ true)
   asked_numbers = and_both _ _ a.numbers
@@ -64,7 +65,7 @@ module _ (limit : Float) (t : Thermostat) (m : Motion) (a : Passed limit t m) wh
   speeds_asked = asked_motion.3
 
 -- ---- the list's settings, the cell and the positions
-module _ (s : State) (cell : Cell) where
+module _ (s : State) (cell : Option Lattice) where
   pub ranges_told : (xs : List Float) → ranges_ok s cell xs ≡ true → (settings_ok s.cutoff s.skin ≡ true) × (cell_in_range cell ≡ true) × (every (within entry_limit) xs ≡ true)
   unfolding ranges_ok
   ranges_told xs h = let a = and_both _ _ h in let b = and_both _ _ a.0 in (b.0, b.1, a.1)
@@ -73,7 +74,7 @@ module _ (s : State) (cell : Cell) where
   unfolding ranges_ok
   ranges_made xs a b c = rw (a, b, c)
 
-module _ (t : Thermostat) (m : Motion) (is : Stopped t m) where
+module _ (t : Option Thermostat) (m : Motion) (is : Stopped t m) where
   abbrev places : List Float
   places = m.job.given.positions
 

@@ -1,10 +1,11 @@
 -- No second answer and no second memory fits the contract of `step` or of `finish`. Assumes nothing.
+use Rattle.std.specs.Prelude.{Option}
+use Rattle.verlet.specs.declared.Thermostat.{Thermostat}
 use Prim.Native.Nat.{ℕ}
 use mathlib.Core.Path.{◌≡◌, sym, ap, ◌∙◌}
 use mathlib.Core.List.{List}
 use lib.Ieee.{Float}
-use Rattle.answer.proofs.Only.{done_only}
-use Rattle.verlet.specs.declared.Thermostat.{Thermostat}
+use Rattle.answer.proofs.Only.{seen_only}
 use Rattle.verlet_step.specs.declared.Stepped.{Stepped}
 use Rattle.verlet_step.specs.Calls.{Motion, Outcome, shown, StepSays, FinishSays}
 
@@ -12,7 +13,7 @@ module _ {r r' : Stepped} {xs xs' vs vs' : List Float} {pairs pairs' : List ℕ}
     (same : shown r xs vs pairs references starts items forces ≡ shown r' xs' vs' pairs' references' starts' items' forces') where
   answers : r ≡ r'
   answers =
-      let d = done_only r.done r'.done (ap (λ (o : Outcome). o.list.answer) same) in
+      let d = seen_only r.done r'.done (ap (λ (o : Outcome). o.list.answer) same) in
       λ i. record { done = d i; stopped = (same i).stopped; rebuilt = (same i).list.rebuilt; state = (same i).list.state; potential = (same i).potential }
 
   shown_only : (r ≡ r') × (xs ≡ xs') × (vs ≡ vs') × (pairs ≡ pairs') × (references ≡ references') × (starts ≡ starts') × (items ≡ items') × (forces ≡ forces')
@@ -27,7 +28,7 @@ module _ {r r' : Stepped} {xs xs' vs vs' : List Float} {pairs pairs' : List ℕ}
     ap (λ (o : Outcome). o.forces) same,
   )
 
-module _ (t : Thermostat) (m : Motion) (r r' : Stepped) (vs vs' : List Float) (pairs pairs' : List ℕ) (references references' : List Float) (starts starts' items items' : List ℕ)
+module _ (t : Option Thermostat) (m : Motion) (r r' : Stepped) (vs vs' : List Float) (pairs pairs' : List ℕ) (references references' : List Float) (starts starts' items items' : List ℕ)
     (forces forces' : List Float) where
   pub step_only : (xs xs' : List Float) → StepSays t m r xs vs pairs references starts items forces → StepSays t m r' xs' vs' pairs' references' starts' items' forces'
       → (r ≡ r') × (xs ≡ xs') × (vs ≡ vs') × (pairs ≡ pairs') × (references ≡ references') × (starts ≡ starts') × (items ≡ items') × (forces ≡ forces')

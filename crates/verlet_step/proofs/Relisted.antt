@@ -1,4 +1,6 @@
 -- The list after a refused build: what it is left as, and that a build from there is the build from the old state. Assumes nothing.
+use Rattle.std.specs.Prelude.{Ok, Option}
+use Rattle.cell.specs.declared.Lattice.{Lattice}
 use Prim.Native.Nat.{ℕ, ◌*◌, ◌/◌, ◌≤◌, ◌<◌}
 use native.Mathlib.Omega.{arith}
 use mathlib.Core.Path.{◌≡◌, refl, sym, ap, ◌∙◌, subst}
@@ -15,7 +17,6 @@ use Rattle.lists.specs.Atoms.{atoms_of}
 use Rattle.float.specs.Arith.{bits}
 use Rattle.float.specs.Def.{max_of, negative}
 use Rattle.answer.specs.Seen.{Seen, answered, refused}
-use Rattle.answer.specs.declared.Done.TheVariants.{Answered}
 use Rattle.answer.specs.declared.Refusal.TheVariants.{Lengths, Range}
 use Rattle.lists.specs.Exact.{◌∈◌}
 use Rattle.lists.specs.Lists.{first_where, rows, Two}
@@ -23,7 +24,6 @@ use Rattle.lists.proofs.Cases.{by_test}
 use Rattle.lists.proofs.Rows.{length_rows, rows_append, take_rows}
 use Rattle.ranges.specs.Rows.{is_absent, absent_of}
 use Rattle.bins.proofs.Laid.{laid_length}
-use Rattle.cell.specs.declared.Cell.{Cell}
 use Rattle.cell.specs.Ranged.{cell_in_range}
 use Rattle.bins.specs.Listing.{laid_of}
 use Rattle.neighbor_grid.specs.Grid.{plain_of, crowded}
@@ -68,16 +68,16 @@ module _ (s : State) where
   unfolding radius_of emptied_of
   radius_again = rw (skin_again)
 
-  built_again : (cell : Cell) (n count checks : ℕ) (fallback : Bool) → built_of (emptied_of s) cell n count checks fallback ≡ built_of s cell n count checks fallback
+  built_again : (cell : Option Lattice) (n count checks : ℕ) (fallback : Bool) → built_of (emptied_of s) cell n count checks fallback ≡ built_of s cell n count checks fallback
   unfolding built_of emptied_of
   built_again cell n count checks fallback = rw (skin_again)
 
-  needs_again : (cell : Cell) (xs refs : List Float) → 2 ≤ atoms_of xs → needs_of (emptied_of s) cell xs refs ≡ true
+  needs_again : (cell : Option Lattice) (xs refs : List Float) → 2 ≤ atoms_of xs → needs_of (emptied_of s) cell xs refs ≡ true
   unfolding needs_of emptied_of
   needs_again cell xs refs h = rw (ne_eqb 0 (atoms_of xs) (λ e. omega arith))
 
   -- whatever it remembers
-  keeps_again : (cell : Cell) (xs refs : List Float) → 2 ≤ atoms_of xs → keeps_of Outdated (emptied_of s) cell xs refs ≡ false
+  keeps_again : (cell : Option Lattice) (xs refs : List Float) → 2 ≤ atoms_of xs → keeps_of Outdated (emptied_of s) cell xs refs ≡ false
   unfolding keeps_of outdated_of
   keeps_again cell xs refs h =
       rw (needs_again cell xs refs h) (by_test (λ b. not (not b || true) ≡ false) (same_box (emptied_of s).built_in cell) (λ _. refl) (λ _. refl))
@@ -244,12 +244,12 @@ module _ (s : State) (n : ℕ) (old : List ℕ) (found : List (ℕ × ℕ)) (ove
       )
       (by_test (λ b. b && false ≡ false) (eqb s.references n) (λ _. refl) (λ _. refl))
 
-  full_kept : (refs : List Float) → kept_asked s n old refs ≡ Answered → kept_asked s n (laid_of old found) refs ≡ Answered
+  full_kept : (refs : List Float) → kept_asked s n old refs ≡ Ok tt → kept_asked s n (laid_of old found) refs ≡ Ok tt
   unfolding kept_asked
   full_kept refs h = rw (not-false (references_ok s n refs) (pass (not (references_ok s n refs)) Range _ h).0, full_named)
 
 pub overfull_kept : (i : Given) → length i.pairs / 2 < length (found_in i) → i.state.pairs ≤ length i.pairs / 2 → cell_in_range i.state.built_in ≡ true
-    → kept_asked i.state (atoms_of i.positions) i.pairs i.references ≡ Answered
-    → kept_asked i.state (atoms_of i.positions) (laid_of i.pairs (found_in i)) i.references ≡ Answered
+    → kept_asked i.state (atoms_of i.positions) i.pairs i.references ≡ Ok tt
+    → kept_asked i.state (atoms_of i.positions) (laid_of i.pairs (found_in i)) i.references ≡ Ok tt
 overfull_kept i over room inside h =
     full_kept i.state (atoms_of i.positions) i.pairs (found_in i) over room inside (λ p m. ((near_exactly i.cell (radius_of i.state) i.positions i.exclusions).sound p m).0) i.references h

@@ -1,4 +1,6 @@
 -- THEOREM. A call that a 7 or 8 stopped, finished with other rooms, is that call with those rooms from the start. Assumes nothing.
+use Rattle.std.specs.Prelude.{None, Ok, Option}
+use Rattle.verlet.specs.declared.Thermostat.{Thermostat}
 use Prim.Native.Nat.{ℕ, ◌*◌, ◌/◌, ◌≤◌}
 use native.Mathlib.Omega.{arith}
 use mathlib.Core.Path.{◌≡◌, refl, sym, ap, ◌∙◌}
@@ -9,15 +11,12 @@ use lib.Ieee.{Float, le, of_bits}
 use lib.ListN.{length, take}
 use borrow.Author.Tests.{ne_eqb}
 use Rattle.lists.specs.Atoms.{atoms_of}
-use Rattle.answer.specs.declared.Done.TheVariants.{Answered}
-use Rattle.answer.specs.Seen.{answered, refused, seen_done}
+use Rattle.answer.specs.Seen.{answered, refused, seen}
 use Rattle.float.specs.Arith.{bits}
 use Rattle.float.specs.Def.{abs_of, max_of}
 use Rattle.lists.proofs.Cases.{and_both, both_and}
 use Rattle.ranges.specs.Ranged.{within, between}
-use Rattle.cell.specs.declared.Cell.TheVariants.{Absent}
 use Rattle.cell.specs.Ranged.{entry_limit, cell_in_range}
-use Rattle.verlet.specs.declared.Thermostat.{Thermostat}
 use Rattle.neighbor.specs.declared.Question.TheVariants.{Outdated}
 use Rattle.neighbor.specs.declared.State.{State}
 use Rattle.neighbor_asked.specs.Asked.{settings_ok}
@@ -52,28 +51,28 @@ module _ (s : State) where
 
   claims_emptied : (pairs refs : ℕ) → claims_more (emptied_of s).built_in (emptied_of s).pairs pairs (emptied_of s).references refs ≡ false
   unfolding emptied_of cell_in_range
-  claims_emptied pairs refs = claims_made Absent 0 pairs 0 refs (omega arith) (omega arith) refl
+  claims_emptied pairs refs = claims_made None 0 pairs 0 refs (omega arith) (omega arith) refl
 
-  kept_emptied : (n : ℕ) (pairs : List ℕ) (refs : List Float) → 2 ≤ n → kept_asked (emptied_of s) n pairs refs ≡ Answered
+  kept_emptied : (n : ℕ) (pairs : List ℕ) (refs : List Float) → 2 ≤ n → kept_asked (emptied_of s) n pairs refs ≡ Ok tt
   unfolding kept_asked references_ok misnamed emptied_of
   kept_emptied n pairs refs h = rw (ne_eqb 0 n (λ e. omega arith))
 
 -- ---- a motion whose list was refused, in other rooms
 -- finished from the state that is left, it ends as from its own; and its own tests of the list are passed there
-pub record Again (t : Thermostat) (q : Motion) (r : Rooms) : Type 0 where
+pub record Again (t : Option Thermostat) (q : Motion) (r : Rooms) : Type 0 where
   pub same : finished_of t (put_in q r (updated q).state) ≡ cooled t q (landed_by settled_of (put_in q r q.job.given.state))
   pub lengths : lengths_bad (length q.job.given.positions) (length q.job.given.exclusions) (length r.references) (length r.items) ≡ false
   pub claims : claims_more q.job.given.state.built_in q.job.given.state.pairs (length r.pairs / 2) q.job.given.state.references (length r.references / 3) ≡ false
-  pub kept : kept_asked q.job.given.state (atoms_of q.job.given.positions) r.pairs r.references ≡ Answered
+  pub kept : kept_asked q.job.given.state (atoms_of q.job.given.positions) r.pairs r.references ≡ Ok tt
 
-module _ (t : Thermostat) (q : Motion) (base : Passed finish_limit t q) (number place : ℕ) (refusal : (updated q).answer ≡ refused number place) where
+module _ (t : Option Thermostat) (q : Motion) (base : Passed finish_limit t q) (number place : ℕ) (refusal : (updated q).answer ≡ refused number place) where
   leaves : Untouched q.job.given (updated q) ⊎ Overfull q.job.given (updated q)
   leaves = update_leaves q.job.given (list_fits finish_limit t q base) (list_able finish_limit t q base) number place refusal
 
   reason : Stops (updated q).answer
   reason = ⊎_elim (λ (u : Untouched q.job.given (updated q)). inl u.answer) (λ (o : Overfull q.job.given (updated q)). inr (length (found_in q.job.given), o.answer)) leaves
 
-module _ (t : Thermostat) (q : Motion) (r : Rooms) (base : Passed finish_limit t q) (number place : ℕ) (refusal : (updated q).answer ≡ refused number place) where
+module _ (t : Option Thermostat) (q : Motion) (r : Rooms) (base : Passed finish_limit t q) (number place : ℕ) (refusal : (updated q).answer ≡ refused number place) where
   abbrev state : State
   state = q.job.given.state
 
@@ -103,7 +102,7 @@ module _ (t : Thermostat) (q : Motion) (r : Rooms) (base : Passed finish_limit t
     -- the state that an 8 leaves, in rooms that have what `old` had
     module _ (o : Overfull q.job.given (updated q)) (old : Rooms) (c : Carries state old r) (same : old.references ≡ q.job.given.references)
         (claims : claims_more state.built_in state.pairs (length old.pairs / 2) state.references (length old.references / 3) ≡ false)
-        (kept : kept_asked state (atoms_of places) old.pairs old.references ≡ Answered) where
+        (kept : kept_asked state (atoms_of places) old.pairs old.references ≡ Ok tt) where
       asked : keeps_of Outdated state q.job.given.cell places r.references ≡ false
       asked = keeps_carried state old r c claims q.job.given.cell places ∙ ap (keeps_of Outdated state q.job.given.cell places) same ∙ o.asked
 
@@ -126,7 +125,7 @@ module _ (t : Thermostat) (q : Motion) (r : Rooms) (base : Passed finish_limit t
         let fit = claims_told state.built_in state.pairs (length q.job.given.pairs / 2) state.references (length q.job.given.references / 3) base.claims in
         let claims : claims_more state.built_in state.pairs (length (updated q).pairs / 2) state.references (length (updated q).references / 3) ≡ false =
         rw (o.pairs, o.references, laid_length q.job.given.pairs (found_in q.job.given)) base.claims in
-        let kept : kept_asked state (atoms_of places) (updated q).pairs (updated q).references ≡ Answered =
+        let kept : kept_asked state (atoms_of places) (updated q).pairs (updated q).references ≡ (Ok tt) =
         rw (o.pairs, o.references) (overfull_kept q.job.given o.over fit.0 fit.2 base.kept) in
         other_state o (left_in stop) c o.references claims kept
 
@@ -140,7 +139,7 @@ module _ (t : Thermostat) (q : Motion) (r : Rooms) (base : Passed finish_limit t
   -- ---- the finishing call refuses nothing
   module _ (h : Holds q stop r) (references : length places ≤ length r.references) (items : atoms_of places ≤ length r.items) where
     passes : (s : State) → settings_ok s.cutoff s.skin ≡ true → claims_more s.built_in s.pairs (length r.pairs / 2) s.references (length r.references / 3) ≡ false
-        → kept_asked s (atoms_of places) r.pairs r.references ≡ Answered → motion_asked finish_limit t (from s) ≡ Answered
+        → kept_asked s (atoms_of places) r.pairs r.references ≡ Ok tt → motion_asked finish_limit t (from s) ≡ Ok tt
     passes s settings claims kept =
         let u = ranges_told state q.job.given.cell places base.ranges in
         asked_made finish_limit t (from s)
@@ -164,13 +163,13 @@ module _ (t : Thermostat) (q : Motion) (r : Rooms) (base : Passed finish_limit t
     carried u (after c) =
         record { pairs = c.pairs ∙ ap (take (2 * state.pairs)) u.pairs; references = c.references ∙ ap (take (3 * state.references)) u.references }
 
-    from_came : Untouched q.job.given (updated q) → motion_asked finish_limit t (from state) ≡ Answered
+    from_came : Untouched q.job.given (updated q) → motion_asked finish_limit t (from state) ≡ Ok tt
     from_came u =
         let c = carried u h in
         passes state settings (claims_carried state (rooms_of q) r c base.claims) (kept_carried state (rooms_of q) r c base.claims (atoms_of places) ∙ base.kept)
 
     -- the state that an 8 leaves: nothing of the old list is asked for
-    from_emptied : Overfull q.job.given (updated q) → motion_asked finish_limit t (from (emptied_of state)) ≡ Answered
+    from_emptied : Overfull q.job.given (updated q) → motion_asked finish_limit t (from (emptied_of state)) ≡ Ok tt
     from_emptied o =
         passes (emptied_of state) (settings_emptied state settings) (claims_emptied state (length r.pairs / 2) (length r.references / 3)) (kept_emptied state (atoms_of places) r.pairs r.references o.many)
 
@@ -181,7 +180,7 @@ module _ (t : Thermostat) (q : Motion) (r : Rooms) (base : Passed finish_limit t
         (leaves t q base number place refusal))
 
 -- ---- a step
-module _ (t : Thermostat) (m : Motion) (is : Stopped t m) where
+module _ (t : Option Thermostat) (m : Motion) (is : Stopped t m) where
   abbrev at_stop : Outcome
   at_stop = atoms_stay (moved m) true (updated (moved m))
 
@@ -220,11 +219,11 @@ module _ (t : Thermostat) (m : Motion) (is : Stopped t m) where
             ends t (moved m) r base is.number is.place is.refusal (moved_holds r h) (rw (places_length m) references) (rw (places_length m) items);
       }
 
-pub step_resumes : (t : Thermostat) (m : Motion) → StepResumes t m
+pub step_resumes : (t : Option Thermostat) (m : Motion) → StepResumes t m
 step_resumes t m h = let is = stopped_told t m h in rw is.is (step_stopped t m is)
 
 -- ---- a finishing call
-module _ (t : Thermostat) (m : Motion) (is : Halted t m) where
+module _ (t : Option Thermostat) (m : Motion) (is : Halted t m) where
   passed_before : Passed finish_limit t m
   passed_before = asked_told finish_limit t m is.asked
 
@@ -254,7 +253,7 @@ module _ (t : Thermostat) (m : Motion) (is : Halted t m) where
         finishes = λ r h references items. ends t m r passed_before is.number is.place is.refusal h references items;
       }
 
-pub finish_resumes : (t : Thermostat) (m : Motion) → FinishResumes t m
+pub finish_resumes : (t : Option Thermostat) (m : Motion) → FinishResumes t m
 finish_resumes t m h = let is = halted_told t m h in rw is.is (finish_stopped t m is)
 
 -- over any number of stops: the finishing call before, lent other rooms, is the same finishing call
@@ -262,11 +261,11 @@ pub chained : (m : Motion) (o : Outcome) (r r' : Rooms) → lent_to (resumed m o
 chained m o r r' = refl
 
 -- ---- the calls; Only.antt has that nothing else fits the contract of `step` with those rooms
-module _ (t : Thermostat) (m : Motion) (r : Rooms) (a b : Stepped) (xs vs ws : List Float) (pairs pairs' : List ℕ) (references references' : List Float)
+module _ (t : Option Thermostat) (m : Motion) (r : Rooms) (a b : Stepped) (xs vs ws : List Float) (pairs pairs' : List ℕ) (references references' : List Float)
     (starts starts' items items' : List ℕ) (forces forces' : List Float) where
   pub calls_resume : CallsResume t m r a b xs vs ws pairs pairs' references references' starts starts' items items' forces forces'
   calls_resume step stopped holds finish done =
       let held = ⊎_elim (λ e. inl (ap (λ (u : Outcome). u.list.state) (sym step) ∙ e)) (λ h. inr (rw step at h)) holds in
       let again = ap (λ (u : Outcome). finished_of t (resumed m u r)) step in
       let all = step_resumes t m (ap (λ (u : Outcome). u.stopped) (sym step) ∙ stopped) in
-      finish ∙ again ∙ all.resumes r held (ap (λ (u : Outcome). u.list.answer) (sym (finish ∙ again)) ∙ ap seen_done done)
+      finish ∙ again ∙ all.resumes r held (ap (λ (u : Outcome). u.list.answer) (sym (finish ∙ again)) ∙ ap seen done)

@@ -1,4 +1,6 @@
 -- After passed tests the lists of a motion fit each other, and so each part of a step is the Rust's own loop. Assumes nothing.
+use Rattle.std.specs.Prelude.{Ok, Option}
+use Rattle.verlet.specs.declared.Thermostat.{Thermostat}
 use Prim.Native.Nat.{◌*◌, ◌/◌, ◌≤◌}
 use native.Mathlib.Omega.{arith}
 use mathlib.Core.Path.{◌≡◌, ◌∙◌}
@@ -8,9 +10,7 @@ use lib.Ieee.{Float}
 use lib.ListN.{length}
 use borrow.Author.Tests.{eqb-true}
 use Rattle.lists.specs.Atoms.{atoms_of}
-use Rattle.answer.specs.declared.Done.TheVariants.{Answered}
 use Rattle.lists.proofs.Cases.{and_both}
-use Rattle.verlet.specs.declared.Thermostat.{Thermostat}
 use Rattle.verlet.specs.Verlet.{moved_of}
 use Rattle.verlet.proofs.Steps.{kicked_by_lem, moved_by_lem, drifts_by, rescaled_by_lem}
 use Rattle.evaluate.proofs.Settling.{asked_fits, asked_forces, asked_few, asked_thirds, settled_length}
@@ -18,7 +18,7 @@ use Rattle.verlet_step.specs.Asked.{motion_fits}
 use Rattle.verlet_step.specs.Calls.{Motion, units_of, motion_at, motion_asked}
 use Rattle.verlet_step.specs.Source.{BySource, StepsBySource}
 
-module _ (limit : Float) (t : Thermostat) (m : Motion) (e : motion_asked limit t m ≡ Answered) where
+module _ (limit : Float) (t : Option Thermostat) (m : Motion) (e : motion_asked limit t m ≡ Ok tt) where
   fits : (length m.velocities ≡ length m.job.given.positions) × (length m.masses ≡ length m.job.given.positions / 3)
   unfolding motion_asked motion_fits
   fits =

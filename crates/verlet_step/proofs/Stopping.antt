@@ -1,4 +1,7 @@
 -- `step` and `finish` by their ways, from their outcomes: refused, stopped, answered; and a landing from the state that an 8 leaves. Assumes nothing.
+use Rattle.std.specs.Prelude.{Err, Ok, Option, Result}
+use Rattle.answer.specs.declared.Refusal.{Refusal}
+use Rattle.verlet.specs.declared.Thermostat.{Thermostat}
 use Prim.Native.Nat.{ℕ}
 use native.Mathlib.Omega.{arith}
 use mathlib.Core.Path.{◌≡◌, refl, sym, ap, ◌∙◌}
@@ -7,11 +10,8 @@ use mathlib.Core.Logic.{◌⊎◌, inl, inr, ⊎_elim}
 use mathlib.Core.List.{List}
 use lib.Ieee.{Float}
 use lib.ListN.{length}
-use Rattle.answer.specs.declared.Done.{Done}
-use Rattle.answer.specs.declared.Done.TheVariants.{Answered, Refused}
 use Rattle.answer.specs.Seen.{Seen, answered, refused}
 use Rattle.lists.proofs.Cases.{by_test, true_or_false}
-use Rattle.verlet.specs.declared.Thermostat.{Thermostat}
 use Rattle.verlet.specs.Parts.{move_fits, drifts, moved_by}
 use Rattle.verlet.specs.Verlet.{moved_of}
 use Rattle.verlet.proofs.Steps.{drifted_length}
@@ -54,7 +54,7 @@ module _ (m : Motion) where
   landed_refused (answered u) h s = absurd (false≢true (sym (landed_on h) ∙ s))
   landed_refused (refused n p) h s = (n, p, h)
 
-  cooled_stopped : {n p : ℕ} (t : Thermostat) (k : Motion) → (updated m).answer ≡ refused n p → cooled t k (atoms_stay m true (updated m)) ≡ atoms_stay m true (updated m)
+  cooled_stopped : {n p : ℕ} (t : Option Thermostat) (k : Motion) → (updated m).answer ≡ refused n p → cooled t k (atoms_stay m true (updated m)) ≡ atoms_stay m true (updated m)
   unfolding cooled_of
   cooled_stopped t k h = rw h
 
@@ -71,46 +71,46 @@ module _ (m : Motion) where
   advanced_off h = rw h
 
   -- ---- the tests before that
-  unless_on : {d : Done} (o : Outcome) → d ≡ Answered → unless m d o ≡ o
+  unless_on : {d : Result (Unit {0}) Refusal} (o : Outcome) → d ≡ Ok tt → unless m d o ≡ o
   unfolding unless
   unless_on o h = rw h
 
-  stopped_asked : (d : Done) (o : Outcome) → (unless m d o).stopped ≡ true → d ≡ Answered
+  stopped_asked : (d : Result (Unit {0}) Refusal) (o : Outcome) → (unless m d o).stopped ≡ true → d ≡ Ok tt
   unfolding unless
-  stopped_asked (Refused r) o h = absurd (false≢true h)
-  stopped_asked Answered o h = refl
+  stopped_asked (Err r) o h = absurd (false≢true h)
+  stopped_asked (Ok tt) o h = refl
 
-  answered_asked : (d : Done) (o : Outcome) → (unless m d o).list.answer ≡ answered tt → d ≡ Answered
+  answered_asked : (d : Result (Unit {0}) Refusal) (o : Outcome) → (unless m d o).list.answer ≡ answered tt → d ≡ Ok tt
   unfolding unless
-  answered_asked (Refused r) o h = never h
-  answered_asked Answered o h = refl
+  answered_asked (Err r) o h = never h
+  answered_asked (Ok tt) o h = refl
 
 -- ---- a step by its ways
 -- stopped: it passed its tests and the drift's, the list was refused, and all but the list stands as it was moved
-pub record Stopped (t : Thermostat) (m : Motion) : Type 0 where
-  pub asked : motion_asked step_limit t m ≡ Answered
+pub record Stopped (t : Option Thermostat) (m : Motion) : Type 0 where
+  pub asked : motion_asked step_limit t m ≡ Ok tt
   pub drift : drifting m ≡ true
   pub number : ℕ
   pub place : ℕ
   pub refusal : (updated (moved m)).answer ≡ refused number place
   pub is : stepped_of t m ≡ atoms_stay (moved m) true (updated (moved m))
 
-pub record Halted (t : Thermostat) (m : Motion) : Type 0 where
-  pub asked : motion_asked finish_limit t m ≡ Answered
+pub record Halted (t : Option Thermostat) (m : Motion) : Type 0 where
+  pub asked : motion_asked finish_limit t m ≡ Ok tt
   pub number : ℕ
   pub place : ℕ
   pub refusal : (updated m).answer ≡ refused number place
   pub is : finished_of t m ≡ atoms_stay m true (updated m)
 
-module _ (t : Thermostat) (m : Motion) where
-  pub step_on : motion_asked step_limit t m ≡ Answered → drifting m ≡ true → stepped_of t m ≡ cooled t m (landed_by settled_of (moved m))
+module _ (t : Option Thermostat) (m : Motion) where
+  pub step_on : motion_asked step_limit t m ≡ Ok tt → drifting m ≡ true → stepped_of t m ≡ cooled t m (landed_by settled_of (moved m))
   unfolding stepped_of
   step_on a d = unless_on m (cooled t m (advanced_by settled_of m)) a ∙ ap (cooled t m) (advanced_on m d)
 
   pub stopped_told : (stepped_of t m).stopped ≡ true → Stopped t m
   unfolding stepped_of
   stopped_told h =
-      let a : motion_asked step_limit t m ≡ Answered = stopped_asked m (motion_asked step_limit t m) (cooled t m (advanced_by settled_of m)) h in
+      let a : motion_asked step_limit t m ≡ (Ok tt) = stopped_asked m (motion_asked step_limit t m) (cooled t m (advanced_by settled_of m)) h in
       let s : (advanced_by settled_of m).stopped ≡ true = ap (λ (o : Outcome). o.stopped) (sym (unless_on m (cooled t m (advanced_by settled_of m)) a)) ∙ h in
       let d : drifting m ≡ true = ⊎_elim (λ e. e) (λ e. absurd (false≢true (sym (advanced_off m e) ∙ s))) (true_or_false (drifting m)) in
       let f = landed_refused (moved m) (updated (moved m)).answer refl (ap (λ (o : Outcome). o.stopped) (sym (advanced_on m d)) ∙ s) in
@@ -124,11 +124,11 @@ module _ (t : Thermostat) (m : Motion) where
       }
 
   -- finished: it passed its tests, and the list was brought up to date
-  pub finish_asked : (finished_of t m).list.answer ≡ answered tt → motion_asked finish_limit t m ≡ Answered
+  pub finish_asked : (finished_of t m).list.answer ≡ answered tt → motion_asked finish_limit t m ≡ Ok tt
   unfolding finished_of
   finish_asked h = answered_asked m (motion_asked finish_limit t m) (cooled t m (landed_by settled_of m)) h
 
-  pub finish_on : motion_asked finish_limit t m ≡ Answered → finished_of t m ≡ cooled t m (landed_by settled_of m)
+  pub finish_on : motion_asked finish_limit t m ≡ Ok tt → finished_of t m ≡ cooled t m (landed_by settled_of m)
   unfolding finished_of
   finish_on a = unless_on m (cooled t m (landed_by settled_of m)) a
 
@@ -142,7 +142,7 @@ module _ (t : Thermostat) (m : Motion) where
   pub halted_told : (finished_of t m).stopped ≡ true → Halted t m
   unfolding finished_of
   halted_told h =
-      let a : motion_asked finish_limit t m ≡ Answered = stopped_asked m (motion_asked finish_limit t m) (cooled t m (landed_by settled_of m)) h in
+      let a : motion_asked finish_limit t m ≡ (Ok tt) = stopped_asked m (motion_asked finish_limit t m) (cooled t m (landed_by settled_of m)) h in
       let f = landed_refused m (updated m).answer refl (ap (λ (o : Outcome). o.stopped) (sym (unless_on m (cooled t m (landed_by settled_of m)) a)) ∙ h) in
       record {
         asked = a;
@@ -157,7 +157,7 @@ module _ (t : Thermostat) (m : Motion) where
   landing_ends (answered u) h = inl (ap (λ (o : Update.Outcome). o.answer) (landed_list m (answered u) h) ∙ h)
   landing_ends (refused n p) h = inr (ap (λ (o : Outcome). o.stopped) (landed_stopped m h))
 
-  pub finish_ends : motion_asked finish_limit t m ≡ Answered → ((finished_of t m).list.answer ≡ answered tt) ⊎ ((finished_of t m).stopped ≡ true)
+  pub finish_ends : motion_asked finish_limit t m ≡ Ok tt → ((finished_of t m).list.answer ≡ answered tt) ⊎ ((finished_of t m).stopped ≡ true)
   finish_ends a = rw (finish_on a) (landing_ends (updated m).answer refl)
 
 -- ---- a landing from the state that an 8 leaves

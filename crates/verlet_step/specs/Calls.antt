@@ -1,12 +1,11 @@
 -- What `step` and `finish` answer and leave in everything lent: one outcome each, made from the entry values alone. Definitions only.
+use Rattle.std.specs.Prelude.{Err, None, Ok, Option, Result, Some}
+use Rattle.verlet.specs.declared.Thermostat.{Thermostat}
 use Rattle.std.specs.Prelude.{ℕ, ◌≡◌, Bool, true, false, cond, List, Float, length}
-use Rattle.answer.specs.declared.Done.{Done}
-use Rattle.answer.specs.declared.Done.TheVariants as DoneCases
 use Rattle.answer.specs.declared.Refusal.{Refusal}
 use Rattle.answer.specs.declared.Refusal.TheVariants.{Drifted}
-use Rattle.answer.specs.Seen.{Seen, answered, refused, seen_done}
+use Rattle.answer.specs.Seen.{Seen, answered, refused, seen}
 use Rattle.virial.specs.declared.Units.{Units}
-use Rattle.verlet.specs.declared.Thermostat.{Thermostat}
 use Rattle.verlet.specs.Parts.{kicked_by, moved_by, drifts, thermostat_by}
 use Rattle.neighbor.specs.declared.State.{State}
 use Rattle.neighbor.specs.Listed.{Listed}
@@ -104,11 +103,11 @@ advanced_by evaluation m =
     (all_stays m Drifted)
 
 -- lines 195 to 198, where the step came so far
-unfoldable pub cooled_of : Thermostat → Units → (dt : Float) → (masses : List Float) → Seen (Unit {0}) → (velocities : List Float) → List Float
+unfoldable pub cooled_of : Option Thermostat → Units → (dt : Float) → (masses : List Float) → Seen (Unit {0}) → (velocities : List Float) → List Float
 cooled_of t units dt ms (refused n p) vs = vs
 cooled_of t units dt ms (answered u) vs = thermostat_by t units dt ms vs
 
-abbrev pub cooled : Thermostat → Motion → Outcome → Outcome
+abbrev pub cooled : Option Thermostat → Motion → Outcome → Outcome
 cooled t m o =
     record {
       list = o.list;
@@ -122,23 +121,23 @@ cooled t m o =
 -- ---- the calls
 
 -- 1, 2, 6, 3, 4, 5: an evaluation's tests, with what is asked of the motion at 1 and at 3
-unfoldable pub motion_asked : (limit : Float) → Thermostat → Motion → Done
+unfoldable pub motion_asked : (limit : Float) → Option Thermostat → Motion → Result (Unit {0}) Refusal
 motion_asked limit t m =
     asked_of (motion_fits (length m.job.given.positions) (length m.velocities) (length m.masses))
     (motion_ok limit m.dt t m.masses m.velocities m.job.forces m.potential)
     m.job
 
 -- the work, unless the tests refuse
-unfoldable pub unless : Motion → Done → Outcome → Outcome
-unless m (DoneCases.Refused r) o = all_stays m r
-unless m DoneCases.Answered o = o
+unfoldable pub unless : Motion → Result (Unit {0}) Refusal → Outcome → Outcome
+unless m (Err r) o = all_stays m r
+unless m (Ok tt) o = o
 
 -- a step: half a kick, the drift, the evaluation, half a kick, the thermostat
-unfoldable pub stepped_of : Thermostat → Motion → Outcome
+unfoldable pub stepped_of : Option Thermostat → Motion → Outcome
 stepped_of t m = unless m (motion_asked step_limit t m) (cooled t m (advanced_by settled_of m))
 
 -- "a finishing call resumes there": the evaluation, half a kick, the thermostat
-unfoldable pub finished_of : Thermostat → Motion → Outcome
+unfoldable pub finished_of : Option Thermostat → Motion → Outcome
 finished_of t m = unless m (motion_asked finish_limit t m) (cooled t m (landed_by settled_of m))
 
 abbrev pub shown : Stepped → (positions velocities : List Float) → (pairs : List ℕ) → (references : List Float) → (starts items : List ℕ) → (forces : List Float) → Outcome
@@ -146,7 +145,7 @@ shown r positions velocities pairs references starts items forces =
     record {
       list =
           record {
-            answer = seen_done r.done;
+            answer = seen r.done;
             rebuilt = r.rebuilt;
             state = r.state;
             pairs = pairs;
@@ -162,11 +161,11 @@ shown r positions velocities pairs references starts items forces =
     }
 
 -- The contract of `step`: what the answer shows, and what everything lent holds at exit.
-abbrev pub StepSays : Thermostat → Motion → Stepped → (positions velocities : List Float) → (pairs : List ℕ) → (references : List Float) → (starts items : List ℕ) → (forces : List Float) → Type 0
+abbrev pub StepSays : Option Thermostat → Motion → Stepped → (positions velocities : List Float) → (pairs : List ℕ) → (references : List Float) → (starts items : List ℕ) → (forces : List Float) → Type 0
 StepSays t m r positions velocities pairs references starts items forces = shown r positions velocities pairs references starts items forces ≡ stepped_of t m
 
 -- The contract of `finish`, to which positions are lent to be read.
-abbrev pub FinishSays : Thermostat → Motion → Stepped → (velocities : List Float) → (pairs : List ℕ) → (references : List Float) → (starts items : List ℕ) → (forces : List Float) → Type 0
+abbrev pub FinishSays : Option Thermostat → Motion → Stepped → (velocities : List Float) → (pairs : List ℕ) → (references : List Float) → (starts items : List ℕ) → (forces : List Float) → Type 0
 FinishSays t m r velocities pairs references starts items forces = shown r m.job.given.positions velocities pairs references starts items forces ≡ finished_of t m
 
 -- Demand 3 of a step or a finishing call that built the list anew, said of the lent pairs at exit, over the positions at exit: those of a step are the moved ones.
@@ -175,4 +174,4 @@ StepLists m r positions pairs = r.rebuilt ≡ true → Listed (given_at m.job.gi
 
 -- 02, No. 6, of a step or a finishing call that kept the list: the cell is, bit for bit, the one that it was built in. It follows from what they say (proofs/Box.antt).
 abbrev pub StepKeeps : Motion → Stepped → Type 0
-StepKeeps m r = r.done ≡ DoneCases.Answered → r.rebuilt ≡ false → SameBits m.job.given.state.built_in m.job.given.cell
+StepKeeps m r = r.done ≡ Ok tt → r.rebuilt ≡ false → SameBits m.job.given.state.built_in m.job.given.cell

@@ -1,8 +1,8 @@
 -- What the parts of a step are after passed tests: the Rust's own loops, with no case in which nothing is moved. proofs/Source.antt proves it of every motion. Definitions only.
+use Rattle.std.specs.Prelude.{Ok, Option}
+use Rattle.verlet.specs.declared.Thermostat.{Thermostat}
 use Rattle.std.specs.Prelude.{◌≡◌, List, Float, length}
 use Rattle.lists.specs.Lists.{every}
-use Rattle.answer.specs.declared.Done.TheVariants.{Answered}
-use Rattle.verlet.specs.declared.Thermostat.{Thermostat}
 use Rattle.verlet.specs.Parts.{kicked_by, moved_by, rescaled_by, coordinate, drifts}
 use Rattle.verlet.specs.Verlet.{kicked_of, moved_of, berendsen_of}
 use Rattle.evaluate.specs.Calls.{settled_of}
@@ -25,4 +25,4 @@ pub record BySource (m : Motion) : Type 0 where
 
 -- THEOREM. The limit of the velocities is a step's or a finishing call's
 abbrev pub StepsBySource : Motion → Type 0
-StepsBySource m = (limit : Float) (t : Thermostat) → motion_asked limit t m ≡ Answered → BySource m
+StepsBySource m = (limit : Float) (t : Option Thermostat) → motion_asked limit t m ≡ Ok tt → BySource m

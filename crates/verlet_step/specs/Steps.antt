@@ -1,7 +1,6 @@
 -- What the kernel and the private functions say of themselves: nobody has to believe it. Definitions only.
+use Rattle.std.specs.Prelude.{Err, Result}
 use Rattle.std.specs.Prelude.{ℕ, ◌≡◌, Bool, false, List, Float}
-use Rattle.answer.specs.declared.Done.{Done}
-use Rattle.answer.specs.declared.Done.TheVariants.{Refused}
 use Rattle.answer.specs.declared.Refusal.{Refusal}
 use Rattle.virial.specs.declared.Units.{Units}
 use Rattle.verlet_kick.specs.Kick.{second_kick_after}
@@ -26,7 +25,7 @@ abbrev pub AdvanceSays : Motion → Stepped → (positions velocities : List Flo
 AdvanceSays m r positions velocities pairs references starts items forces = shown r positions velocities pairs references starts items forces ≡ advanced_in m
 
 abbrev pub unmoved_of : State → (potential : Float) → Refusal → Stepped
-unmoved_of s potential why = record { done = Refused why; stopped = false; rebuilt = false; state = s; potential = potential }
+unmoved_of s potential why = record { done = Err why; stopped = false; rebuilt = false; state = s; potential = potential }
 
 abbrev pub stepped_from : Evaluated → (stopped : Bool) → (potential : Float) → Stepped
 stepped_from e stopped potential = record { done = e.done; stopped = stopped; rebuilt = e.rebuilt; state = e.state; potential = potential }
@@ -39,7 +38,7 @@ pub record Kicked : Type 0 where
 abbrev pub kicked : Stepped → List Float → Kicked
 kicked r vs = record { answer = r; velocities = vs }
 
-unfoldable pub kicked_after : (potential : Float) → Units → (dt : Float) → (fs ms vs : List Float) → Evaluated → Done → Kicked
+unfoldable pub kicked_after : (potential : Float) → Units → (dt : Float) → (fs ms vs : List Float) → Evaluated → Result (Unit {0}) Refusal → Kicked
 kicked_after potential units dt fs ms vs e d =
     let k = second_kick_after potential e.sum.energy units dt fs ms vs d in
     kicked (stepped_from e k.answer.stopped k.answer.potential) k.velocities

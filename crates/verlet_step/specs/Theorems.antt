@@ -1,12 +1,12 @@
 -- THEOREMS over the outcomes of calls that a 7 or 8 stopped: a finishing call with other rooms makes them whole. This is what to read of it: it adds nothing to what the
 -- outcomes are, and proofs/Resumed.antt proves it of every thermostat and every motion. Definitions only.
+use Rattle.std.specs.Prelude.{Ok, Option}
+use Rattle.verlet.specs.declared.Thermostat.{Thermostat}
 use Rattle.std.specs.Prelude.{ℕ, ◌*◌, ◌≤◌, ◌≡◌, true, ◌⊎◌, List, Float, length, take}
 use Rattle.lists.specs.Atoms.{atoms_of}
-use Rattle.answer.specs.declared.Done.TheVariants.{Answered}
 use Rattle.answer.specs.Seen.{Seen, answered, refused}
 use Rattle.lists.specs.Lists.{every}
 use Rattle.ranges.specs.Ranged.{within}
-use Rattle.verlet.specs.declared.Thermostat.{Thermostat}
 use Rattle.neighbor.specs.declared.State.{State}
 use Rattle.neighbor.specs.Update.{Given, given}
 use Rattle.evaluate.specs.Calls.{job}
@@ -59,7 +59,7 @@ abbrev pub Stops : Seen (Unit {0}) → Type 0
 Stops a = (a ≡ refused 7 0) ⊎ ((count : ℕ) × (a ≡ refused 8 count))
 
 -- What holds of a call that was stopped, with the outcome o; `whole r` is the outcome of the same call lent rooms r from the start.
-pub record Resumable (t : Thermostat) (m : Motion) (o : Outcome) (whole : Rooms → Outcome) : Type 0 where
+pub record Resumable (t : Option Thermostat) (m : Motion) (o : Outcome) (whole : Rooms → Outcome) : Type 0 where
   -- nothing else stops it
   pub why : Stops o.list.answer
   -- A finishing call with rooms r that answers makes it whole: answer, `rebuilt`, `stopped`, State, potential, positions, velocities, forces, pairs, references,
@@ -73,20 +73,20 @@ pub record Resumable (t : Thermostat) (m : Motion) (o : Outcome) (whole : Rooms 
       → ((finished_of t (resumed m o r)).list.answer ≡ answered tt) ⊎ ((finished_of t (resumed m o r)).stopped ≡ true)
 
 -- THEOREM, for a stopped step, and for a finishing call that was stopped again. Both chain over any number of stops (`chained`).
-abbrev pub StepResumes : Thermostat → Motion → Type 0
+abbrev pub StepResumes : Option Thermostat → Motion → Type 0
 StepResumes t m = (stepped_of t m).stopped ≡ true → Resumable t m (stepped_of t m) (λ r. stepped_of t (lent_to m r))
 
-abbrev pub FinishResumes : Thermostat → Motion → Type 0
+abbrev pub FinishResumes : Option Thermostat → Motion → Type 0
 FinishResumes t m = (finished_of t m).stopped ≡ true → Resumable t m (finished_of t m) (λ r. finished_of t (lent_to m r))
 
 -- The first said of the calls: after a `step` that answered a, stopped, and a `finish` that answered b, done, b and what they left fit the contract of `step`
 -- with rooms r; proofs/Only.antt has that nothing else does. As above, where a has the state as it came (a 7) nothing is asked of r.
 abbrev pub CallsResume :
-    Thermostat → Motion → Rooms → (a b : Stepped) (positions velocities velocities' : List Float) (pairs pairs' : List ℕ) (references references' : List Float)
+    (Option Thermostat) → Motion → Rooms → (a b : Stepped) (positions velocities velocities' : List Float) (pairs pairs' : List ℕ) (references references' : List Float)
     (starts starts' items items' : List ℕ) (forces forces' : List Float) → Type 0
 CallsResume t m r a b positions velocities velocities' pairs pairs' references references' starts starts' items items' forces forces' =
     StepSays t m a positions velocities pairs references starts items forces → a.stopped ≡ true
     → (a.state ≡ m.job.given.state) ⊎ Holds m (shown a positions velocities pairs references starts items forces) r
     → FinishSays t (resumed m (shown a positions velocities pairs references starts items forces) r) b velocities' pairs' references' starts' items' forces'
-    → b.done ≡ Answered
+    → b.done ≡ Ok tt
     → StepSays t (lent_to m r) b positions velocities' pairs' references' starts' items' forces'

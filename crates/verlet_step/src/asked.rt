@@ -5,7 +5,7 @@ ghost use Rattle.verlet_step.specs.Asked.{motion_fits, motion_ok};
 ghost use Rattle.verlet_step.specs.Calls.{motion_of, motion_asked};
 
 use crate::Pace;
-use answer::Done;
+use answer::Refusal;
 use evaluate::Setting;
 use neighbor::State;
 
@@ -62,7 +62,7 @@ pub(crate) fn asked(
     starts: &[u32],
     items: &[u32],
     forces: &[f64],
-) -> Done
+) -> Result<(), Refusal>
     ensures { result ≡ motion_asked limit pace.thermostat (motion_of setting pace.dt s potential (tables own_ids.now own_params.now ids.now params.now) species.now charges.now bonds.now lengths.now ks.now angles.now per_angle.now masses.now exclusions.now positions.now velocities.now pairs.now references.now starts.now items.now forces.now) }
 {
     let fits = motion_fits(positions.len(), velocities.len(), masses.len());

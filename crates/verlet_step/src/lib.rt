@@ -2,7 +2,7 @@
 // specs/Calls.antt says what both answer and leave; `kernel` has the work without the tests and without the thermostat, for the crates above.
 #![tactic(auto)]
 
-use answer::Done;
+use answer::Refusal;
 use evaluate::Setting;
 use neighbor::State;
 use verlet::Thermostat;
@@ -18,14 +18,14 @@ ghost use Rattle.verlet_step.specs.Calls.{motion_of, StepSays, FinishSays, StepL
 #[derive(Clone, Copy)]
 pub struct Pace {
     pub dt: f64,
-    pub thermostat: Thermostat,
+    pub thermostat: Option<Thermostat>,
 }
 
 // A step, or why not; whether a 7 or 8 stopped it after the drift; whether the list was built anew; the list's state and the potential, which come back in
 // every case. Positions, velocities and forces stand in what the caller lends.
 #[derive(Clone, Copy)]
 pub struct Stepped {
-    pub done: Done,
+    pub done: Result<(), Refusal>,
     pub stopped: bool,
     pub rebuilt: bool,
     pub state: State,
@@ -89,7 +89,7 @@ pub fn step(
         items,
         forces,
     );
-    if let Done::Refused(why) = a {
+    if let Err(why) = a {
         return ends::unmoved(s, potential, why);
     }
     let r = kernel::advance(
@@ -159,7 +159,7 @@ pub fn finish(
         items,
         forces,
     );
-    if let Done::Refused(why) = a {
+    if let Err(why) = a {
         return ends::unmoved(s, potential, why);
     }
     let r = kernel::land(

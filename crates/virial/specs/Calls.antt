@@ -1,27 +1,21 @@
 -- What each public call answers, and what it leaves in the lent forces: one relation a call. Tests in 01's order, 1, 2, 3, 4; a refusal leaves the forces as they came. Definitions only.
+use Rattle.std.specs.Prelude.{Err, None, Ok, Result, Some}
+use Rattle.answer.specs.declared.Refusal.{Refusal}
 use Rattle.std.specs.Prelude.{◌≡◌, Bool, cond, ◌&&◌, List, ℕ, ◌*◌, ◌%◌, eqb, leb, ltb, Float, length}
 use Rattle.lists.specs.Atoms.{atoms_of, most_atoms}
-use Rattle.answer.specs.Seen.{Seen, answered, refused, refused_by, seen_done, seen_number}
-use Rattle.answer.specs.declared.Number.{Number}
+use Rattle.answer.specs.Seen.{Seen, answered, refused, refused_by, seen}
 use Rattle.cell.specs.declared.Rows.{Rows}
-use Rattle.cell.specs.declared.RowsAnswer.{RowsAnswer}
 use Rattle.cell.specs.declared.Vec3.{Vec3}
 use Rattle.cell.specs.Calls.{when}
 use Rattle.cell.specs.Ranged.{other_limit, vec_within}
-use Rattle.cell.specs.Seen.{rows_of, zero_rows}
+use Rattle.cell.specs.Seen.{rows_of}
 use Rattle.lists.specs.Lists.{every}
 use Rattle.virial.specs.declared.Sum.{Sum}
-use Rattle.virial.specs.declared.Summed.{Summed}
-use Rattle.virial.specs.declared.Summed.TheVariants as SummedCases
 use Rattle.virial.specs.declared.Units.{Units}
 use Rattle.virial.specs.Ranged.{plain, velocity, mass, plain_rows, plain_sum, units_in_range}
 use Rattle.virial.specs.Virial.{zero_sum, zero_forces, merged_sum, merged_forces, forces_with_pair, sum_with_pair, with_pair, scalar_virial_of, pressure_of, pressure_tensor_of, to_gpa_of}
 
 -- ---- what is seen of an answer
-
-abbrev pub seen_summed : Summed → Seen Sum
-seen_summed (SummedCases.Answered s) = answered s
-seen_summed (SummedCases.Refused r) = refused_by r
 
 -- ---- the tests of lengths and atoms (1 and 2)
 
@@ -42,8 +36,8 @@ zeros_outcome forces =
     (refused 2 (atoms_of forces), forces))
     (refused 1 0, forces)
 
-abbrev pub ZerosSays : (forces : List Float) → Summed → (after : List Float) → Type 0
-ZerosSays forces r after = (seen_summed r, after) ≡ zeros_outcome forces
+abbrev pub ZerosSays : (forces : List Float) → Result Sum Refusal → (after : List Float) → Type 0
+ZerosSays forces r after = (seen r, after) ≡ zeros_outcome forces
 
 -- 1: also a target that is shorter than the source
 abbrev pub merge_fits : List Float → List Float → Bool
@@ -62,8 +56,8 @@ merge_outcome sum forces other added =
     (refused 2 (atoms_of forces), forces))
     (refused 1 0, forces)
 
-abbrev pub MergeSays : (sum : Sum) (forces : List Float) (other : Sum) (added : List Float) → Summed → (after : List Float) → Type 0
-MergeSays sum forces other added r after = (seen_summed r, after) ≡ merge_outcome sum forces other added
+abbrev pub MergeSays : (sum : Sum) (forces : List Float) (other : Sum) (added : List Float) → Result Sum Refusal → (after : List Float) → Type 0
+MergeSays sum forces other added r after = (seen r, after) ≡ merge_outcome sum forces other added
 
 unfoldable pub pair_in_range : Sum → List Float → Vec3 → Vec3 → Bool
 pair_in_range sum forces d f = plain_sum sum && every plain forces && vec_within other_limit d && vec_within other_limit f
@@ -80,40 +74,40 @@ pair_outcome sum forces i j d f =
     (refused 2 (atoms_of forces), forces))
     (refused 1 0, forces)
 
-abbrev pub AddPairForceSays : (sum : Sum) (forces : List Float) (i j : ℕ) (d f : Vec3) → Summed → (after : List Float) → Type 0
-AddPairForceSays sum forces i j d f r after = (seen_summed r, after) ≡ pair_outcome sum forces i j d f
+abbrev pub AddPairForceSays : (sum : Sum) (forces : List Float) (i j : ℕ) (d f : Vec3) → Result Sum Refusal → (after : List Float) → Type 0
+AddPairForceSays sum forces i j d f r after = (seen r, after) ≡ pair_outcome sum forces i j d f
 
--- from here on nothing is lent to be written, and a refusal has rows of zeros
+-- from here on nothing is lent to be written
 unfoldable pub virial_in_range : List (List Float) → Vec3 → Vec3 → Bool
 virial_in_range w d f = plain_rows w && vec_within other_limit d && vec_within other_limit f
 
-unfoldable pub virial_outcome : List (List Float) → Vec3 → Vec3 → Seen (Unit {0}) × Rows
-virial_outcome w d f = cond (virial_in_range w d f) (answered tt, rows_of (with_pair w d f)) (refused 3 0, zero_rows)
+unfoldable pub virial_outcome : List (List Float) → Vec3 → Vec3 → Seen Rows
+virial_outcome w d f = cond (virial_in_range w d f) (answered (rows_of (with_pair w d f))) (refused 3 0)
 
-abbrev pub VirialFromPairSays : (virial : List (List Float)) (d f : Vec3) → RowsAnswer → Type 0
-VirialFromPairSays virial d f r = (seen_done r.done, r.rows) ≡ virial_outcome virial d f
+abbrev pub VirialFromPairSays : (virial : List (List Float)) (d f : Vec3) → Result Rows Refusal → Type 0
+VirialFromPairSays virial d f r = seen r ≡ virial_outcome virial d f
 
-abbrev pub ScalarVirialSays : (virial : List (List Float)) → Number → Type 0
-ScalarVirialSays virial r = seen_number r ≡ when (plain_rows virial) (scalar_virial_of virial)
+abbrev pub ScalarVirialSays : (virial : List (List Float)) → Result Float Refusal → Type 0
+ScalarVirialSays virial r = seen r ≡ when (plain_rows virial) (scalar_virial_of virial)
 
-abbrev pub PressureSays : (kinetic scalar volume : Float) → Number → Type 0
-PressureSays kinetic scalar volume r = seen_number r ≡ when (plain kinetic && plain scalar && plain volume) (pressure_of kinetic scalar volume)
+abbrev pub PressureSays : (kinetic scalar volume : Float) → Result Float Refusal → Type 0
+PressureSays kinetic scalar volume r = seen r ≡ when (plain kinetic && plain scalar && plain volume) (pressure_of kinetic scalar volume)
 
 unfoldable pub tensor_in_range : Units → Float → List (List Float) → List Float → List Float → Bool
 tensor_in_range units volume w vs ms = units_in_range units && plain volume && plain_rows w && every velocity vs && every mass ms
 
-unfoldable pub tensor_outcome : Units → Float → List (List Float) → List Float → List Float → Seen (Unit {0}) × Rows
+unfoldable pub tensor_outcome : Units → Float → List (List Float) → List Float → List Float → Seen Rows
 tensor_outcome units volume w vs ms =
     cond (eqb (length vs) (3 * length ms))
     (cond (few_atoms (length ms))
     (cond (tensor_in_range units volume w vs ms)
-    (answered tt, rows_of (pressure_tensor_of units volume w vs ms))
-    (refused 3 0, zero_rows))
-    (refused 2 (length ms), zero_rows))
-    (refused 1 0, zero_rows)
+    (answered (rows_of (pressure_tensor_of units volume w vs ms)))
+    (refused 3 0))
+    (refused 2 (length ms)))
+    (refused 1 0)
 
-abbrev pub PressureTensorSays : (units : Units) (volume : Float) (virial : List (List Float)) (velocities masses : List Float) → RowsAnswer → Type 0
-PressureTensorSays units volume virial velocities masses r = (seen_done r.done, r.rows) ≡ tensor_outcome units volume virial velocities masses
+abbrev pub PressureTensorSays : (units : Units) (volume : Float) (virial : List (List Float)) (velocities masses : List Float) → Result Rows Refusal → Type 0
+PressureTensorSays units volume virial velocities masses r = seen r ≡ tensor_outcome units volume virial velocities masses
 
-abbrev pub ToGpaSays : (units : Units) (pressure : Float) → Number → Type 0
-ToGpaSays units pressure r = seen_number r ≡ when (units_in_range units && plain pressure) (to_gpa_of units pressure)
+abbrev pub ToGpaSays : (units : Units) (pressure : Float) → Result Float Refusal → Type 0
+ToGpaSays units pressure r = seen r ≡ when (units_in_range units && plain pressure) (to_gpa_of units pressure)

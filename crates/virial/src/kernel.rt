@@ -26,10 +26,8 @@ pub fn zero() -> Sum
 pub fn clear(forces: &mut [f64])
     ensures { forces.new ≡ zero_forces (length forces.old) }
 {
-    let mut k = 0;
-    while k < forces.len() {
-        forces[k] = 0.0;
-        k += 1;
+    for force in forces.iter_mut() {
+        *force = 0.0;
     }
 }
 
@@ -55,10 +53,8 @@ pub fn merge_forces(forces: &mut [f64], added: &[f64])
     ensures { forces.new ≡ merged_forces forces.old added.now }
 {
     let n = ranged::shorter(forces.len(), added.len());
-    let mut k = 0;
-    while k < n {
+    for k in 0..n {
         forces[k] = forces[k] + added[k];
-        k += 1;
     }
 }
 

@@ -4,8 +4,8 @@
 
 ghost use Rattle.virial.specs.Calls.{ZerosSays, MergeSays, AddPairForceSays, VirialFromPairSays, ScalarVirialSays, PressureSays, PressureTensorSays, ToGpaSays};
 
-use answer::{Done, Number, Refusal};
-use cell::{RowsAnswer, Vec3};
+use answer::Refusal;
+use cell::{Rows, Vec3};
 
 pub mod kernel;
 pub mod ranged;
@@ -37,97 +37,95 @@ pub struct Units {
     pub ev_per_a3_to_gpa: f64,
 }
 
-#[derive(Drop)]
-pub enum Summed {
-    Answered(Sum),
-    Refused(Refusal),
-}
-
 // Most atoms of any call.
 const MOST: usize = 16384;
 
-pub fn zeros(forces: &mut [f64]) -> Summed
+pub fn zeros(forces: &mut [f64]) -> Result<Sum, Refusal>
     ensures { ZerosSays forces.old result forces.new }
 {
     let atoms = forces.len() / 3;
     if forces.len() % 3 != 0 {
-        return Summed::Refused(Refusal::Lengths);
+        return Err(Refusal::Lengths);
     }
     if MOST < atoms {
-        return Summed::Refused(Refusal::TooMany { atoms });
+        return Err(Refusal::TooMany { atoms });
     }
     kernel::clear(forces);
-    Summed::Answered(kernel::zero())
+    Ok(kernel::zero())
 }
 
 // `added` are the forces of `other`.
-pub fn merge(sum: Sum, forces: &mut [f64], other: Sum, added: &[f64]) -> Summed
+pub fn merge(sum: Sum, forces: &mut [f64], other: Sum, added: &[f64]) -> Result<Sum, Refusal>
     ensures { MergeSays sum forces.old other added.now result forces.new }
 {
     let atoms = forces.len() / 3;
     if !ranged::merge_fits(forces.len(), added.len()) {
-        return Summed::Refused(Refusal::Lengths);
+        return Err(Refusal::Lengths);
     }
     if MOST < atoms {
-        return Summed::Refused(Refusal::TooMany { atoms });
+        return Err(Refusal::TooMany { atoms });
     }
     if !ranged::merge_in_range(sum, forces, other, added) {
-        return Summed::Refused(Refusal::Range);
+        return Err(Refusal::Range);
     }
     kernel::merge_forces(forces, added);
-    Summed::Answered(kernel::merge_sum(sum, other))
+    Ok(kernel::merge_sum(sum, other))
 }
 
 // f on atom i and -f on atom j, d apart.
-pub fn add_pair_force(sum: Sum, forces: &mut [f64], i: u32, j: u32, d: Vec3, f: Vec3) -> Summed
+pub fn add_pair_force(
+    sum: Sum,
+    forces: &mut [f64],
+    i: u32,
+    j: u32,
+    d: Vec3,
+    f: Vec3,
+) -> Result<Sum, Refusal>
     ensures { AddPairForceSays sum forces.old i j d f result forces.new }
 {
     let atoms = forces.len() / 3;
     if forces.len() % 3 != 0 {
-        return Summed::Refused(Refusal::Lengths);
+        return Err(Refusal::Lengths);
     }
     if MOST < atoms {
-        return Summed::Refused(Refusal::TooMany { atoms });
+        return Err(Refusal::TooMany { atoms });
     }
     if !ranged::pair_in_range(sum, forces, d, f) {
-        return Summed::Refused(Refusal::Range);
+        return Err(Refusal::Range);
     }
     let a = i as usize;
     let b = j as usize;
     if (a < atoms) & (b < atoms) {
-        return Summed::Answered(kernel::add_pair_force(sum, forces, a, b, d, f));
+        return Ok(kernel::add_pair_force(sum, forces, a, b, d, f));
     }
-    Summed::Refused(Refusal::NotThere { row: 0 })
+    Err(Refusal::NotThere { row: 0 })
 }
 
-pub fn virial_from_pair(virial: [[f64; 3]; 3], d: Vec3, f: Vec3) -> RowsAnswer
+pub fn virial_from_pair(virial: [[f64; 3]; 3], d: Vec3, f: Vec3) -> Result<Rows, Refusal>
     ensures { VirialFromPairSays virial d f result }
 {
     if ranged::virial_in_range(virial, d, f) {
-        return RowsAnswer {
-            done: Done::Answered,
-            rows: cell::matrices::rows_of(tensors::with_pair(virial, d, f)),
-        };
+        return Ok(cell::matrices::rows_of(tensors::with_pair(virial, d, f)));
     }
-    tensors::refused(Refusal::Range)
+    Err(Refusal::Range)
 }
 
-pub fn scalar_virial(virial: [[f64; 3]; 3]) -> Number
+pub fn scalar_virial(virial: [[f64; 3]; 3]) -> Result<f64, Refusal>
     ensures { ScalarVirialSays virial result }
 {
     if ranged::rows_plain(virial) {
-        return Number::Answered(virial[0][0] + virial[1][1] + virial[2][2]);
+        return Ok(virial[0][0] + virial[1][1] + virial[2][2]);
     }
-    Number::Refused(Refusal::Range)
+    Err(Refusal::Range)
 }
 
-pub fn pressure(kinetic: f64, scalar: f64, volume: f64) -> Number
+pub fn pressure(kinetic: f64, scalar: f64, volume: f64) -> Result<f64, Refusal>
     ensures { PressureSays kinetic scalar volume result }
 {
     if ranged::plain(kinetic) & ranged::plain(scalar) & ranged::plain(volume) {
-        return Number::Answered(tensors::pressure(kinetic, scalar, volume));
+        return Ok(tensors::pressure(kinetic, scalar, volume));
     }
-    Number::Refused(Refusal::Range)
+    Err(Refusal::Range)
 }
 
 pub fn pressure_tensor(
@@ -136,31 +134,28 @@ pub fn pressure_tensor(
     virial: [[f64; 3]; 3],
     velocities: &[f64],
     masses: &[f64],
-) -> RowsAnswer
+) -> Result<Rows, Refusal>
     ensures { PressureTensorSays units volume virial velocities.now masses.now result }
 {
     let atoms = masses.len();
     if velocities.len() != 3 * atoms {
-        return tensors::refused(Refusal::Lengths);
+        return Err(Refusal::Lengths);
     }
     if MOST < atoms {
-        return tensors::refused(Refusal::TooMany { atoms });
+        return Err(Refusal::TooMany { atoms });
     }
     if !ranged::tensor_in_range(units, volume, virial, velocities, masses) {
-        return tensors::refused(Refusal::Range);
+        return Err(Refusal::Range);
     }
     let p = tensors::pressure_tensor(units, volume, virial, velocities, masses);
-    RowsAnswer {
-        done: Done::Answered,
-        rows: cell::matrices::rows_of(p),
-    }
+    Ok(cell::matrices::rows_of(p))
 }
 
-pub fn to_gpa(units: Units, pressure: f64) -> Number
+pub fn to_gpa(units: Units, pressure: f64) -> Result<f64, Refusal>
     ensures { ToGpaSays units pressure result }
 {
     if ranged::units_in_range(units) & ranged::plain(pressure) {
-        return Number::Answered(pressure * units.ev_per_a3_to_gpa);
+        return Ok(pressure * units.ev_per_a3_to_gpa);
     }
-    Number::Refused(Refusal::Range)
+    Err(Refusal::Range)
 }

@@ -1,21 +1,10 @@
 // Virials and pressures as three rows of three floats, and the answers that carry them.
 ghost use Rattle.std.specs.Prelude.{◌≡◌, ◌+◌, ◌*◌, ◌≤◌, min, length};
 ghost use Rattle.lists.specs.Atoms.{atoms_of};
-ghost use Rattle.cell.specs.Seen.{zero_rows};
 ghost use Rattle.virial.specs.Virial.{row_with_pair, with_pair, pressure_of, zero_tensor, velocity_at, row_with_atom, with_atom, kinetic_of, row_over_volume, over_volume, pressure_tensor_of};
 
 use crate::{Units, ranged};
-use answer::{Done, Refusal};
-use cell::{RowsAnswer, Vec3};
-
-pub fn refused(why: Refusal) -> RowsAnswer
-    ensures { (result.done ≡ Done.Refused why) × (result.rows ≡ zero_rows) }
-{
-    RowsAnswer {
-        done: Done::Refused(why),
-        rows: cell::matrices::zero_rows(),
-    }
-}
+use cell::Vec3;
 
 fn row_with_pair(w: [f64; 3], d: f64, f: Vec3) -> [f64; 3]
     ensures { result ≡ row_with_pair w d f }
@@ -86,12 +75,10 @@ fn kinetic(unit: f64, vs: &[f64], ms: &[f64]) -> [[f64; 3]; 3]
 {
     let n = ranged::shorter(vs.len() / 3, ms.len());
     let mut p = zero_tensor();
-    let mut i = 0;
-    while i < n {
+    for i in 0..n {
         let v = velocity(vs, i);
         let t = with_atom(unit, p, ms[i], v);
         p = t;
-        i += 1;
     }
     p
 }

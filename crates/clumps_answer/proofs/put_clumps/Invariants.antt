@@ -7,6 +7,3 @@ use Rattle.clumps_answer.proofs.put_clumps.Given as goal
 
 abbrev pub invariant-loop-i : goal.invariant-loop-i
 invariant-loop-i l = (l.i ≤ length l.labels) × (l.at ≤ 11 * l.i) × (l.at ≡ length (lines_to l.labels l.i)) × (l.out ≡ sets l.initial.out 0 (lines_to l.labels l.i))
-
-abbrev pub decreases-loop-i : goal.decreases-loop-i
-decreases-loop-i l = length l.labels - l.i

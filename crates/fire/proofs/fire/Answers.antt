@@ -6,8 +6,8 @@ use Rattle.verlet_step.specs.Calls.{Motion}
 use mathlib.Core.Path.{refl, ap, ◌∙◌}
 use Rattle.fire.proofs.fire.Goals as goal
 
-pub returns-in-Refused : goal.returns-in-Refused
-returns-in-Refused c = let m : Motion = settling_of c.args.o c.args.setting c.args.s (tables c.args.own_ids.now c.args.own_params.now c.args.ids.now c.args.params.now) c.args.species.now c.args.charges.now c.args.bonds.now c.args.lengths.now c.args.ks.now c.args.angles.now c.args.per_angle.now c.args.masses.now c.args.exclusions.now c.args.positions.now c.args.velocities.now c.args.pairs.now c.args.references.now c.args.starts.now c.args.items.now c.args.forces.now in fired_refused_lem c.args.o m c.asked-a.ensures refl c.in-Refused.is c.refuse.ensures
+pub returns-in-Err : goal.returns-in-Err
+returns-in-Err c = let m : Motion = settling_of c.args.o c.args.setting c.args.s (tables c.args.own_ids.now c.args.own_params.now c.args.ids.now c.args.params.now) c.args.species.now c.args.charges.now c.args.bonds.now c.args.lengths.now c.args.ks.now c.args.angles.now c.args.per_angle.now c.args.masses.now c.args.exclusions.now c.args.positions.now c.args.velocities.now c.args.pairs.now c.args.references.now c.args.starts.now c.args.items.now c.args.forces.now in fired_refused_lem c.args.o m c.asked-a.ensures refl c.in-Err.is c.refuse.ensures
 
 pub relax-t-requires : goal.relax-t-requires
 relax-t-requires c = let m : Motion = settling_of c.args.o c.args.setting c.args.s (tables c.args.own_ids.now c.args.own_params.now c.args.ids.now c.args.params.now) c.args.species.now c.args.charges.now c.args.bonds.now c.args.lengths.now c.args.ks.now c.args.angles.now c.args.per_angle.now c.args.masses.now c.args.exclusions.now c.args.positions.now c.args.velocities.now c.args.pairs.now c.args.references.now c.args.starts.now c.args.items.now c.args.forces.now in let b = begun_counts m settled_in in (ap (λ (r : Relaxing). r.gait.since) c.begin-begun.ensures ∙ b.0, ap (λ (r : Relaxing). r.iteration) c.begin-begun.ensures ∙ b.1)

@@ -8,20 +8,20 @@ returns-in_default c = simp c.in_default.is
 
 pub returns-then-atoms-ge65536 : goal.returns-then-atoms-ge65536
 unfolding header_of
-returns-then-atoms-ge65536 c = simp (c.in-Of.is, le-ltb _ _ c.if-atoms-ge65536.true)
+returns-then-atoms-ge65536 c = simp (c.in-Some.is, le-ltb _ _ c.if-atoms-ge65536.true)
 
 pub returns-then-mask-ge8 : goal.returns-then-mask-ge8
 unfolding header_of
-returns-then-mask-ge8 c = simp (c.in-Of.is, lt-ltb _ _ c.if-atoms-ge65536.false, le-ltb _ _ c.if-mask-ge8.true)
+returns-then-mask-ge8 c = simp (c.in-Some.is, lt-ltb _ _ c.if-atoms-ge65536.false, le-ltb _ _ c.if-mask-ge8.true)
 
 pub returns-then-radius-ge4294967296 : goal.returns-then-radius-ge4294967296
 unfolding header_of
-returns-then-radius-ge4294967296 c = simp (c.in-Of.is, lt-ltb _ _ c.if-atoms-ge65536.false, lt-ltb _ _ c.if-mask-ge8.false, le-ltb _ _ c.if-radius-ge4294967296.true)
+returns-then-radius-ge4294967296 c = simp (c.in-Some.is, lt-ltb _ _ c.if-atoms-ge65536.false, lt-ltb _ _ c.if-mask-ge8.false, le-ltb _ _ c.if-radius-ge4294967296.true)
 
 pub returns-then-end-ne10 : goal.returns-then-end-ne10
 unfolding header_of
-returns-then-end-ne10 c = simp (c.in-Of.is, lt-ltb _ _ c.if-atoms-ge65536.false, lt-ltb _ _ c.if-mask-ge8.false, lt-ltb _ _ c.if-radius-ge4294967296.false, ne_eqb _ _ c.if-end-ne10.true)
+returns-then-end-ne10 c = simp (c.in-Some.is, lt-ltb _ _ c.if-atoms-ge65536.false, lt-ltb _ _ c.if-mask-ge8.false, lt-ltb _ _ c.if-radius-ge4294967296.false, ne_eqb _ _ c.if-end-ne10.true)
 
 pub returns : goal.returns
 unfolding header_of
-returns c = simp (c.in-Of.is, lt-ltb _ _ c.if-atoms-ge65536.false, lt-ltb _ _ c.if-mask-ge8.false, lt-ltb _ _ c.if-radius-ge4294967296.false, eq-eqb _ _ c.if-end-ne10.false)
+returns c = simp (c.in-Some.is, lt-ltb _ _ c.if-atoms-ge65536.false, lt-ltb _ _ c.if-mask-ge8.false, lt-ltb _ _ c.if-radius-ge4294967296.false, eq-eqb _ _ c.if-end-ne10.false)

@@ -1,11 +1,8 @@
-use Prim.Native.Nat.{◌≤◌, ◌+◌, ◌-◌}
+use Prim.Native.Nat.{◌+◌}
 use Rattle.sheet.specs.Reading.{lead_of}
-use lib.ListN.{length, drop}
+use lib.ListN.{drop}
 use mathlib.Core.Path.{◌≡◌}
 use Rattle.sheet_moved.proofs.first_typed.Given as goal
 
 abbrev pub invariant-loop-i : goal.invariant-loop-i
-invariant-loop-i l = (l.i ≤ length l.species) × (lead_of 0 l.species ≡ l.i + lead_of 0 (drop l.i l.species))
-
-abbrev pub decreases-loop-i : goal.decreases-loop-i
-decreases-loop-i l = length l.species - l.i
+invariant-loop-i l = lead_of 0 l.species ≡ l.i + lead_of 0 (drop l.i l.species)

@@ -1,4 +1,3 @@
-use Prim.Native.Nat.{◌-◌, ◌≤◌}
 use Rattle.lists.specs.Lists.{rows}
 use Rattle.sheet_printed.specs.Printed.{pair_lines}
 use lib.ListN.{take}
@@ -7,7 +6,4 @@ use mathlib.Core.Path.{◌≡◌}
 use Rattle.sheet_printed.proofs.put_pairs.Given as goal
 
 abbrev pub invariant-loop-i : goal.invariant-loop-i
-invariant-loop-i l = (l.i ≤ l.count) × (l.out ≡ sets l.initial.out 21 (pair_lines (take l.i (rows l.pairs))))
-
-abbrev pub decreases-loop-i : goal.decreases-loop-i
-decreases-loop-i l = l.count - l.i
+invariant-loop-i l = l.out ≡ sets l.initial.out 21 (pair_lines (take l.i (rows l.pairs)))

@@ -4,8 +4,8 @@ use mathlib.Core.Path.{sym, ◌∙◌}
 use native.Mathlib.Omega.{arith}
 use Rattle.strike.proofs.put.Goals as goal
 
-pub returns-in-Refused : goal.returns-in-Refused
-returns-in-Refused c = put_refused c.args.count c.args.new c.args.s (atoms c.args.positions.now c.args.velocities.now c.args.masses.now c.args.charges.now c.args.species.now) c.in-Refused.why (sym c.put-a.ensures ∙ c.in-Refused.is)
+pub returns-in-Err : goal.returns-in-Err
+returns-in-Err c = put_refused c.args.count c.args.new c.args.s (atoms c.args.positions.now c.args.velocities.now c.args.masses.now c.args.charges.now c.args.species.now) c.in-Err.why (sym c.put-a.ensures ∙ c.in-Err.is)
 
 pub lay-requires : goal.lay-requires
 lay-requires c = (roomy_of c.args.count c.args.new (atoms c.args.positions.now c.args.velocities.now c.args.masses.now c.args.charges.now c.args.species.now) (sym c.put-a.ensures ∙ c.in_default.is)).positions

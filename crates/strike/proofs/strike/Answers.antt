@@ -4,8 +4,8 @@ use mathlib.Core.Path.{sym, ◌∙◌}
 use native.Mathlib.Omega.{arith}
 use Rattle.strike.proofs.strike.Goals as goal
 
-pub returns-in-Refused : goal.returns-in-Refused
-returns-in-Refused c = strike_refused c.args.marks.now c.args.s (atoms c.args.positions.now c.args.velocities.now c.args.masses.now c.args.charges.now c.args.species.now) (links c.args.bonds.now c.args.lengths.now c.args.ks.now c.args.angles.now c.args.per_angle.now c.args.exclusions.now) c.in-Refused.why (sym c.strike-a.ensures ∙ c.in-Refused.is)
+pub returns-in-Err : goal.returns-in-Err
+returns-in-Err c = strike_refused c.args.marks.now c.args.s (atoms c.args.positions.now c.args.velocities.now c.args.masses.now c.args.charges.now c.args.species.now) (links c.args.bonds.now c.args.lengths.now c.args.ks.now c.args.angles.now c.args.per_angle.now c.args.exclusions.now) c.in-Err.why (sym c.strike-a.ensures ∙ c.in-Err.is)
 
 pub number-requires : goal.number-requires
 number-requires c = ((fit_of c.args.marks.now (atoms c.args.positions.now c.args.velocities.now c.args.masses.now c.args.charges.now c.args.species.now) (links c.args.bonds.now c.args.lengths.now c.args.ks.now c.args.angles.now c.args.per_angle.now c.args.exclusions.now) (sym c.strike-a.ensures ∙ c.in_default.is)).few, omega (arith, c.blank-fresh.ensures, (fit_of c.args.marks.now (atoms c.args.positions.now c.args.velocities.now c.args.masses.now c.args.charges.now c.args.species.now) (links c.args.bonds.now c.args.lengths.now c.args.ks.now c.args.angles.now c.args.per_angle.now c.args.exclusions.now) (sym c.strike-a.ensures ∙ c.in_default.is)).few))

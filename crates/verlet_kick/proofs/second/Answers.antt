@@ -1,9 +1,9 @@
 use Rattle.verlet_kick.specs.Kick.{second_kick_after}
 use Rattle.verlet_kick.proofs.second.Goals as goal
 
-pub returns-in-Refused : goal.returns-in-Refused
+pub returns-in-Err : goal.returns-in-Err
 unfolding second_kick_after
-returns-in-Refused c = rw c.in-Refused.is
+returns-in-Err c = rw c.in-Err.is
 
 pub returns : goal.returns
 unfolding second_kick_after

@@ -5,15 +5,15 @@ use Rattle.virial.proofs.pressure_tensor.Goals as goal
 
 pub returns-then-velocities-atoms : goal.returns-then-velocities-atoms
 unfolding tensor_outcome
-returns-then-velocities-atoms c = rw (ne_eqb _ _ c.if-velocities-atoms.true, c.refused.ensures.0, c.refused.ensures.1)
+returns-then-velocities-atoms c = rw (ne_eqb _ _ c.if-velocities-atoms.true)
 
 pub returns-then-atoms-gt-MOST : goal.returns-then-atoms-gt-MOST
 unfolding tensor_outcome
-returns-then-atoms-gt-MOST c = rw (eq-eqb _ _ c.if-velocities-atoms.false, lt-leb _ _ c.if-atoms-gt-MOST.true, c.refused-then-atoms-gt-MOST.ensures.0, c.refused-then-atoms-gt-MOST.ensures.1)
+returns-then-atoms-gt-MOST c = rw (eq-eqb _ _ c.if-velocities-atoms.false, lt-leb _ _ c.if-atoms-gt-MOST.true)
 
 pub returns-then-not-tensor_in_range : goal.returns-then-not-tensor_in_range
 unfolding tensor_outcome
-returns-then-not-tensor_in_range c = rw (eq-eqb _ _ c.if-velocities-atoms.false, le-leb _ _ c.if-atoms-gt-MOST.false, ← c.tensor_in_range.ensures, not-true c.tensor_in_range.result (ap not c.if-not-tensor_in_range.true), c.refused-then-not-tensor_in_range.ensures.0, c.refused-then-not-tensor_in_range.ensures.1)
+returns-then-not-tensor_in_range c = rw (eq-eqb _ _ c.if-velocities-atoms.false, le-leb _ _ c.if-atoms-gt-MOST.false, ← c.tensor_in_range.ensures, not-true c.tensor_in_range.result (ap not c.if-not-tensor_in_range.true))
 
 pub returns : goal.returns
 unfolding tensor_outcome

@@ -7,4 +7,4 @@ returns-then-virial_in_range c = rw (← c.virial_in_range.ensures, c.if-virial_
 
 pub returns : goal.returns
 unfolding virial_outcome
-returns c = rw (← c.virial_in_range.ensures, c.if-virial_in_range.false, c.refused.ensures.0, c.refused.ensures.1)
+returns c = rw (← c.virial_in_range.ensures, c.if-virial_in_range.false)

@@ -1,13 +1,6 @@
-use Rattle.candidates.proofs.Turns.{count_begin, count_step, count_end}
+use Rattle.candidates.proofs.Turns.{count_step, count_end}
 use Rattle.candidates.specs.Checks.{rows_below}
-use native.Mathlib.Omega.{arith}
 use Rattle.candidates.proofs.kernel.rows_below.Goals as goal
-
-pub loop-k-init : goal.loop-k-init
-loop-k-init c = count_begin
-
-pub overflow_add-count : goal.overflow_add-count
-overflow_add-count c = omega (arith, c.one-count.ensures.upper_bound, c.loop-k.invariant.few, c.loop-k.invariant.most)
 
 pub loop-k-preserved : goal.loop-k-preserved
 loop-k-preserved c = count_step c.loop-k.invariant c.loop-k-test.true c.is_there.ensures c.one-count.ensures.value c.one-count.ensures.upper_bound

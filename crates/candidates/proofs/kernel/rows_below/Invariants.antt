@@ -1,11 +1,6 @@
-use Prim.Native.Nat.{◌-◌, ◌/◌}
 use Rattle.candidates.proofs.Turns.{Counting}
 use Rattle.candidates.specs.Checks.{there}
-use lib.ListN.{length}
 use Rattle.candidates.proofs.kernel.rows_below.Given as goal
 
 abbrev pub invariant-loop-k : goal.invariant-loop-k
 invariant-loop-k l = Counting (there l.n) l.table l.count l.k
-
-abbrev pub decreases-loop-k : goal.decreases-loop-k
-decreases-loop-k l = length l.table / 2 - l.k

@@ -1,4 +1,3 @@
-use Prim.Native.Nat.{◌-◌, ◌/◌}
 use Rattle.candidates.proofs.Turns.{Counting}
 use Rattle.candidates.specs.Checks.{beside_in, cell_from}
 use lib.ListN.{length}
@@ -6,6 +5,3 @@ use Rattle.candidates.proofs.kernel.rows_touching.Given as goal
 
 abbrev pub invariant-loop-k : goal.invariant-loop-k
 invariant-loop-k l = Counting (beside_in l.g (length l.places) (cell_from l.g l.places)) l.table l.count l.k
-
-abbrev pub decreases-loop-k : goal.decreases-loop-k
-decreases-loop-k l = length l.table / 2 - l.k

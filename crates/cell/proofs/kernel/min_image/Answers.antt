@@ -1,10 +1,10 @@
 use Rattle.cell.specs.Cell.{image_of}
 use Rattle.cell.proofs.kernel.min_image.Goals as goal
 
-pub returns-in-Absent : goal.returns-in-Absent
+pub returns-in-None : goal.returns-in-None
 unfolding image_of
-returns-in-Absent c = simp (c.none.ensures, c.in-Absent.is)
+returns-in-None c = simp (c.none.ensures, c.in-None.is)
 
-pub returns-in-Present : goal.returns-in-Present
+pub returns-in-Some : goal.returns-in-Some
 unfolding image_of
-returns-in-Present c = simp (c.lattice_image.ensures, c.lattice_boxes.ensures, c.in-Present.is)
+returns-in-Some c = simp (c.lattice_image.ensures, c.lattice_boxes.ensures, c.in-Some.is)

@@ -1,10 +1,10 @@
 use Rattle.cell.specs.Ranged.{cell_in_range}
 use Rattle.cell.proofs.ranged.cell_in_range.Goals as goal
 
-pub returns-in-Absent : goal.returns-in-Absent
+pub returns-in-None : goal.returns-in-None
 unfolding cell_in_range
-returns-in-Absent c = cc
+returns-in-None c = cc
 
-pub returns-in-Present : goal.returns-in-Present
+pub returns-in-Some : goal.returns-in-Some
 unfolding cell_in_range
-returns-in-Present c = simp (c.lattice_in_range.ensures, c.in-Present.is)
+returns-in-Some c = simp (c.lattice_in_range.ensures, c.in-Some.is)

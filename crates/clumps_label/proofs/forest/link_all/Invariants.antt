@@ -1,4 +1,4 @@
-use Prim.Native.Nat.{◌≤◌, ◌-◌, ◌/◌}
+use Prim.Native.Nat.{◌≤◌, ◌/◌}
 use Rattle.clumps_label.specs.Label.{linked}
 use Rattle.clumps_label.specs.Steps.{Moved}
 use Rattle.lists.specs.Lists.{rows}
@@ -8,6 +8,3 @@ use Rattle.clumps_label.proofs.forest.link_all.Given as goal
 
 abbrev pub invariant-loop-k : goal.invariant-loop-k
 invariant-loop-k l = (l.k ≤ length l.pairs / 2) × Moved (λ f. foldl linked f (take l.k (rows l.pairs))) l.initial.p l.p
-
-abbrev pub decreases-loop-k : goal.decreases-loop-k
-decreases-loop-k l = l.m - l.k

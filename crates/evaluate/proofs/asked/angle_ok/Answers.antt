@@ -1,8 +1,8 @@
 use Rattle.evaluate.specs.Asked.{angle_ok}
 use Rattle.evaluate.proofs.asked.angle_ok.Goals as goal
 
-pub returns-in-Absent : goal.returns-in-Absent
-returns-in-Absent c = unfold angle_ok in rw c.in-Absent.is
+pub returns-in-None : goal.returns-in-None
+returns-in-None c = unfold angle_ok in rw c.in-None.is
 
-pub returns-in-Present : goal.returns-in-Present
-returns-in-Present c = unfold angle_ok in rw c.in-Present.is c.angle_in_range.ensures
+pub returns-in-Some : goal.returns-in-Some
+returns-in-Some c = unfold angle_ok in rw c.in-Some.is c.angle_in_range.ensures

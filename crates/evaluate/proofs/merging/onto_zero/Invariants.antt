@@ -7,6 +7,3 @@ use Rattle.evaluate.proofs.merging.onto_zero.Given as goal
 
 abbrev pub invariant-loop-k : goal.invariant-loop-k
 invariant-loop-k l = (l.k ≤ length l.initial.forces) × (length l.forces ≡ length l.initial.forces) × (l.forces ≡ part_at onto_zero l.k l.initial.forces)
-
-abbrev pub decreases-loop-k : goal.decreases-loop-k
-decreases-loop-k l = length l.initial.forces - l.k

@@ -6,4 +6,4 @@ pub returns-in_default : goal.returns-in_default
 returns-in_default c = unfold coulomb_gives in rw c.in_default.is (merged_none _)
 
 pub returns : goal.returns
-returns c = unfold coulomb_gives in rw c.in-Present.is (merged_one _ c.coulomb_pairs-own.ensures c.merge.ensures)
+returns c = unfold coulomb_gives in rw c.in-Some.is (merged_one _ c.coulomb_pairs-own.ensures c.merge.ensures)

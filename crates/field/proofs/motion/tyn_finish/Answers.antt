@@ -1,4 +1,4 @@
 use Rattle.field.proofs.motion.tyn_finish.Goals as goal
 
 pub returns : goal.returns
-returns c = rw (← c.setting.ensures, ← c.pace.ensures, ← c.state.ensures) (record { answer = c.finish.result; handed = c.stepped.ensures; says = (c.finish.ensures.says, c.finish.ensures.lists) })
+returns c = rw (← c.into.ensures, ← c.into-2.ensures, ← c.into-3.ensures) (record { answer = c.finish.result; handed = c.into-4.ensures; says = (c.finish.ensures.says, c.finish.ensures.lists) })

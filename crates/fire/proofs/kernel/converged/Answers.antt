@@ -1,9 +1,9 @@
 use Rattle.fire.specs.Calls.{converged_of}
 use Rattle.fire.proofs.kernel.converged.Goals as goal
 
-pub returns-in-Refused : goal.returns-in-Refused
+pub returns-in-Err : goal.returns-in-Err
 unfolding converged_of
-returns-in-Refused c = rw c.in-Refused.is
+returns-in-Err c = rw c.in-Err.is
 
 pub returns : goal.returns
 unfolding converged_of

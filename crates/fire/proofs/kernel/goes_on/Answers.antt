@@ -1,9 +1,9 @@
 use Rattle.fire.specs.Calls.{goes_on}
 use Rattle.fire.proofs.kernel.goes_on.Goals as goal
 
-pub returns-in-Refused : goal.returns-in-Refused
+pub returns-in-Err : goal.returns-in-Err
 unfolding goes_on
-returns-in-Refused c = rw c.in-Refused.is
+returns-in-Err c = rw c.in-Err.is
 
 pub returns : goal.returns
 unfolding goes_on

@@ -1,9 +1,9 @@
 use Rattle.fire.specs.Steps.{paced_first}
 use Rattle.fire.proofs.kernel.rest.Goals as goal
 
-pub returns-in-Refused : goal.returns-in-Refused
+pub returns-in-Err : goal.returns-in-Err
 unfolding paced_first
-returns-in-Refused c = rw (c.stage_of.ensures, c.first_step-last.ensures, c.fresh-gait.ensures, c.in-Refused.is) (rw (← c.in-Refused.is))
+returns-in-Err c = rw (c.stage_of.ensures, c.first_step-last.ensures, c.fresh-gait.ensures, c.in-Err.is) (rw (← c.in-Err.is))
 
 pub returns : goal.returns
 unfolding paced_first

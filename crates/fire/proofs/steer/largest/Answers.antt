@@ -6,12 +6,12 @@ use mathlib.Core.Path.{◌≡◌, sym}
 use native.Mathlib.Omega.{arith}
 use Rattle.fire.proofs.steer.largest.Goals as goal
 
-pub loop-k-init : goal.loop-k-init
-loop-k-init c = (search rules, sym (fold_up_to_none _ _))
+pub loop-f-init : goal.loop-f-init
+loop-f-init c = (search rules, sym (fold_up_to_none _ _))
 
-pub loop-k-preserved : goal.loop-k-preserved
-loop-k-preserved c = (search rules, fold_up_to_turn _ c.loop-k.k _ c.loop-k.invariant.1 (rw (c.max-m.ensures, c.abs.ensures)))
+pub loop-f-preserved : goal.loop-f-preserved
+loop-f-preserved c = (search rules, fold_up_to_turn _ c.loop-f.f-index _ c.loop-f.invariant.1 (rw (c.max-m.ensures, c.abs.ensures)))
 
 pub returns : goal.returns
 unfolding largest_force
-returns c = let e : c.loop-k.k ≡ length c.args.fs.now = omega arith in rw (← e) c.loop-k.invariant.1
+returns c = let e : c.loop-f.f-index ≡ length c.args.fs.now = omega arith in rw (← e) c.loop-f.invariant.1

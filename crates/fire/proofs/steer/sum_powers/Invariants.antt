@@ -7,6 +7,3 @@ use Rattle.fire.proofs.steer.sum_powers.Given as goal
 
 abbrev pub invariant-loop-i : goal.invariant-loop-i
 invariant-loop-i l = (l.i ≤ l.n) × (l.n ≡ min (length l.fs / 3) (length l.vs / 3)) × (l.p ≡ fold_up_to (powered_at l.fs l.vs) l.i no_powers)
-
-abbrev pub decreases-loop-i : goal.decreases-loop-i
-decreases-loop-i l = l.n - l.i

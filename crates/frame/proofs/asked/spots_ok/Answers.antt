@@ -1,22 +1,9 @@
-use Rattle.frame.proofs.Ranges.{passing_begin, passing_turn, passing_fails, passing_end, failed, passed}
-use native.Mathlib.Omega.{arith}
+use Rattle.frame.proofs.Ranges.{passing_turn, passing_fails, passing_end, failed, passed}
 use Rattle.std.proofs.Common.{ap, not}
 use Rattle.frame.proofs.asked.spots_ok.Goals as goal
 
-pub loop-i-init : goal.loop-i-init
-loop-i-init c = passing_begin _ _
-
-pub spot_at-requires : goal.spot_at-requires
-spot_at-requires c = omega (arith, c.loop-i-test.true)
-
 pub returns-then-not-spot_ok : goal.returns-then-not-spot_ok
 returns-then-not-spot_ok c = passing_fails _ _ c.loop-i.invariant c.loop-i-test.true (failed (rw c.spot_at.ensures at c.spot_ok.ensures) (ap not c.if-not-spot_ok.true))
-
-pub overflow_add-i : goal.overflow_add-i
-overflow_add-i c = omega (arith, c.loop-i-test.true)
-
-pub loop-i-smaller : goal.loop-i-smaller
-loop-i-smaller c = omega (arith, c.loop-i-test.true)
 
 pub loop-i-preserved : goal.loop-i-preserved
 loop-i-preserved c = passing_turn _ _ c.loop-i.invariant c.loop-i-test.true (passed (rw c.spot_at.ensures at c.spot_ok.ensures) (ap not c.if-not-spot_ok.false))

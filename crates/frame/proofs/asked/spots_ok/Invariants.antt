@@ -1,4 +1,4 @@
-use Prim.Native.Nat.{◌-◌, ◌/◌}
+use Prim.Native.Nat.{◌/◌}
 use Rattle.frame.proofs.Ranges.{Passing}
 use Rattle.frame.specs.Distance.{spot_of, spot_ok}
 use lib.ListN.{length}
@@ -6,6 +6,3 @@ use Rattle.frame.proofs.asked.spots_ok.Given as goal
 
 abbrev pub invariant-loop-i : goal.invariant-loop-i
 invariant-loop-i l = Passing (λ k. spot_ok l.f (spot_of l.xs k)) (length l.xs / 3) l.i
-
-abbrev pub decreases-loop-i : goal.decreases-loop-i
-decreases-loop-i l = l.n - l.i

@@ -5,20 +5,8 @@ use Rattle.frame.proofs.laying.bin_atoms.Goals as goal
 pub loop-i-init : goal.loop-i-init
 loop-i-init c = filling_begin _ _ _
 
-pub spot_at-requires : goal.spot_at-requires
-spot_at-requires c = omega (arith, c.loop-i.invariant.same, c.loop-i-test.true, c.requires.places_in_bounds)
-
-pub place_of-p-requires : goal.place_of-p-requires
-place_of-p-requires c = record { gridded = c.requires.framed.1; inside = rw c.spot_at.ensures (c.requires.framed.0.inside _ (omega (arith, c.loop-i.invariant.same, c.loop-i-test.true, c.requires.places_in_bounds))) }
-
-pub loop-i-smaller : goal.loop-i-smaller
-loop-i-smaller c = omega (arith, c.loop-i.invariant.same, c.loop-i-test.true)
-
 pub loop-i-preserved : goal.loop-i-preserved
-loop-i-preserved c = filling_turn _ _ _ c.loop-i.invariant c.loop-i-test.true (rw c.spot_at.ensures at c.place_of-p.ensures)
-
-pub shape_of-places : goal.shape_of-places
-shape_of-places c = c.loop-i.invariant.same
+loop-i-preserved c = filling_turn _ _ _ c.loop-i.invariant (omega (arith, c.loop-i.invariant.same)) (rw c.spot_at.ensures at c.place_of-p.ensures)
 
 pub returns : goal.returns
-returns c = filling_end _ _ _ c.loop-i.invariant c.loop-i-test.false
+returns c = filling_end _ _ _ c.loop-i.invariant (omega (arith, c.loop-i.invariant.same))

@@ -1,10 +1,5 @@
-use Prim.Native.Nat.{◌-◌}
 use Rattle.frame.proofs.Plans.{Filling}
-use lib.ListN.{length}
 use Rattle.frame.proofs.laying.bin_atoms.Given as goal
 
 abbrev pub invariant-loop-i : goal.invariant-loop-i
 invariant-loop-i l = Filling l.f l.xs l.initial.places l.places l.i
-
-abbrev pub decreases-loop-i : goal.decreases-loop-i
-decreases-loop-i l = length l.initial.places - l.i

@@ -1,13 +1,8 @@
-use Prim.Native.Nat.{◌+◌, ◌-◌, ◌≤◌}
+use Prim.Native.Nat.{◌+◌, ◌-◌}
 use Rattle.bins.proofs.Runs.{Run}
 use Rattle.frame.specs.Steps.{scene_by}
 use Rattle.lists.specs.Lists.{with_each, numbers}
-use lib.ListN.{length}
-use mathlib.Core.Path.{◌≡◌}
 use Rattle.frame.proofs.listing.consider_above.Given as goal
 
 abbrev pub invariant-loop-j : goal.invariant-loop-j
-invariant-loop-j l = (l.j ≤ l.n) × (length l.pairs ≡ length l.initial.pairs) × Run (scene_by l.f l.xs l.table) (record { tally = l.initial.now; mem = l.initial.pairs }) (record { tally = l.now; mem = l.pairs }) (with_each l.i (numbers (l.i + 1) (l.n - (l.i + 1)))) (with_each l.i (numbers l.j (l.n - l.j)))
-
-abbrev pub decreases-loop-j : goal.decreases-loop-j
-decreases-loop-j l = l.n - l.j
+invariant-loop-j l = Run (scene_by l.f l.xs l.table) (record { tally = l.initial.now; mem = l.initial.pairs }) (record { tally = l.now; mem = l.pairs }) (with_each l.i (numbers (l.i + 1) (l.n - (l.i + 1)))) (with_each l.i (numbers l.j (l.n - l.j)))

@@ -1,13 +1,8 @@
-use Prim.Native.Nat.{◌-◌, ◌≤◌}
 use Rattle.bins.proofs.Runs.{Run}
 use Rattle.frame.specs.Steps.{scene_by}
 use Rattle.lists.specs.Lists.{across}
-use lib.ListN.{length, drop}
-use mathlib.Core.Path.{◌≡◌}
+use lib.ListN.{drop}
 use Rattle.frame.proofs.listing.consider_cross.Given as goal
 
-abbrev pub invariant-loop-k : goal.invariant-loop-k
-invariant-loop-k l = (l.k ≤ length l.home) × (length l.pairs ≡ length l.initial.pairs) × Run (scene_by l.f l.xs l.table) (record { tally = l.initial.now; mem = l.initial.pairs }) (record { tally = l.now; mem = l.pairs }) (across l.home l.other) (across (drop l.k l.home) l.other)
-
-abbrev pub decreases-loop-k : goal.decreases-loop-k
-decreases-loop-k l = length l.home - l.k
+abbrev pub invariant-loop-i : goal.invariant-loop-i
+invariant-loop-i l = Run (scene_by l.f l.xs l.table) (record { tally = l.initial.now; mem = l.initial.pairs }) (record { tally = l.now; mem = l.pairs }) (across l.home l.other) (across (drop l.i-index l.home) l.other)

@@ -1,26 +1,15 @@
 use Rattle.bins.proofs.Sweeps.{cells_begin, cell_turn, cell_ready, cells_end, cell_in}
 use Rattle.frame.specs.Steps.{atoms_by}
-use mathlib.Core.Path.{refl, ◌∙◌}
-use native.Mathlib.Omega.{arith}
 use Rattle.frame.proofs.sweep.sweep_all.Goals as goal
 
 pub loop-h-init : goal.loop-h-init
-loop-h-init c = (omega arith, refl, cells_begin _ _ c.requires.ready)
+loop-h-init c = cells_begin _ _ c.requires.ready
 
 pub sweep_cell-now-requires : goal.sweep_cell-now-requires
-sweep_cell-now-requires c = record { swept = c.requires.swept; in_grid = cell_in c.args.g c.loop-h.h c.cell_count-count.ensures c.loop-h-test.true c.home_of-home.ensures; ready = cell_ready c.args.g (atoms_by c.args.f c.args.xs.now) c.loop-h.h c.cell_count-count.ensures c.loop-h-test.true c.home_of-home.ensures c.loop-h.invariant.2 }
-
-pub overflow_add-h : goal.overflow_add-h
-overflow_add-h c = omega (arith, c.loop-h-test.true)
-
-pub loop-h-smaller : goal.loop-h-smaller
-loop-h-smaller c = omega (arith, c.loop-h-test.true)
+sweep_cell-now-requires c = record { swept = c.requires.swept; in_grid = cell_in c.args.g c.loop-h.h c.cell_count-count.ensures c.loop-h-test.true c.home_of-home.ensures; ready = cell_ready c.args.g (atoms_by c.args.f c.args.xs.now) c.loop-h.h c.cell_count-count.ensures c.loop-h-test.true c.home_of-home.ensures c.loop-h.invariant }
 
 pub loop-h-preserved : goal.loop-h-preserved
-loop-h-preserved c = (omega (arith, c.loop-h-test.true), c.sweep_cell-now.auto.pairs ∙ c.loop-h.invariant.1, cell_turn c.args.g (atoms_by c.args.f c.args.xs.now) c.loop-h.h c.cell_count-count.ensures c.loop-h-test.true c.home_of-home.ensures _ c.loop-h.invariant.2 c.sweep_cell-now.ensures)
-
-pub shape_of-pairs : goal.shape_of-pairs
-shape_of-pairs c = c.loop-h.invariant.1
+loop-h-preserved c = cell_turn c.args.g (atoms_by c.args.f c.args.xs.now) c.loop-h.h c.cell_count-count.ensures c.loop-h-test.true c.home_of-home.ensures _ c.loop-h.invariant c.sweep_cell-now.ensures
 
 pub returns : goal.returns
-returns c = cells_end c.args.g (atoms_by c.args.f c.args.xs.now) c.loop-h.h c.cell_count-count.ensures c.loop-h-test.false c.loop-h.invariant.2
+returns c = cells_end c.args.g (atoms_by c.args.f c.args.xs.now) c.loop-h.h c.cell_count-count.ensures c.loop-h-test.false c.loop-h.invariant

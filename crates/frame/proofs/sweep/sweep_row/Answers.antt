@@ -10,13 +10,13 @@ pub returns-in_default : goal.returns-in_default
 returns-in_default c = rw (row_none c.args.g (atoms_by c.args.f c.args.xs.now) c.args.home c.args.s c.offset_index-o.ensures c.in_default.is)
 
 pub consider_home-requires : goal.consider_home-requires
-consider_home-requires c = let g = c.args.g in let atoms : Cell → List ℕ = atoms_by c.args.f c.args.xs.now in let mine = part_is c.requires.swept c.requires.in_grid c.index.ensures c.atoms_in-mine.ensures in record { framed = c.requires.swept.framed; below = (part_below c.requires.swept c.requires.in_grid c.index.ensures c.atoms_in-mine.ensures, rw (row_home g atoms c.args.home c.args.s c.offset_index-o.ensures c.in-To.is c.if-s-eq0.true mine) at c.requires.ready) }
+consider_home-requires c = let g = c.args.g in let atoms : Cell → List ℕ = atoms_by c.args.f c.args.xs.now in let mine = part_is c.requires.swept c.requires.in_grid c.index.ensures c.atoms_in-mine.ensures in record { framed = c.requires.swept.framed; below = (part_below c.requires.swept c.requires.in_grid c.index.ensures c.atoms_in-mine.ensures, rw (row_home g atoms c.args.home c.args.s c.offset_index-o.ensures c.in-Some.is c.if-s-eq0.true mine) at c.requires.ready) }
 
 pub returns-then-s-eq0 : goal.returns-then-s-eq0
-returns-then-s-eq0 c = let g = c.args.g in let atoms : Cell → List ℕ = atoms_by c.args.f c.args.xs.now in let mine = part_is c.requires.swept c.requires.in_grid c.index.ensures c.atoms_in-mine.ensures in rw (row_home g atoms c.args.home c.args.s c.offset_index-o.ensures c.in-To.is c.if-s-eq0.true mine) c.consider_home.ensures
+returns-then-s-eq0 c = let g = c.args.g in let atoms : Cell → List ℕ = atoms_by c.args.f c.args.xs.now in let mine = part_is c.requires.swept c.requires.in_grid c.index.ensures c.atoms_in-mine.ensures in rw (row_home g atoms c.args.home c.args.s c.offset_index-o.ensures c.in-Some.is c.if-s-eq0.true mine) c.consider_home.ensures
 
 pub consider_cross-requires : goal.consider_cross-requires
-consider_cross-requires c = let g = c.args.g in let atoms : Cell → List ℕ = atoms_by c.args.f c.args.xs.now in let mine = part_is c.requires.swept c.requires.in_grid c.index.ensures c.atoms_in-mine.ensures in let there = row_other g atoms c.args.home c.args.s c.offset_index-o.ensures c.in-To.is in let theirs = part_is c.requires.swept there c.index-2.ensures c.atoms_in-theirs.ensures in record { framed = c.requires.swept.framed; below = (part_below c.requires.swept c.requires.in_grid c.index.ensures c.atoms_in-mine.ensures, part_below c.requires.swept there c.index-2.ensures c.atoms_in-theirs.ensures, rw (row_cross g atoms c.args.home c.args.s c.offset_index-o.ensures c.in-To.is c.if-s-eq0.false mine theirs) at c.requires.ready) }
+consider_cross-requires c = let g = c.args.g in let atoms : Cell → List ℕ = atoms_by c.args.f c.args.xs.now in let mine = part_is c.requires.swept c.requires.in_grid c.index.ensures c.atoms_in-mine.ensures in let there = row_other g atoms c.args.home c.args.s c.offset_index-o.ensures c.in-Some.is in let theirs = part_is c.requires.swept there c.index-2.ensures c.atoms_in-theirs.ensures in record { framed = c.requires.swept.framed; below = (part_below c.requires.swept c.requires.in_grid c.index.ensures c.atoms_in-mine.ensures, part_below c.requires.swept there c.index-2.ensures c.atoms_in-theirs.ensures, rw (row_cross g atoms c.args.home c.args.s c.offset_index-o.ensures c.in-Some.is c.if-s-eq0.false mine theirs) at c.requires.ready) }
 
 pub returns : goal.returns
-returns c = let g = c.args.g in let atoms : Cell → List ℕ = atoms_by c.args.f c.args.xs.now in let mine = part_is c.requires.swept c.requires.in_grid c.index.ensures c.atoms_in-mine.ensures in let there = row_other g atoms c.args.home c.args.s c.offset_index-o.ensures c.in-To.is in let theirs = part_is c.requires.swept there c.index-2.ensures c.atoms_in-theirs.ensures in rw (row_cross g atoms c.args.home c.args.s c.offset_index-o.ensures c.in-To.is c.if-s-eq0.false mine theirs) c.consider_cross.ensures
+returns c = let g = c.args.g in let atoms : Cell → List ℕ = atoms_by c.args.f c.args.xs.now in let mine = part_is c.requires.swept c.requires.in_grid c.index.ensures c.atoms_in-mine.ensures in let there = row_other g atoms c.args.home c.args.s c.offset_index-o.ensures c.in-Some.is in let theirs = part_is c.requires.swept there c.index-2.ensures c.atoms_in-theirs.ensures in rw (row_cross g atoms c.args.home c.args.s c.offset_index-o.ensures c.in-Some.is c.if-s-eq0.false mine theirs) c.consider_cross.ensures

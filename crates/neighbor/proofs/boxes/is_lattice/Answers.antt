@@ -1,10 +1,10 @@
 use Rattle.neighbor.specs.Rebuild.{same_box}
 use Rattle.neighbor.proofs.boxes.is_lattice.Goals as goal
 
-pub returns-in-Absent : goal.returns-in-Absent
+pub returns-in-None : goal.returns-in-None
 unfolding same_box
-returns-in-Absent c = cc
+returns-in-None c = cc
 
-pub returns-in-Present : goal.returns-in-Present
+pub returns-in-Some : goal.returns-in-Some
 unfolding same_box
-returns-in-Present c = simp (c.same_lattice.ensures, c.in-Present.is)
+returns-in-Some c = simp (c.same_lattice.ensures, c.in-Some.is)

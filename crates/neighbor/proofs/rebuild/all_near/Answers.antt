@@ -1,8 +1,5 @@
-use Rattle.neighbor.proofs.Asking.{looking_begin, looking_turn, looking_end}
+use Rattle.neighbor.proofs.Asking.{looking_turn, looking_end}
 use Rattle.neighbor.proofs.rebuild.all_near.Goals as goal
-
-pub loop-k-init : goal.loop-k-init
-loop-k-init c = looking_begin _ _ _
 
 pub loop-k-preserved : goal.loop-k-preserved
 loop-k-preserved c = looking_turn _ _ _ c.loop-k.invariant c.loop-k-test.true c.is_within-ok.ensures

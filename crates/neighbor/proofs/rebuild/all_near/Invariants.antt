@@ -1,4 +1,4 @@
-use Rattle.std.proofs.Common.{◌-◌, ◌*◌}
+use Rattle.std.proofs.Common.{◌*◌}
 use Rattle.float.specs.Arith.{at, ◌⊖◌}
 use Rattle.neighbor.proofs.Asking.{Looking}
 use Rattle.ranges.specs.Ranged.{within}
@@ -6,6 +6,3 @@ use Rattle.neighbor.proofs.rebuild.all_near.Given as goal
 
 abbrev pub invariant-loop-k : goal.invariant-loop-k
 invariant-loop-k l = Looking (λ k. within l.t (at l.xs k ⊖ at l.refs k)) (3 * l.from) l.end l.ok l.k
-
-abbrev pub decreases-loop-k : goal.decreases-loop-k
-decreases-loop-k l = l.end - l.k

@@ -1,4 +1,4 @@
-use Rattle.std.proofs.Common.{◌≡◌, length, refl, arith, length-set}
+use Rattle.std.proofs.Common.{refl, arith, length-set}
 use Rattle.float.specs.Arith.{at}
 use Rattle.lists.proofs.Loops.{part_turn, part_none}
 use lib.Ieee.{nan}
@@ -9,6 +9,3 @@ loop-k-init c = (omega arith, refl, part_none (λ j _. at c.args.xs.now j) nan c
 
 pub loop-k-preserved : goal.loop-k-preserved
 loop-k-preserved c = (omega arith, simp length-set c.loop-k.invariant.1, part_turn (λ j _. at c.args.xs.now j) nan c.loop-k.k c.args.refs.now (omega (arith, c.requires)) c.loop-k.invariant.2 refl)
-
-pub returns : goal.returns
-returns c = let e : c.loop-k.k ≡ length c.args.xs.now = omega (arith, c.loop-k.invariant.0, c.loop-k-test.false) in rw (← e) c.loop-k.invariant.2

@@ -1,7 +1,7 @@
 use Rattle.neighbor_grid.proofs.measuring.measure_of.Goals as goal
 
-pub returns-in-Absent : goal.returns-in-Absent
-returns-in-Absent c = cc
+pub returns-in-None : goal.returns-in-None
+returns-in-None c = cc
 
-pub returns-in-Present : goal.returns-in-Present
-returns-in-Present c = simp (c.measure_lattice.ensures, c.in-Present.is)
+pub returns-in-Some : goal.returns-in-Some
+returns-in-Some c = simp (c.measure_lattice.ensures, c.in-Some.is)

@@ -1,41 +1,24 @@
 use Rattle.bins.proofs.Runs.{run_begin, run_with_end}
-use Rattle.neighbor_listing.proofs.Sifted.{run_piece, ready_piece, piece_long, below_piece}
-use mathlib.Core.Path.{refl, ◌∙◌}
+use Rattle.neighbor_listing.proofs.Sifted.{run_piece, ready_piece, below_first, below_later}
+use Rattle.std.specs.Slice.Iter.{chunks_rest, chunks_size}
+use mathlib.Core.Path.{ap, refl, ◌∙◌}
 use native.Mathlib.Omega.{arith}
 use Rattle.neighbor_listing.proofs.loops.consider_part.Goals as goal
 
-pub spot_at-a-requires : goal.spot_at-a-requires
-spot_at-a-requires c = c.requires.0
-
-pub loop-k-init : goal.loop-k-init
-loop-k-init c = (omega arith, refl, run_begin _ c.requires.2)
-
-pub part_end-to-requires : goal.part_end-to-requires
-part_end-to-requires c = c.loop-k-test.true
-
-pub offset_bounds-part-k : goal.offset_bounds-part-k
-offset_bounds-part-k c = omega (arith, c.loop-k-test.true)
-
-pub slice_bounds-consider_few-count : goal.slice_bounds-consider_few-count
-slice_bounds-consider_few-count c = omega (arith, c.part_end-to.ensures.0)
-
-pub slice_bounds-consider_few-start : goal.slice_bounds-consider_few-start
-slice_bounds-consider_few-start c = omega (arith, c.part_end-to.ensures.0)
-
-pub slice_bounds-consider_few-end : goal.slice_bounds-consider_few-end
-slice_bounds-consider_few-end c = omega (arith, c.part_end-to.ensures.1)
+pub loop-few-init : goal.loop-few-init
+loop-few-init c =
+    let all = ap chunks_rest c.into_iter-few-iterator.ensures.into_iter_gives ∙ c.chunks-few-items.ensures.rest in
+    (ap chunks_size c.into_iter-few-iterator.ensures.into_iter_gives ∙ c.chunks-few-items.ensures.size, rw all c.requires.1, refl, rw all (run_begin _ c.requires.2))
 
 pub consider_few-now-requires : goal.consider_few-now-requires
-consider_few-now-requires c = (omega (arith, piece_long c.args.part.now c.args.i c.loop-k.k c.part_end-to.result c.part_end-to.ensures.0 c.part_end-to.ensures.1, c.part_end-to.ensures.2), below_piece _ c.args.i _ _ c.part_end-to.ensures.0 _ c.part_end-to.ensures.1 c.requires.1, c.spot_at-a.ensures, ready_piece _ _ _ _ c.part_end-to.ensures.0 c.loop-k.invariant.2.ready)
+consider_few-now-requires c =
+    let s = c.in-Some.ensures.steps.1 in
+    (omega (arith, s.1, c.loop-few.invariant.0), below_first _ _ _ s.0 c.loop-few.invariant.1, c.spot_at-a.ensures, ready_piece _ _ _ s.0 c.loop-few.invariant.3.ready)
 
-pub loop-k-smaller : goal.loop-k-smaller
-loop-k-smaller c = omega (arith, c.part_end-to.ensures.0, c.part_end-to.ensures.1)
-
-pub loop-k-preserved : goal.loop-k-preserved
-loop-k-preserved c = (c.part_end-to.ensures.1, c.consider_few-now.auto.pairs ∙ c.loop-k.invariant.1, run_piece _ _ _ _ c.part_end-to.ensures.0 _ c.loop-k.invariant.2 c.consider_few-now.ensures)
-
-pub shape_of-pairs : goal.shape_of-pairs
-shape_of-pairs c = c.loop-k.invariant.1
+pub loop-few-preserved : goal.loop-few-preserved
+loop-few-preserved c =
+    let s = c.in-Some.ensures.steps in
+    (s.0 ∙ c.loop-few.invariant.0, below_later _ _ _ s.1.0 c.loop-few.invariant.1, c.consider_few-now.auto.pairs ∙ c.loop-few.invariant.2, run_piece _ _ _ s.1.0 _ c.loop-few.invariant.3 c.consider_few-now.ensures)
 
 pub returns : goal.returns
-returns c = run_with_end _ _ _ c.loop-k-test.false c.loop-k.invariant.2
+returns c = run_with_end c.args.i (chunks_rest c.loop-few.few-iterator) 0 (omega (arith, c.in-None.ensures.steps.1.0)) c.loop-few.invariant.3

@@ -1,4 +1,4 @@
-use Prim.Native.Nat.{◌-◌, ◌≤◌}
+use Prim.Native.Nat.{◌≤◌}
 use Rattle.bins.proofs.Runs.{Run}
 use Rattle.lists.specs.Lists.{across}
 use Rattle.neighbor_listing.specs.Steps.{scene_by}
@@ -6,8 +6,5 @@ use lib.ListN.{length, drop}
 use mathlib.Core.Path.{◌≡◌}
 use Rattle.neighbor_listing.proofs.loops.cross_side.Given as goal
 
-abbrev pub invariant-loop-k : goal.invariant-loop-k
-invariant-loop-k l = (l.k ≤ length l.home) × (length l.pairs ≡ length l.initial.pairs) × (length l.flags ≡ 64) × (length l.room ≡ 64) × Run (scene_by l.s l.xs l.tops l.table) (record { tally = l.initial.now; mem = l.initial.pairs }) (record { tally = l.now; mem = l.pairs }) (across l.home l.other) (across (drop l.k l.home) l.other)
-
-abbrev pub decreases-loop-k : goal.decreases-loop-k
-decreases-loop-k l = length l.home - l.k
+abbrev pub invariant-loop-i : goal.invariant-loop-i
+invariant-loop-i l = (l.i-index ≤ length l.home) × (length l.pairs ≡ length l.initial.pairs) × (length l.flags ≡ 64) × (length l.room ≡ 64) × Run (scene_by l.s l.xs l.tops l.table) (record { tally = l.initial.now; mem = l.initial.pairs }) (record { tally = l.now; mem = l.pairs }) (across l.home l.other) (across (drop l.i-index l.home) l.other)

@@ -1,11 +1,6 @@
-use Prim.Native.Nat.{◌-◌}
 use Rattle.neighbor_listing.proofs.Flagging.{Flagging}
-use lib.ListN.{length}
 use mathlib.Core.Bool.{true}
 use Rattle.neighbor_listing.proofs.side.flag_stepped.Given as goal
 
 abbrev pub invariant-loop-k : goal.invariant-loop-k
 invariant-loop-k l = Flagging l.s l.i l.a l.part l.bx l.by l.bz l.initial.flags l.flags l.from l.k true
-
-abbrev pub decreases-loop-k : goal.decreases-loop-k
-decreases-loop-k l = length l.part - l.k

@@ -1,34 +1,7 @@
-use Rattle.neighbor_listing.proofs.Flagging.{flagging_begin, tilted_flagged, flagging_end}
+use Rattle.neighbor_listing.proofs.Flagging.{tilted_flagged}
 use mathlib.Core.Path.{refl}
 use native.Mathlib.Omega.{arith}
 use Rattle.neighbor_listing.proofs.side.flag_tilted.Goals as goal
 
-pub loop-k-init : goal.loop-k-init
-loop-k-init c = flagging_begin c.requires.0
-
-pub bounds-bx-k : goal.bounds-bx-k
-bounds-bx-k c = omega (arith, c.loop-k-test.true, c.requires.1, c.requires.2.x64)
-
-pub bounds-by-k : goal.bounds-by-k
-bounds-by-k c = omega (arith, c.loop-k-test.true, c.requires.1, c.requires.2.y64)
-
-pub bounds-bz-k : goal.bounds-bz-k
-bounds-bz-k c = omega (arith, c.loop-k-test.true, c.requires.1, c.requires.2.z64)
-
-pub bounds-flags-k : goal.bounds-flags-k
-bounds-flags-k c = omega (arith, c.loop-k.invariant.same, c.requires.3, c.requires.1, c.loop-k-test.true)
-
-pub overflow_add-k : goal.overflow_add-k
-overflow_add-k c = omega (arith, c.loop-k-test.true, c.requires.1)
-
-pub loop-k-smaller : goal.loop-k-smaller
-loop-k-smaller c = omega (arith, c.loop-k-test.true)
-
 pub loop-k-preserved : goal.loop-k-preserved
 loop-k-preserved c = tilted_flagged c.loop-k.invariant c.loop-k-test.true (omega (arith, c.loop-k.invariant.same, c.requires.3, c.requires.1, c.loop-k-test.true)) refl c.tilted_sees.ensures c.tilted_holds-ok.ensures c.one.ensures
-
-pub shape_of-flags : goal.shape_of-flags
-shape_of-flags c = c.loop-k.invariant.same
-
-pub returns : goal.returns
-returns c = flagging_end c.loop-k.invariant c.loop-k-test.false

@@ -11,14 +11,14 @@ returns-in_default c = rw (row_none c.args.g (atoms_by c.args.g c.args.starts.no
 
 pub consider_home-requires : goal.consider_home-requires
 consider_home-requires c = let g = c.args.g in let atoms : Cell → List ℕ = atoms_by c.args.g c.args.starts.now c.args.items.now in let mine = part_is c.requires.swept c.requires.in_grid c.index.ensures c.atoms_in-mine.ensures in
-    (part_below c.requires.swept c.requires.in_grid c.index.ensures c.atoms_in-mine.ensures, rw (row_home g atoms c.args.home c.args.row c.offset_index-o.ensures c.in-To.is c.if-row-eq0.true mine) at c.requires.ready)
+    (part_below c.requires.swept c.requires.in_grid c.index.ensures c.atoms_in-mine.ensures, rw (row_home g atoms c.args.home c.args.row c.offset_index-o.ensures c.in-Some.is c.if-row-eq0.true mine) at c.requires.ready)
 
 pub returns-then-row-eq0 : goal.returns-then-row-eq0
-returns-then-row-eq0 c = let g = c.args.g in let atoms : Cell → List ℕ = atoms_by c.args.g c.args.starts.now c.args.items.now in let mine = part_is c.requires.swept c.requires.in_grid c.index.ensures c.atoms_in-mine.ensures in rw (row_home g atoms c.args.home c.args.row c.offset_index-o.ensures c.in-To.is c.if-row-eq0.true mine) c.consider_home.ensures
+returns-then-row-eq0 c = let g = c.args.g in let atoms : Cell → List ℕ = atoms_by c.args.g c.args.starts.now c.args.items.now in let mine = part_is c.requires.swept c.requires.in_grid c.index.ensures c.atoms_in-mine.ensures in rw (row_home g atoms c.args.home c.args.row c.offset_index-o.ensures c.in-Some.is c.if-row-eq0.true mine) c.consider_home.ensures
 
 pub consider_cross-requires : goal.consider_cross-requires
-consider_cross-requires c = let g = c.args.g in let atoms : Cell → List ℕ = atoms_by c.args.g c.args.starts.now c.args.items.now in let mine = part_is c.requires.swept c.requires.in_grid c.index.ensures c.atoms_in-mine.ensures in let there = row_other g atoms c.args.home c.args.row c.offset_index-o.ensures c.in-To.is in let theirs = part_is c.requires.swept there c.index-2.ensures c.atoms_in-theirs.ensures in
-    (part_below c.requires.swept c.requires.in_grid c.index.ensures c.atoms_in-mine.ensures, part_below c.requires.swept there c.index-2.ensures c.atoms_in-theirs.ensures, rw (row_cross g atoms c.args.home c.args.row c.offset_index-o.ensures c.in-To.is c.if-row-eq0.false mine theirs) at c.requires.ready, rw mine c.requires.framed)
+consider_cross-requires c = let g = c.args.g in let atoms : Cell → List ℕ = atoms_by c.args.g c.args.starts.now c.args.items.now in let mine = part_is c.requires.swept c.requires.in_grid c.index.ensures c.atoms_in-mine.ensures in let there = row_other g atoms c.args.home c.args.row c.offset_index-o.ensures c.in-Some.is in let theirs = part_is c.requires.swept there c.index-2.ensures c.atoms_in-theirs.ensures in
+    (part_below c.requires.swept c.requires.in_grid c.index.ensures c.atoms_in-mine.ensures, part_below c.requires.swept there c.index-2.ensures c.atoms_in-theirs.ensures, rw (row_cross g atoms c.args.home c.args.row c.offset_index-o.ensures c.in-Some.is c.if-row-eq0.false mine theirs) at c.requires.ready, rw mine c.requires.framed)
 
 pub returns : goal.returns
-returns c = let g = c.args.g in let atoms : Cell → List ℕ = atoms_by c.args.g c.args.starts.now c.args.items.now in let mine = part_is c.requires.swept c.requires.in_grid c.index.ensures c.atoms_in-mine.ensures in let there = row_other g atoms c.args.home c.args.row c.offset_index-o.ensures c.in-To.is in let theirs = part_is c.requires.swept there c.index-2.ensures c.atoms_in-theirs.ensures in rw (row_cross g atoms c.args.home c.args.row c.offset_index-o.ensures c.in-To.is c.if-row-eq0.false mine theirs) c.consider_cross.ensures
+returns c = let g = c.args.g in let atoms : Cell → List ℕ = atoms_by c.args.g c.args.starts.now c.args.items.now in let mine = part_is c.requires.swept c.requires.in_grid c.index.ensures c.atoms_in-mine.ensures in let there = row_other g atoms c.args.home c.args.row c.offset_index-o.ensures c.in-Some.is in let theirs = part_is c.requires.swept there c.index-2.ensures c.atoms_in-theirs.ensures in rw (row_cross g atoms c.args.home c.args.row c.offset_index-o.ensures c.in-Some.is c.if-row-eq0.false mine theirs) c.consider_cross.ensures

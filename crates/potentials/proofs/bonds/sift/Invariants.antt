@@ -1,4 +1,4 @@
-use Prim.Native.Nat.{◌≤◌, ◌-◌}
+use Prim.Native.Nat.{◌≤◌}
 use Rattle.cell_prepared.specs.Facts.{image_in}
 use Rattle.lists.specs.Lists.{up_to, rows}
 use Rattle.potentials.specs.Blocks.{block_step, bond_at, Sifted}
@@ -9,6 +9,3 @@ use Rattle.potentials.proofs.bonds.sift.Given as goal
 
 abbrev pub invariant-loop-b : goal.invariant-loop-b
 invariant-loop-b l = (l.b ≤ l.to) × (length l.atoms ≡ length l.initial.atoms) × (length l.apart ≡ length l.initial.apart) × (length l.two ≡ length l.initial.two) × Sifted (block_step bond_at l.atoms l.apart l.two) l.c (bond_step (λ d. image_in l.p d) l.bond l.table l.lengths l.ks l.xs) (up_to (length (rows l.table))) l.from l.b
-
-abbrev pub decreases-loop-b : goal.decreases-loop-b
-decreases-loop-b l = l.to - l.b

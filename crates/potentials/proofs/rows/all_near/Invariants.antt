@@ -1,4 +1,4 @@
-use Prim.Native.Nat.{◌≤◌, ◌-◌}
+use Prim.Native.Nat.{◌≤◌}
 use Rattle.potentials.specs.Rows.{AxisSays}
 use lib.ListN.{length}
 use mathlib.Core.Path.{◌≡◌}
@@ -6,6 +6,3 @@ use Rattle.potentials.proofs.rows.all_near.Given as goal
 
 abbrev pub invariant-loop-t : goal.invariant-loop-t
 invariant-loop-t l = (l.t ≤ l.n) × (length l.ways ≡ length l.initial.ways) × AxisSays l.len l.o l.t l.initial.ways l.ways l.ok
-
-abbrev pub decreases-loop-t : goal.decreases-loop-t
-decreases-loop-t l = l.n - l.t

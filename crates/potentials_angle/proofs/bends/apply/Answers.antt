@@ -1,7 +1,7 @@
 use Rattle.potentials_angle.proofs.bends.apply.Goals as goal
 
-pub returns-in-Skip : goal.returns-in-Skip
-returns-in-Skip c = rw c.in-Skip.is
+pub returns-in-None : goal.returns-in-None
+returns-in-None c = rw c.in-None.is
 
-pub returns-in-Add : goal.returns-in-Add
-returns-in-Add c = rw (c.in-Add.is, c.push.ensures, c.with_bend.ensures)
+pub returns-in-Some : goal.returns-in-Some
+returns-in-Some c = rw (c.in-Some.is, c.push.ensures, c.with_bend.ensures)

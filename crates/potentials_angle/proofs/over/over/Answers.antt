@@ -11,12 +11,6 @@ loop-r-init c = (omega arith, refl, left_begin _ _)
 pub one-s-requires : goal.one-s-requires
 one-s-requires c = c.loop-r-test.true
 
-pub overflow_add-r : goal.overflow_add-r
-overflow_add-r c = omega (arith, c.loop-r-test.true, c.well_formed)
-
-pub loop-r-smaller : goal.loop-r-smaller
-loop-r-smaller c = omega (arith, c.loop-r-test.true)
-
 pub loop-r-preserved : goal.loop-r-preserved
 loop-r-preserved c = (omega (arith, c.loop-r-test.true), c.one-s.auto.forces ∙ c.loop-r.invariant.1, numbers_turn (length c.args.angles.now / 3) c.loop-r-test.true c.loop-r.invariant.2 c.one-s.ensures)
 

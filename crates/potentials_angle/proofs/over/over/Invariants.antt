@@ -11,6 +11,3 @@ use Rattle.potentials_angle.proofs.over.over.Given as goal
 
 abbrev pub invariant-loop-r : goal.invariant-loop-r
 invariant-loop-r l = (l.r ≤ length l.angles / 3) × (length l.forces ≡ length l.initial.forces) × Left (angle_step (λ d. image_in l.p d) l.angle l.angles l.per_angle l.xs) (up_to (length l.angles / 3)) l.r (held l.s l.forces) (foldl (angle_step (λ d. image_in l.p d) l.angle l.angles l.per_angle l.xs) (held l.initial.s l.initial.forces) (up_to (length l.angles / 3)))
-
-abbrev pub decreases-loop-r : goal.decreases-loop-r
-decreases-loop-r l = length l.angles / 3 - l.r

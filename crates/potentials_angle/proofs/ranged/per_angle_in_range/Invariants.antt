@@ -7,6 +7,3 @@ use Rattle.potentials_angle.proofs.ranged.per_angle_in_range.Given as goal
 
 abbrev pub invariant-loop-r : goal.invariant-loop-r
 invariant-loop-r l = (l.r ≤ length l.per_angle / 2) × (per_angle_in_range l.per_angle ≡ every (λ k. angle_in_range (angle_row l.per_angle k)) (numbers l.r (length l.per_angle / 2 - l.r)))
-
-abbrev pub decreases-loop-r : goal.decreases-loop-r
-decreases-loop-r l = l.m - l.r

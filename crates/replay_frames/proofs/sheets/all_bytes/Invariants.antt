@@ -2,8 +2,5 @@ use Prim.Native.Nat.{◌≤◌, ◌-◌}
 use lib.ListN.{length}
 use Rattle.replay_frames.proofs.sheets.all_bytes.Given as goal
 
-abbrev pub invariant-loop-i : goal.invariant-loop-i
-invariant-loop-i l = l.i ≤ length l.us
-
-abbrev pub decreases-loop-i : goal.decreases-loop-i
-decreases-loop-i l = length l.us - l.i
+abbrev pub invariant-loop-u : goal.invariant-loop-u
+invariant-loop-u l = l.u-index ≤ length l.us

@@ -20,8 +20,8 @@ returns-else-desk c = record { table_after = header_kept c.args.line c.args.n c.
 pub returns-else-keep_atom : goal.returns-else-keep_atom
 returns-else-keep_atom c = record { table_after = atom_again c.args.line c.args.n c.args.desk c.args.coords.now c.args.seen.now c.args.table.now _ _ _ _ c.in-Atom.is (sym c.keep_atom.ensures.value ∙ c.if-keep_atom.false); fit_kept = tt }
 
-pub returns-in-Held : goal.returns-in-Held
-returns-in-Held c = record { table_after = exclusion_kept c.args.line c.args.n c.args.desk c.args.coords.now c.args.seen.now c.args.table.now _ _ c.in-Exclusion.is _ (rw c.in-Held.is at c.keep_exclusion-held.ensures.table_after); fit_kept = rw c.in-Held.is at c.keep_exclusion-held.ensures.fit_count }
+pub returns-in-Some : goal.returns-in-Some
+returns-in-Some c = record { table_after = exclusion_kept c.args.line c.args.n c.args.desk c.args.coords.now c.args.seen.now c.args.table.now _ _ c.in-Exclusion.is _ (rw c.in-Some.is at c.keep_exclusion-held.ensures.table_after); fit_kept = rw c.in-Some.is at c.keep_exclusion-held.ensures.fit_count }
 
 pub returns-in-Malformed : goal.returns-in-Malformed
 returns-in-Malformed c = record { table_after = malformed_line c.args.line c.args.n c.args.desk c.args.coords.now c.args.seen.now c.args.table.now c.in-Malformed.is; fit_kept = tt }

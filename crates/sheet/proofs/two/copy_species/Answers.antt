@@ -1,40 +1,5 @@
 use Rattle.sheet.proofs.TurnsTwo.{one_species}
-use Rattle.sheet.specs.ReadTwo.{species_in}
-use lib.ListN.{length}
-use lib.Seq.{sets, length-sets}
-use mathlib.Core.Path.{◌≡◌, refl, ap, ◌∙◌}
-use native.Mathlib.Omega.{arith}
 use Rattle.sheet.proofs.two.copy_species.Goals as goal
 
-pub loop-i-init : goal.loop-i-init
-loop-i-init c = (omega arith, refl)
-
-pub overflow_mul-to : goal.overflow_mul-to
-overflow_mul-to c = omega (arith, c.well_formed)
-
-pub offset_bounds-from-i : goal.offset_bounds-from-i
-offset_bounds-from-i c = omega (arith, c.well_formed)
-
-pub bounds-from-i : goal.bounds-from-i
-bounds-from-i c = omega arith
-
-pub offset_bounds-to-i : goal.offset_bounds-to-i
-offset_bounds-to-i c = omega (arith, c.well_formed)
-
-pub bounds-to-i : goal.bounds-to-i
-bounds-to-i c = omega (arith, ap length c.loop-i.invariant.1 ∙ length-sets c.args.to.now 0 (species_in c.loop-i.i c.args.from.now))
-
-pub overflow_add-i : goal.overflow_add-i
-overflow_add-i c = omega arith
-
-pub loop-i-smaller : goal.loop-i-smaller
-loop-i-smaller c = omega arith
-
 pub loop-i-preserved : goal.loop-i-preserved
-loop-i-preserved c = (omega arith, one_species c.args.from.now c.args.to.now c.loop-i.to c.loop-i.i c.loop-i.invariant.1)
-
-pub shape_of-to : goal.shape_of-to
-shape_of-to c = ap length c.loop-i.invariant.1 ∙ length-sets c.args.to.now 0 (species_in c.loop-i.i c.args.from.now)
-
-pub returns : goal.returns
-returns c = let e : c.loop-i.i ≡ c.args.n = omega arith in c.loop-i.invariant.1 ∙ ap (λ j. sets c.args.to.now 0 (species_in j c.args.from.now)) e
+loop-i-preserved c = one_species c.args.from.now c.args.to.now c.loop-i.to c.loop-i.i c.loop-i.invariant

@@ -1,3 +1,4 @@
+use Rattle.answer.proofs.Passed.{passed_up}
 use Rattle.sheet.proofs.SettlingTwo.{long_two, no_room_two, no_species, no_rows_two, kinds_refused, two_refused, two_whole}
 use Rattle.sheet.proofs.two.read_two.Goals as goal
 
@@ -13,14 +14,18 @@ returns-then-species-lt1024 c = no_species c.args.input.now c.args.coordinates.n
 pub returns-then-exclusions-lt2048 : goal.returns-then-exclusions-lt2048
 returns-then-exclusions-lt2048 c = no_rows_two c.args.input.now c.args.coordinates.now c.args.species.now c.args.exclusions.now c.if-input-gt65536.false c.if-coordinates-lt3072.false c.if-species-lt1024.false c.if-exclusions-lt2048.true
 
-pub returns-in-Refused : goal.returns-in-Refused
-returns-in-Refused c = kinds_refused c.args.input.now c.args.coordinates.now c.args.species.now c.args.exclusions.now c.if-input-gt65536.false c.if-coordinates-lt3072.false c.if-species-lt1024.false c.if-exclusions-lt2048.false c.in-Refused.r (rw c.in-Refused.is at c.read_twos-first.ensures.table_after)
+pub returns-in_err-first : goal.returns-in_err-first
+returns-in_err-first c =
+    let r = passed_up c.from_residual.result c.in_err-first.field-0.0 c.from_residual.ensures.1 in
+    rw r (kinds_refused c.args.input.now c.args.coordinates.now c.args.species.now c.args.exclusions.now c.if-input-gt65536.false c.if-coordinates-lt3072.false c.if-species-lt1024.false c.if-exclusions-lt2048.false c.in_err-first.field-0.0 (rw c.in_err-first.was at c.read_twos-first.ensures.table_after))
 
 pub settle_two-requires : goal.settle_two-requires
-settle_two-requires c = (rw c.in-Next.is at c.read_twos-kept.ensures.fit_kept, c.read_twos-kept.auto.coords, c.read_twos-kept.auto.seen, c.read_twos-first.auto.coords, c.if-coordinates-lt3072.false, c.if-species-lt1024.false, c.if-exclusions-lt2048.false)
+settle_two-requires c = (rw c.in_ok-desk.was at c.read_twos.ensures.fit_kept, c.read_twos.auto.coords, c.read_twos.auto.seen, c.read_twos-first.auto.coords, c.if-coordinates-lt3072.false, c.if-species-lt1024.false, c.if-exclusions-lt2048.false)
 
-pub returns-in-Next : goal.returns-in-Next
-returns-in-Next c = two_whole c.args.input.now c.args.coordinates.now c.args.species.now c.args.exclusions.now c.if-input-gt65536.false c.if-coordinates-lt3072.false c.if-species-lt1024.false c.if-exclusions-lt2048.false _ (rw c.in_default.is at c.read_twos-first.ensures.table_after) _ _ (rw c.in-Next.is at c.read_twos-kept.ensures.table_after) (rw (c.rule_kept.ensures, c.in_default.is) at c.settle_two.ensures)
+pub returns : goal.returns
+returns c = two_whole c.args.input.now c.args.coordinates.now c.args.species.now c.args.exclusions.now c.if-input-gt65536.false c.if-coordinates-lt3072.false c.if-species-lt1024.false c.if-exclusions-lt2048.false _ (rw c.in_ok-first.was at c.read_twos-first.ensures.table_after) _ _ (rw c.in_ok-desk.was at c.read_twos.ensures.table_after) (rw (c.rule_kept.ensures, c.in_ok-first.was) at c.settle_two.ensures)
 
-pub returns-in-Refused-kept : goal.returns-in-Refused-kept
-returns-in-Refused-kept c = two_refused c.args.input.now c.args.coordinates.now c.args.species.now c.args.exclusions.now c.if-input-gt65536.false c.if-coordinates-lt3072.false c.if-species-lt1024.false c.if-exclusions-lt2048.false _ (rw c.in_default.is at c.read_twos-first.ensures.table_after) c.in-Refused-kept.r (rw c.in-Refused-kept.is at c.read_twos-kept.ensures.table_after)
+pub returns-in_err-desk : goal.returns-in_err-desk
+returns-in_err-desk c =
+    let r = passed_up c.from_residual-in_err-desk.result c.in_err-desk.field-0.0 c.from_residual-in_err-desk.ensures.1 in
+    rw r (two_refused c.args.input.now c.args.coordinates.now c.args.species.now c.args.exclusions.now c.if-input-gt65536.false c.if-coordinates-lt3072.false c.if-species-lt1024.false c.if-exclusions-lt2048.false _ (rw c.in_ok-first.was at c.read_twos-first.ensures.table_after) c.in_err-desk.field-0.0 (rw c.in_err-desk.was at c.read_twos.ensures.table_after))

@@ -6,16 +6,16 @@ use mathlib.Core.Path.{ap, sym}
 use Rattle.sheet_console.proofs.forms.print_one.Goals as goal
 
 pub slice_bounds-write_all-end : goal.slice_bounds-write_all-end
-slice_bounds-write_all-end c = to_one_fits c.args.sheet.now c.args.out.now c.to_one-moved.result c.to_one-moved.new.out c.in-Answered.n c.to_one-moved.ensures (ap seen_moved c.in-Answered.is)
+slice_bounds-write_all-end c = to_one_fits c.args.sheet.now c.args.out.now c.to_one-moved.result c.to_one-moved.new.out c.in-Ok.n c.to_one-moved.ensures (ap seen_moved c.in-Ok.is)
 
-pub slice_bounds-write_all-end-in-Answered : goal.slice_bounds-write_all-end-in-Answered
-slice_bounds-write_all-end-in-Answered c = sym (length-take-le c.in-Answered.n c.to_one-moved.new.out (to_one_fits c.args.sheet.now c.args.out.now c.to_one-moved.result c.to_one-moved.new.out c.in-Answered.n c.to_one-moved.ensures (ap seen_moved c.in-Answered.is)))
+pub slice_bounds-write_all-end-in-Ok : goal.slice_bounds-write_all-end-in-Ok
+slice_bounds-write_all-end-in-Ok c = sym (length-take-le c.in-Ok.n c.to_one-moved.new.out (to_one_fits c.args.sheet.now c.args.out.now c.to_one-moved.result c.to_one-moved.new.out c.in-Ok.n c.to_one-moved.ensures (ap seen_moved c.in-Ok.is)))
 
-pub returns-in-Answered : goal.returns-in-Answered
-returns-in-Answered c = ap (λ (o : Outcome). o.out) c.to_one-moved.ensures
+pub returns-in-Ok : goal.returns-in-Ok
+returns-in-Ok c = ap (λ (o : Outcome). o.out) c.to_one-moved.ensures
 
-pub returns-in-Refused : goal.returns-in-Refused
-returns-in-Refused c = ap (λ (o : Outcome). o.out) c.to_one-moved.ensures
+pub returns-in-Err-Refused : goal.returns-in-Err-Refused
+returns-in-Err-Refused c = ap (λ (o : Outcome). o.out) c.to_one-moved.ensures
 
-pub returns-in-NoWayBack : goal.returns-in-NoWayBack
-returns-in-NoWayBack c = ap (λ (o : Outcome). o.out) c.to_one-moved.ensures
+pub returns-in-Err-NoWayBack : goal.returns-in-Err-NoWayBack
+returns-in-Err-NoWayBack c = ap (λ (o : Outcome). o.out) c.to_one-moved.ensures

@@ -1,4 +1,3 @@
-use Prim.Native.Nat.{◌-◌, ◌≤◌}
 use Rattle.lists.specs.Lists.{rows}
 use Rattle.shells.proofs.Totals.{TakenUpTo}
 use Rattle.shells.specs.Shells.{shell_at}
@@ -6,7 +5,4 @@ use lib.ListN.{length}
 use Rattle.shells.proofs.counting.take_back.Given as goal
 
 abbrev pub invariant-loop-k : goal.invariant-loop-k
-invariant-loop-k l = (l.k ≤ l.n) × TakenUpTo (shell_at l.f l.xs l.width (length l.initial.totals)) (rows l.pairs) l.initial.totals l.k l.totals
-
-abbrev pub decreases-loop-k : goal.decreases-loop-k
-decreases-loop-k l = l.n - l.k
+invariant-loop-k l = TakenUpTo (shell_at l.f l.xs l.width (length l.initial.totals)) (rows l.pairs) l.initial.totals l.k l.totals

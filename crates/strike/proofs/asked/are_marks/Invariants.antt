@@ -5,8 +5,5 @@ use lib.ListN.{length, drop}
 use mathlib.Core.Path.{◌≡◌}
 use Rattle.strike.proofs.asked.are_marks.Given as goal
 
-abbrev pub invariant-loop-i : goal.invariant-loop-i
-invariant-loop-i l = (l.i ≤ length l.marks) × (every is_mark l.marks ≡ every is_mark (drop l.i l.marks))
-
-abbrev pub decreases-loop-i : goal.decreases-loop-i
-decreases-loop-i l = length l.marks - l.i
+abbrev pub invariant-loop-mark : goal.invariant-loop-mark
+invariant-loop-mark l = (l.mark-index ≤ length l.marks) × (every is_mark l.marks ≡ every is_mark (drop l.mark-index l.marks))

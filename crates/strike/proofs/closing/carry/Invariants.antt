@@ -6,6 +6,3 @@ use Rattle.strike.proofs.closing.carry.Given as goal
 
 abbrev pub invariant-loop-c : goal.invariant-loop-c
 invariant-loop-c l = Carrying nan (λ j. at l.initial.xs (l.width * l.from + j)) (l.width * l.to) l.width l.c l.initial.xs l.xs
-
-abbrev pub decreases-loop-c : goal.decreases-loop-c
-decreases-loop-c l = l.width - l.c

@@ -6,6 +6,3 @@ use Rattle.strike.proofs.closing.number.Given as goal
 
 abbrev pub invariant-loop-k : goal.invariant-loop-k
 invariant-loop-k l = (l.k ≤ length l.marks) × (length l.fresh ≡ length l.initial.fresh) × CountedTo l.marks l.k l.to l.fresh
-
-abbrev pub decreases-loop-k : goal.decreases-loop-k
-decreases-loop-k l = length l.marks - l.k

@@ -6,6 +6,3 @@ use Rattle.strike.proofs.closing.row_survives.Given as goal
 
 abbrev pub invariant-loop-c : goal.invariant-loop-c
 invariant-loop-c l = (l.c ≤ l.width) × (row_survives l.marks l.width l.names l.k ≡ row_left l.marks l.width l.names l.k l.c)
-
-abbrev pub decreases-loop-c : goal.decreases-loop-c
-decreases-loop-c l = l.width - l.c

@@ -11,6 +11,3 @@ use Rattle.verlet.proofs.kernel.kinetic_energy.Given as goal
 
 abbrev pub invariant-loop-i : goal.invariant-loop-i
 invariant-loop-i l = (l.i ≤ l.n) × (l.n ≡ min (length l.vs / 3) (length l.ms)) × (l.ke ≡ fold_up_to (λ k e. e ⊕ kinetic_at l.accel (at l.ms k) (velocity_at l.vs k)) l.i f0)
-
-abbrev pub decreases-loop-i : goal.decreases-loop-i
-decreases-loop-i l = l.n - l.i

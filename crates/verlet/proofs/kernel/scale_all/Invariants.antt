@@ -8,6 +8,3 @@ use Rattle.verlet.proofs.kernel.scale_all.Given as goal
 
 abbrev pub invariant-loop-k : goal.invariant-loop-k
 invariant-loop-k l = (l.k ≤ length l.initial.vs) × (length l.vs ≡ length l.initial.vs) × (l.vs ≡ part_at (scale_at l.s) l.k l.initial.vs)
-
-abbrev pub decreases-loop-k : goal.decreases-loop-k
-decreases-loop-k l = length l.initial.vs - l.k

@@ -1,10 +1,10 @@
 use Rattle.verlet.specs.Parts.{thermostat_by}
 use Rattle.verlet.proofs.kernel.thermostat.Goals as goal
 
-pub returns-in-Absent : goal.returns-in-Absent
+pub returns-in-None : goal.returns-in-None
 unfolding thermostat_by
-returns-in-Absent c = rw c.in-Absent.is
+returns-in-None c = rw c.in-None.is
 
-pub returns-in-Present : goal.returns-in-Present
+pub returns-in-Some : goal.returns-in-Some
 unfolding thermostat_by
-returns-in-Present c = rw c.in-Present.is c.rescale.ensures
+returns-in-Some c = rw c.in-Some.is c.rescale.ensures

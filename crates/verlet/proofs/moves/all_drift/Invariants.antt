@@ -9,6 +9,3 @@ use Rattle.verlet.proofs.moves.all_drift.Given as goal
 
 abbrev pub invariant-loop-k : goal.invariant-loop-k
 invariant-loop-k l = (l.k ≤ length l.xs) × (every coordinate (drifted_of l.dt (kicked_of l.units l.dt l.fs l.ms l.vs) l.xs) ≡ every coordinate (drop l.k (drifted_of l.dt (kicked_of l.units l.dt l.fs l.ms l.vs) l.xs)))
-
-abbrev pub decreases-loop-k : goal.decreases-loop-k
-decreases-loop-k l = length l.xs - l.k

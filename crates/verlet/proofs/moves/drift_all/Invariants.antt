@@ -8,6 +8,3 @@ use Rattle.verlet.proofs.moves.drift_all.Given as goal
 
 abbrev pub invariant-loop-k : goal.invariant-loop-k
 invariant-loop-k l = (l.k ≤ length l.initial.xs) × (length l.xs ≡ length l.initial.xs) × (l.xs ≡ part_at (drift_at l.dt l.vs) l.k l.initial.xs)
-
-abbrev pub decreases-loop-k : goal.decreases-loop-k
-decreases-loop-k l = length l.initial.xs - l.k

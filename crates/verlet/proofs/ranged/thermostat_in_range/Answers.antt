@@ -1,10 +1,10 @@
 use Rattle.verlet.specs.Ranged.{thermostat_in_range}
 use Rattle.verlet.proofs.ranged.thermostat_in_range.Goals as goal
 
-pub returns-in-Absent : goal.returns-in-Absent
+pub returns-in-None : goal.returns-in-None
 unfolding thermostat_in_range
-returns-in-Absent c = rw c.in-Absent.is
+returns-in-None c = rw c.in-None.is
 
-pub returns-in-Present : goal.returns-in-Present
+pub returns-in-Some : goal.returns-in-Some
 unfolding thermostat_in_range
-returns-in-Present c = rw c.in-Present.is c.thermal.ensures
+returns-in-Some c = rw c.in-Some.is c.thermal.ensures

@@ -1,4 +1,0 @@
-use Rattle.field.proofs.forces.tyn_lj_all.Goals as goal
-
-pub returns : goal.returns
-returns c = rw (← c.lj.ensures, ← c.cell.ensures) (record { answer = c.lj_all.result; handed = c.summed.ensures; says = c.lj_all.ensures })

@@ -1,6 +1,0 @@
-use mathlib.Core.Path.{refl}
-use native.Mathlib.Omega.{arith}
-use Rattle.potentials.proofs.coulomb.estimate_all.Goals as goal
-
-pub loop-m-init : goal.loop-m-init
-loop-m-init c = (omega arith, refl)
