@@ -7,8 +7,8 @@
 
 The forms, by the points of the page:
 
-    option      own enums of two cases of which one has no value, and enums of one case with values among cases without
-    result      own enums with a case that holds a `Refusal`
+    option      own enums of two cases of which one has no value, and enums of one case with values among cases without (errors aside)
+    result      own enums with a case that holds a `Refusal` (errors aside)
     flag        structs that answer a value beside a field `done` or `found`
     code        numbers that stand for a kind: a parameter or field `kind`, `code`, `form` or `rule` of a whole number, outside #[repr(C)]
     returned    `if let Err(e) = .. { return Err(e); }` and arms that hand a refusal or a `None` on, where `?` says it
@@ -103,7 +103,7 @@ def find(files):
                 full = [c for c, v in cases if v]
                 if re.search(r"\(Refusal\)", body) and len(cases) > 1 and not m.group(3).endswith("Error"):
                     at("result", line, m.group(3))
-                elif len(full) == 1 and len(cases) > 1:
+                elif len(full) == 1 and len(cases) > 1 and not m.group(3).endswith("Error"):
                     at("option", line, m.group(3))
             else:
                 if re.search(r"(?m)^    (pub )?(done|found):", body):
@@ -133,7 +133,7 @@ def find(files):
                 at("searched", line, name)
             if re.match(r"\s*match \w+ \{\s*(\d+|0x\w+) =>", body) and body.count("=>") > 2:
                 at("chosen", line, name)
-            if crate == "field_structs" and len(params) == 1:
+            if crate == "field_structs" and len(params) == 1 and name != "from":
                 at("converted", line, name)
             if re.match(r"(is_)?(same|alike|equal)", name):
                 at("same", line, name)

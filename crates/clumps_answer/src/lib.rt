@@ -3,31 +3,21 @@
 
 ghost use Rattle.std.specs.Prelude.{◌≡◌, cond, ◌+◌, ◌*◌, ◌≤◌, ◌<◌, length, take};
 ghost use Rattle.std.proofs.lemmas.List.Edits.{sets};
-ghost use Rattle.answer.specs.Seen.{number_of, place_of};
 ghost use Rattle.lists.specs.Lists.{rows};
-ghost use Rattle.sheet_printed.specs.Printed.{refusal_line};
 ghost use Rattle.clumps_label.specs.Label.{labels_of};
-ghost use Rattle.clumps_answer.specs.Clumps.{clump_line, members_of, clump_rows, clump_lines, SolveClumpsSays, SolveClumpsFits};
+ghost use Rattle.clumps_answer.specs.Clumps.{members_of, clump_rows, clump_lines, SolveClumpsSays, SolveClumpsFits};
 ghost use Rattle.clumps_answer.specs.Theorems.{SolveClumpsPrints};
 ghost use Rattle.clumps_answer.specs.Steps.{clump_line_at, RowsAmong};
 
 use answer::Refusal;
 use clumps_label::label;
-use hexadecimal::{put_byte, put2, put4};
-use sheet_answer::kernel::list;
-use sheet_printed::put_refusal;
+use sheet_answer::kernel::{list, refuse};
+use sheet_printed::put_two;
 
 fn wide(x: u32) -> usize
     ensures { result ≡ x }
 {
     x as usize
-}
-
-fn refuse(r: Refusal, out: &mut [u8]) -> usize
-    ensures value { result ≡ length (refusal_line (number_of r) (place_of r)) }
-    ensures out_after { out.new ≡ sets out.old 0 (refusal_line (number_of r) (place_of r)) }
-{
-    put_refusal(out, r.number(), r.place())
 }
 
 fn one(is: bool) -> usize
@@ -47,25 +37,15 @@ fn members(labels: &[u32], low: usize) -> usize
     n
 }
 
-// 83, a clump's lowest atom and its size.
-fn put_clump(out: &mut [u8], at: usize, low: usize, size: usize)
-    requires { at ≤ 18446744073709551605 }
-    ensures { out.new ≡ sets out.old at (clump_line low size) }
-{
-    put2(out, at, 131);
-    put4(out, at + 2, low as u64);
-    put4(out, at + 6, size as u64);
-    put_byte(out, at + 10, 10);
-}
-
-// The line of atom i where it is the lowest of its clump; where the next line goes.
+// The line 83 of atom i where it is the lowest of its clump, with the clump's size; where the next line goes.
 fn put_at(labels: &[u32], i: usize, out: &mut [u8], at: usize) -> usize
     requires { (i < length labels.now) × (at ≤ 18446744073709551604) }
     ensures value { result ≡ at + length (clump_line_at labels.now i) }
     ensures out_after { out.new ≡ sets out.old at (clump_line_at labels.now i) }
 {
     if wide(labels[i]) == i {
-        put_clump(out, at, i, members(labels, i));
+        let size = members(labels, i);
+        put_two(out, at, 131, i as u64, size as u64);
         return at + 11;
     }
     at

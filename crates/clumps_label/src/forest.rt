@@ -23,7 +23,7 @@ pub(crate) fn plant(p: &mut [u32])
     }
 }
 
-// The root of an atom. On the way each atom that is passed is made to point past the next.
+// The root of an atom. On the way each atom that is passed is made to point past the next. A `while`, since nothing says how far the root is.
 fn root(p: &mut [u32], i: u32) -> u32
     requires { Rooted p.old i i }
     ensures { Found p.old i result p.new }

@@ -1,5 +1,5 @@
 -- What a row of a desk's own table changes of an evaluation; that it is gone when it is taken out; that an empty own table is none. Assumes nothing.
-use Rattle.std.specs.Prelude.{Err, None, Ok, Option, Result, Some}
+use Rattle.std.specs.Prelude.{None, Option, Result, Some}
 use Rattle.answer.specs.declared.Refusal.{Refusal}
 use Rattle.cell.specs.declared.Lattice.{Lattice}
 use mathlib.Core.Path.{◌≡◌, refl, sym, ap, ◌∙◌}

@@ -1,5 +1,5 @@
 -- What an evaluation answers and leaves in everything lent: one outcome, made from the entry values alone. Definitions only.
-use Rattle.std.specs.Prelude.{Err, None, Ok, Result, Some}
+use Rattle.std.specs.Prelude.{Err, Ok, Result}
 use Rattle.answer.specs.declared.Refusal.{Refusal}
 use Rattle.std.specs.Prelude.{ℕ, ◌≡◌, Bool, true, false, List, Float, length}
 use Rattle.evaluate.specs.Asked.{job_asked}
@@ -17,8 +17,9 @@ use Rattle.neighbor.specs.Update as Update
 use Rattle.neighbor.specs.Listed.{Listed}
 use Rattle.neighbor.specs.Box.{SameBits}
 use Rattle.evaluate.specs.declared.Evaluated.{Evaluated}
+use Rattle.evaluate.specs.declared.Molecule.{Molecule}
 use Rattle.evaluate.specs.declared.Setting.{Setting}
-use Rattle.evaluate.specs.Terms.{Terms, terms, contributions, merged_all}
+use Rattle.evaluate.specs.Terms.{Terms, terms, terms_of, contributions, merged_all}
 
 -- everything that an evaluation is given: the terms and their tables, what a build is given, and the forces, lent to be written
 pub record Job : Type 0 where
@@ -33,6 +34,11 @@ job t g forces = record { terms = t; given = g; forces = forces }
 abbrev pub job_of : Setting → State → (tab : Tables) (species : List ℕ) (charges : List Float) (bonds : List ℕ) (lengths ks : List Float) (angles : List ℕ) (per_angle positions : List Float) (exclusions pairs : List ℕ) (references : List Float) (starts items : List ℕ) (forces : List Float) → Job
 job_of setting s tab species charges bonds lengths ks angles per_angle positions exclusions pairs references starts items forces =
     job (terms setting tab species charges bonds lengths ks angles per_angle) (given s setting.cell positions exclusions pairs references starts items) forces
+
+-- .. from what it is handed with a molecule
+abbrev pub job_on : Setting → State → Molecule → (positions : List Float) (exclusions pairs : List ℕ) (references : List Float) (starts items : List ℕ) (forces : List Float) → Job
+job_on setting s m positions exclusions pairs references starts items forces =
+    job (terms_of setting m) (given s setting.cell positions exclusions pairs references starts items) forces
 
 -- its tests, with what a step asks besides
 abbrev pub asked_of : (fits in_range : Bool) → Job → Result (Unit {0}) Refusal

@@ -1,5 +1,5 @@
 -- The evaluator's terms (01, "Forces and steps": "each present result is merged in that order into zero"): what each gives, and the fold of that. Definitions only.
-use Rattle.std.specs.Prelude.{Err, None, Ok, Option, Some}
+use Rattle.std.specs.Prelude.{None, Option, Some}
 use Rattle.cell.specs.declared.Lattice.{Lattice}
 use Rattle.potentials.specs.declared.Bond.{Bond}
 use Rattle.potentials.specs.declared.coulomb.Coulomb.{Coulomb}
@@ -11,9 +11,10 @@ use Rattle.virial.specs.Virial.{merged_sum, merged_forces}
 use Rattle.potentials_pair.specs.declared.Lj.{Lj}
 use Rattle.potentials_pair.specs.declared.Mixed.{Mixed}
 use Rattle.potentials_pair.specs.Pull.{Total}
-use Rattle.potentials_pair.specs.Species.{Tables}
+use Rattle.potentials_pair.specs.Species.{Tables, tables_of}
 use Rattle.potentials_angle.specs.Terms.{angles_over}
 use Rattle.potentials.specs.Terms.{zero_total, lj_over, coulomb_over, bonds_over}
+use Rattle.evaluate.specs.declared.Molecule.{Molecule}
 use Rattle.evaluate.specs.declared.Setting.{Setting}
 
 -- the terms, "either absent or present with its numbers", and the tables that they read; `lengths` is the Rust's per_bond, `ks` its per_bond_k
@@ -50,6 +51,11 @@ terms setting tab species charges bonds lengths ks angles per_angle =
       angles = angles;
       per_angle = per_angle;
     }
+
+-- .. with a molecule's
+abbrev pub terms_of : Setting → Molecule → Terms
+terms_of setting m =
+    terms setting (tables_of m.tables) m.species.now m.charges.now m.bonds.ends.now m.bonds.lengths.now m.bonds.ks.now m.angles.corners.now m.angles.per_angle.now
 
 -- ---- what a term gives over pairs l: one contribution from zero, with so many floats, where it is present; none where it is absent
 

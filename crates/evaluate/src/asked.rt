@@ -1,12 +1,12 @@
 // What is asked before an evaluation, in 01's order. Total, and also for the crates above. Every test is made before the first refusal is picked: where
 // all is well, all are made in any case.
-ghost use Rattle.std.specs.Prelude.{◌≡◌};
+ghost use Rattle.std.specs.Prelude.{◌≡◌, length};
 ghost use Rattle.neighbor_asked.specs.Asked.{first_refusal};
-ghost use Rattle.potentials_pair.specs.Species.{tables};
+ghost use Rattle.potentials.specs.Calls.{tables_fit};
 ghost use Rattle.evaluate.specs.Asked.{terms_fit, lj_ok, coulomb_ok, bond_ok, angle_ok, numbers_ok, bond_rows_asked, angles_named, names_asked, in_turn};
-ghost use Rattle.evaluate.specs.Calls.{job_of, asked_of};
+ghost use Rattle.evaluate.specs.Calls.{job_on, asked_of};
 
-use crate::Setting;
+use crate::{Molecule, Setting};
 use answer::Refusal;
 use neighbor::State;
 use potentials::coulomb::Coulomb;
@@ -14,24 +14,15 @@ use potentials::{Bond, ranged};
 use potentials_angle::Angle;
 use potentials_pair::Lj;
 
-fn terms_fit(
-    tables: bool,
-    species: usize,
-    charges: usize,
-    bonds: usize,
-    angles: usize,
-    per_angle: usize,
-    xs: usize,
-    forces: usize,
-) -> bool
-    ensures { result ≡ terms_fit tables species charges bonds angles per_angle xs forces }
+fn terms_fit(molecule: &Molecule, xs: usize, forces: usize) -> bool
+    ensures { let m = molecule.now in result ≡ terms_fit (tables_fit (length m.tables.own_ids.now) (length m.tables.own_params.now) (length m.tables.ids.now) (length m.tables.params.now)) (length m.species.now) (length m.charges.now) (length m.bonds.ends.now) (length m.angles.corners.now) (length m.angles.per_angle.now) xs forces }
 {
-    tables
-        & (species == xs / 3)
-        & (charges == xs / 3)
-        & (bonds % 2 == 0)
-        & (angles % 3 == 0)
-        & (per_angle % 2 == 0)
+    potentials::species::tables_fit(&molecule.tables)
+        & (molecule.species.len() == xs / 3)
+        & (molecule.charges.len() == xs / 3)
+        & (molecule.bonds.ends.len() % 2 == 0)
+        & (molecule.angles.corners.len() % 3 == 0)
+        & (molecule.angles.per_angle.len() % 2 == 0)
         & (forces == xs)
 }
 
@@ -71,16 +62,8 @@ fn angle_ok(angle: Option<Angle>) -> bool
     }
 }
 
-fn numbers_ok(
-    setting: Setting,
-    own_params: &[f64],
-    params: &[f64],
-    charges: &[f64],
-    lengths: &[f64],
-    ks: &[f64],
-    per_angle: &[f64],
-) -> bool
-    ensures { result ≡ numbers_ok setting.lj setting.coulomb setting.bond setting.angle setting.units own_params.now params.now charges.now lengths.now ks.now per_angle.now }
+fn numbers_ok(setting: Setting, molecule: &Molecule) -> bool
+    ensures { let m = molecule.now in result ≡ numbers_ok setting.lj setting.coulomb setting.bond setting.angle setting.units m.tables.own_params.now m.tables.params.now m.charges.now m.bonds.lengths.now m.bonds.ks.now m.angles.per_angle.now }
 {
     let lj = setting.lj;
     let coulomb = setting.coulomb;
@@ -92,11 +75,11 @@ fn numbers_ok(
         & bond_ok(bond)
         & angle_ok(angle)
         & virial::ranged::units_in_range(units)
-        & ranged::rows_in_range(own_params, params)
-        & ranged::charges_in_range(charges)
-        & ranged::entries_in_range(lengths)
-        & ranged::entries_in_range(ks)
-        & potentials_angle::ranged::per_angle_in_range(per_angle)
+        & ranged::rows_in_range(&molecule.tables)
+        & ranged::charges_in_range(molecule.charges)
+        & ranged::entries_in_range(molecule.bonds.lengths)
+        & ranged::entries_in_range(molecule.bonds.ks)
+        & potentials_angle::ranged::per_angle_in_range(molecule.angles.per_angle)
 }
 
 // Refusal 4 of a bond.
@@ -122,20 +105,13 @@ fn asked_angles(n: usize, angles: &[u32]) -> Result<(), Refusal>
 }
 
 // A bond's 4, an angle's; 5 of the exclusions, of the desk's own species, of the house's.
-fn asked_names(
-    n: usize,
-    bonds: &[u32],
-    angles: &[u32],
-    table: &[u32],
-    own_ids: &[u32],
-    ids: &[u32],
-) -> Result<(), Refusal>
-    ensures { result ≡ names_asked n bonds.now angles.now table.now own_ids.now ids.now }
+fn asked_names(n: usize, molecule: &Molecule, exclusions: &[u32]) -> Result<(), Refusal>
+    ensures { let m = molecule.now in result ≡ names_asked n m.bonds.ends.now m.angles.corners.now exclusions.now m.tables.own_ids.now m.tables.ids.now }
 {
-    let a = asked_bonds(n, bonds);
-    let b = asked_angles(n, angles);
-    let c = neighbor::asked::asked_table(table);
-    let d = potentials::species::asked_order(own_ids, ids);
+    let a = asked_bonds(n, molecule.bonds.ends);
+    let b = asked_angles(n, molecule.angles.corners);
+    let c = neighbor::asked::asked_table(exclusions);
+    let d = potentials::species::asked_order(&molecule.tables);
     neighbor_asked::asked::names_in_turn(a, b, c, d)
 }
 
@@ -165,17 +141,7 @@ pub fn asked(
     inside: bool,
     setting: Setting,
     s: State,
-    own_ids: &[u32],
-    own_params: &[f64],
-    ids: &[u32],
-    params: &[f64],
-    species: &[u32],
-    charges: &[f64],
-    bonds: &[u32],
-    lengths: &[f64],
-    ks: &[f64],
-    angles: &[u32],
-    per_angle: &[f64],
+    molecule: &Molecule,
     positions: &[f64],
     exclusions: &[u32],
     pairs: &[u32],
@@ -184,26 +150,11 @@ pub fn asked(
     items: &[u32],
     forces: &[f64],
 ) -> Result<(), Refusal>
-    ensures { result ≡ asked_of fits inside (job_of setting s (tables own_ids.now own_params.now ids.now params.now) species.now charges.now bonds.now lengths.now ks.now angles.now per_angle.now positions.now exclusions.now pairs.now references.now starts.now items.now forces.now) }
+    ensures { result ≡ asked_of fits inside (job_on setting s molecule.now positions.now exclusions.now pairs.now references.now starts.now items.now forces.now) }
 {
     let cell = setting.cell;
     let n = positions.len() / 3;
-    let tables = potentials::species::tables_fit(
-        own_ids.len(),
-        own_params.len(),
-        ids.len(),
-        params.len(),
-    );
-    let fit = terms_fit(
-        tables,
-        species.len(),
-        charges.len(),
-        bonds.len(),
-        angles.len(),
-        per_angle.len(),
-        positions.len(),
-        forces.len(),
-    );
+    let fit = terms_fit(molecule, positions.len(), forces.len());
     let first = neighbor::asked::asked_first(
         s,
         cell,
@@ -213,8 +164,8 @@ pub fn asked(
         references.len(),
         items.len(),
     );
-    let ok = numbers_ok(setting, own_params, params, charges, lengths, ks, per_angle);
+    let ok = numbers_ok(setting, molecule);
     let kept = neighbor::asked::asked_kept(s, n, pairs, references);
-    let names = asked_names(n, bonds, angles, exclusions, own_ids, ids);
+    let names = asked_names(n, molecule, exclusions);
     in_turn(fits & fit, first, inside & ok, kept, names)
 }

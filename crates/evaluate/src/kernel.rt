@@ -1,12 +1,11 @@
 // The evaluation without tests, for the crates above: total. No public call.
 ghost use Rattle.std.specs.Prelude.{◌≡◌, min, length};
 ghost use Rattle.potentials_pair.specs.Pull.{held};
-ghost use Rattle.potentials_pair.specs.Species.{tables};
-ghost use Rattle.evaluate.specs.Terms.{terms};
-ghost use Rattle.evaluate.specs.Calls.{job_of};
+ghost use Rattle.evaluate.specs.Terms.{terms_of};
+ghost use Rattle.evaluate.specs.Calls.{job_on};
 ghost use Rattle.evaluate.specs.Steps.{scratch_length, terms_over, evaluated_from, AfterListSays, SettleSays};
 
-use crate::{Evaluated, Setting, merging};
+use crate::{Evaluated, Molecule, Setting, merging};
 use neighbor::{Question, State, Updated};
 use virial::Sum;
 
@@ -20,43 +19,16 @@ fn scratch() -> [f64; 49152]
 // The terms over listed pairs, in a scratch as long as the forces.
 fn combine(
     setting: Setting,
-    own_ids: &[u32],
-    own_params: &[f64],
-    ids: &[u32],
-    params: &[f64],
-    species: &[u32],
-    charges: &[f64],
-    bonds: &[u32],
-    lengths: &[f64],
-    ks: &[f64],
-    angles: &[u32],
-    per_angle: &[f64],
+    molecule: &Molecule,
     xs: &[f64],
     pairs: &[u32],
     forces: &mut [f64],
 ) -> Sum
-    ensures { held result forces.new ≡ terms_over (terms setting (tables own_ids.now own_params.now ids.now params.now) species.now charges.now bonds.now lengths.now ks.now angles.now per_angle.now) setting.cell xs.now pairs.now (min (length forces.old) scratch_length) (length forces.old) }
+    ensures { held result forces.new ≡ terms_over (terms_of setting molecule.now) setting.cell xs.now pairs.now (min (length forces.old) scratch_length) (length forces.old) }
 {
     let n = virial::ranged::shorter(forces.len(), 49152);
     let mut room = scratch();
-    merging::all(
-        &mut room[..n],
-        setting,
-        own_ids,
-        own_params,
-        ids,
-        params,
-        species,
-        charges,
-        bonds,
-        lengths,
-        ks,
-        angles,
-        per_angle,
-        xs,
-        pairs,
-        forces,
-    )
+    merging::all(&mut room[..n], setting, molecule, xs, pairs, forces)
 }
 
 // What became of the list, with a sum.
@@ -78,21 +50,11 @@ fn after_list(
     forces: &mut [f64],
     u: Updated,
     setting: Setting,
-    own_ids: &[u32],
-    own_params: &[f64],
-    ids: &[u32],
-    params: &[f64],
-    species: &[u32],
-    charges: &[f64],
-    bonds: &[u32],
-    lengths: &[f64],
-    ks: &[f64],
-    angles: &[u32],
-    per_angle: &[f64],
+    molecule: &Molecule,
     xs: &[f64],
     pairs: &[u32],
 ) -> Evaluated
-    ensures { AfterListSays u (terms setting (tables own_ids.now own_params.now ids.now params.now) species.now charges.now bonds.now lengths.now ks.now angles.now per_angle.now) setting.cell xs.now pairs.now forces.old result forces.new }
+    ensures { AfterListSays u (terms_of setting molecule.now) setting.cell xs.now pairs.now forces.old result forces.new }
 {
     let done = u.done;
     if let Err(_) = done {
@@ -100,10 +62,7 @@ fn after_list(
     }
     let state = u.state;
     let part = neighbor::listed(state, pairs);
-    let sum = combine(
-        setting, own_ids, own_params, ids, params, species, charges, bonds, lengths, ks, angles,
-        per_angle, xs, part, forces,
-    );
+    let sum = combine(setting, molecule, xs, part, forces);
     with_sum(u, sum)
 }
 
@@ -111,17 +70,7 @@ fn after_list(
 pub fn settle(
     setting: Setting,
     s: State,
-    own_ids: &[u32],
-    own_params: &[f64],
-    ids: &[u32],
-    params: &[f64],
-    species: &[u32],
-    charges: &[f64],
-    bonds: &[u32],
-    lengths: &[f64],
-    ks: &[f64],
-    angles: &[u32],
-    per_angle: &[f64],
+    molecule: &Molecule,
     positions: &[f64],
     exclusions: &[u32],
     pairs: &mut [u32],
@@ -130,7 +79,7 @@ pub fn settle(
     items: &mut [u32],
     forces: &mut [f64],
 ) -> Evaluated
-    ensures { SettleSays (job_of setting s (tables own_ids.now own_params.now ids.now params.now) species.now charges.now bonds.now lengths.now ks.now angles.now per_angle.now positions.now exclusions.now pairs.old references.old starts.old items.old forces.old) result pairs.new references.new starts.new items.new forces.new }
+    ensures { SettleSays (job_on setting s molecule.now positions.now exclusions.now pairs.old references.old starts.old items.old forces.old) result pairs.new references.new starts.new items.new forces.new }
 {
     let cell = setting.cell;
     let u = neighbor::kernel::update(
@@ -144,8 +93,5 @@ pub fn settle(
         starts,
         items,
     );
-    after_list(
-        forces, u, setting, own_ids, own_params, ids, params, species, charges, bonds, lengths, ks,
-        angles, per_angle, positions, pairs,
-    )
+    after_list(forces, u, setting, molecule, positions, pairs)
 }

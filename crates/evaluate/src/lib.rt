@@ -5,10 +5,10 @@
 use answer::Refusal;
 use cell::Lattice;
 use neighbor::State;
-use potentials::Bond;
 use potentials::coulomb::Coulomb;
-use potentials_angle::Angle;
-use potentials_pair::Lj;
+use potentials::{Bond, BondRows};
+use potentials_angle::{Angle, AngleRows};
+use potentials_pair::{Lj, SpeciesTables};
 use virial::{Sum, Units};
 
 pub mod asked;
@@ -17,8 +17,7 @@ mod merging;
 
 ghost use Rattle.std.specs.Prelude.{◌≡◌, false, Err};
 ghost use Rattle.virial.specs.Virial.{zero_sum};
-ghost use Rattle.potentials_pair.specs.Species.{tables};
-ghost use Rattle.evaluate.specs.Calls.{job_of, EvaluateSays, EvaluateLists};
+ghost use Rattle.evaluate.specs.Calls.{job_on, EvaluateSays, EvaluateLists};
 
 // What an evaluation goes by besides its tables: the terms, each absent or present with its numbers, the units, and the cell.
 #[derive(Clone, Copy)]
@@ -29,6 +28,16 @@ pub struct Setting {
     pub angle: Option<Angle>,
     pub units: Units,
     pub cell: Option<Lattice>,
+}
+
+// What an evaluation is computed over besides the positions, as it is lent: the species tables; the species and the charge of each atom; the bonds; the angles.
+#[derive(Clone, Copy)]
+pub struct Molecule<'a> {
+    pub tables: SpeciesTables<'a>,
+    pub species: &'a [u32],
+    pub charges: &'a [f64],
+    pub bonds: BondRows<'a>,
+    pub angles: AngleRows<'a>,
 }
 
 // Energy, forces and virial, or why not; whether the list was built anew; its state, which comes back in every case; and the sum, zero where refused. The
@@ -53,22 +62,11 @@ fn refused(s: State, why: Refusal) -> Evaluated
     }
 }
 
-// The terms over the list brought up to date; refusals 1, 2, 6, 3, 4, 5, 7, 8. `own_ids` and `ids` are the species that
-// `own_params` and `params` have epsilon and sigma of, a desk's own and the house's; `lengths` is the Rust's per_bond, `ks` its per_bond_k.
+// The terms over the list brought up to date; refusals 1, 2, 6, 3, 4, 5, 7, 8.
 pub fn evaluate(
     setting: Setting,
     s: State,
-    own_ids: &[u32],
-    own_params: &[f64],
-    ids: &[u32],
-    params: &[f64],
-    species: &[u32],
-    charges: &[f64],
-    bonds: &[u32],
-    lengths: &[f64],
-    ks: &[f64],
-    angles: &[u32],
-    per_angle: &[f64],
+    molecule: &Molecule,
     positions: &[f64],
     exclusions: &[u32],
     pairs: &mut [u32],
@@ -77,18 +75,17 @@ pub fn evaluate(
     items: &mut [u32],
     forces: &mut [f64],
 ) -> Evaluated
-    ensures says { EvaluateSays (job_of setting s (tables own_ids.now own_params.now ids.now params.now) species.now charges.now bonds.now lengths.now ks.now angles.now per_angle.now positions.now exclusions.now pairs.old references.old starts.old items.old forces.old) result pairs.new references.new starts.new items.new forces.new }
-    ensures lists { EvaluateLists (job_of setting s (tables own_ids.now own_params.now ids.now params.now) species.now charges.now bonds.now lengths.now ks.now angles.now per_angle.now positions.now exclusions.now pairs.old references.old starts.old items.old forces.old) result pairs.new }
+    ensures says { EvaluateSays (job_on setting s molecule.now positions.now exclusions.now pairs.old references.old starts.old items.old forces.old) result pairs.new references.new starts.new items.new forces.new }
+    ensures lists { EvaluateLists (job_on setting s molecule.now positions.now exclusions.now pairs.old references.old starts.old items.old forces.old) result pairs.new }
 {
     let a = asked::asked(
-        true, true, setting, s, own_ids, own_params, ids, params, species, charges, bonds, lengths,
-        ks, angles, per_angle, positions, exclusions, pairs, references, starts, items, forces,
+        true, true, setting, s, molecule, positions, exclusions, pairs, references, starts, items,
+        forces,
     );
     if let Err(why) = a {
         return refused(s, why);
     }
     kernel::settle(
-        setting, s, own_ids, own_params, ids, params, species, charges, bonds, lengths, ks, angles,
-        per_angle, positions, exclusions, pairs, references, starts, items, forces,
+        setting, s, molecule, positions, exclusions, pairs, references, starts, items, forces,
     )
 }

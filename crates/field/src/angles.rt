@@ -6,7 +6,7 @@ ghost use Rattle.field_structs.specs.Taken.{cell_of};
 ghost use Rattle.potentials_angle.specs.Calls.{AnglesAllSays, UniformAnglesSays};
 
 use field_structs::{FlatAngleAnswer, FlatCell, FlatSummed};
-use potentials_angle::Angle;
+use potentials_angle::{Angle, AngleRows};
 
 // Angle numbers, the same for each angle. Refusal 3.
 #[unsafe(no_mangle)]
@@ -29,5 +29,9 @@ pub extern "C" fn tyn_angles_all(
 ) -> FlatSummed
     ensures { Shown flat_summed (λ a. AnglesAllSays angle (cell_of cell) angles.now per_angle.now positions.now forces.old a forces.new) result }
 {
-    potentials_angle::angles_all(angle, cell.into(), angles, per_angle, positions, forces).into()
+    let rows = AngleRows {
+        corners: angles,
+        per_angle,
+    };
+    potentials_angle::angles_all(angle, cell.into(), &rows, positions, forces).into()
 }

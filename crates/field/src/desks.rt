@@ -4,6 +4,7 @@ ghost use Rattle.potentials_pair.specs.Species.{tables};
 ghost use Rattle.field.specs.Rows.{RowSays, number_in, table_by};
 
 use field_structs::{FlatDone, FlatRow};
+use potentials_pair::SpeciesTables;
 
 // Which table a row is a part of, by the lengths of the own table's row and of the row.
 fn table_of(own: usize, row: usize) -> u32
@@ -39,11 +40,21 @@ pub extern "C" fn tyn_species_row<'a>(
 ) -> FlatRow
     ensures { RowSays (tables own_ids.now own_params.now ids.now params.now) species result }
 {
-    let done = FlatDone::from(potentials_calls::species_row_asked(
-        own_ids, own_params, ids, params, species,
-    ));
-    let own = potentials_calls::species_row(own_ids, own_params, &[], &[], species);
-    let row = potentials_calls::species_row(own_ids, own_params, ids, params, species);
+    let tables = SpeciesTables {
+        own_ids,
+        own_params,
+        ids,
+        params,
+    };
+    let own_alone = SpeciesTables {
+        own_ids,
+        own_params,
+        ids: &[],
+        params: &[],
+    };
+    let done = FlatDone::from(potentials_calls::species_row_asked(&tables, species));
+    let own = potentials_calls::species_row(&own_alone, species);
+    let row = potentials_calls::species_row(&tables, species);
     FlatRow {
         done,
         table: table_of(own.len(), row.len()),

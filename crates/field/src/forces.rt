@@ -7,11 +7,14 @@ ghost use Rattle.field_structs.specs.Taken.{cell_of, lj_of, setting_of, state_of
 ghost use Rattle.potentials.specs.Calls.{BondsAllSays, CoulombAllSays, CoulombPairsSays, LjAllSays, LjPairsSays, MonatomicSays, UniformSays, argon_of};
 ghost use Rattle.std.specs.Prelude.{◌≡◌};
 
+use evaluate::Molecule;
 use field_structs::{
     FlatBondAnswer, FlatCell, FlatEvaluated, FlatLj, FlatLjAnswer, FlatSetting, FlatState,
     FlatSummed,
 };
-use potentials::Bond;
+use potentials::{Bond, BondRows};
+use potentials_angle::AngleRows;
+use potentials_pair::SpeciesTables;
 use virial::Units;
 
 // Lennard-Jones numbers of a single species, shifted. Refusal 3.
@@ -56,13 +59,16 @@ pub extern "C" fn tyn_lj_pairs(
 ) -> FlatSummed
     ensures { Shown flat_summed (λ a. LjPairsSays (lj_of lj) (cell_of cell) (tables own_ids.now own_params.now ids.now params.now) species.now positions.now pairs.now forces.old a forces.new) result }
 {
-    potentials_calls::lj_pairs(
-        lj.into(),
-        cell.into(),
+    let tables = SpeciesTables {
         own_ids,
         own_params,
         ids,
         params,
+    };
+    potentials_calls::lj_pairs(
+        lj.into(),
+        cell.into(),
+        &tables,
         species,
         positions,
         pairs,
@@ -86,18 +92,13 @@ pub extern "C" fn tyn_lj_all(
 ) -> FlatSummed
     ensures { Shown flat_summed (λ a. LjAllSays (lj_of lj) (cell_of cell) (tables own_ids.now own_params.now ids.now params.now) species.now positions.now forces.old a forces.new) result }
 {
-    potentials_calls::lj_all(
-        lj.into(),
-        cell.into(),
+    let tables = SpeciesTables {
         own_ids,
         own_params,
         ids,
         params,
-        species,
-        positions,
-        forces,
-    )
-    .into()
+    };
+    potentials_calls::lj_all(lj.into(), cell.into(), &tables, species, positions, forces).into()
 }
 
 // Coulomb over the listed pairs: forces overwritten, from zero. Refusals 1, 2, 3, 4.
@@ -153,7 +154,12 @@ pub extern "C" fn tyn_bonds_all(
 ) -> FlatSummed
     ensures { Shown flat_summed (λ a. BondsAllSays bond (cell_of cell) bonds.now lengths.now ks.now positions.now forces.old a forces.new) result }
 {
-    potentials_calls::bonds_all(bond, cell.into(), bonds, lengths, ks, positions, forces).into()
+    let rows = BondRows {
+        ends: bonds,
+        lengths,
+        ks,
+    };
+    potentials_calls::bonds_all(bond, cell.into(), &rows, positions, forces).into()
 }
 
 // The list brought up to date, then each present term, Lennard-Jones, Coulomb, bonds, angles, merged in this order into zero. Refusals 1, 2, 6, 3, 4, 5, 7, 8.
@@ -182,20 +188,29 @@ pub extern "C" fn tyn_evaluate(
 ) -> FlatEvaluated
     ensures { let j = job_of (setting_of setting) (state_of s) (tables own_ids.now own_params.now ids.now params.now) species.now charges.now bonds.now lengths.now ks.now angles.now per_angle.now positions.now exclusions.now pairs.old references.old starts.old items.old forces.old in Shown flat_evaluated (λ a. EvaluateSays j a pairs.new references.new starts.new items.new forces.new × EvaluateLists j a pairs.new) result }
 {
+    let molecule = Molecule {
+        tables: SpeciesTables {
+            own_ids,
+            own_params,
+            ids,
+            params,
+        },
+        species,
+        charges,
+        bonds: BondRows {
+            ends: bonds,
+            lengths,
+            ks,
+        },
+        angles: AngleRows {
+            corners: angles,
+            per_angle,
+        },
+    };
     evaluate::evaluate(
         setting.into(),
         s.into(),
-        own_ids,
-        own_params,
-        ids,
-        params,
-        species,
-        charges,
-        bonds,
-        lengths,
-        ks,
-        angles,
-        per_angle,
+        &molecule,
         positions,
         exclusions,
         pairs,

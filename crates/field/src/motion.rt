@@ -5,7 +5,11 @@ ghost use Rattle.field_structs.specs.Shown.{Shown};
 ghost use Rattle.field_structs.specs.Taken.{pace_of, setting_of, state_of};
 ghost use Rattle.verlet_step.specs.Calls.{FinishSays, StepLists, StepSays, motion_of};
 
+use evaluate::Molecule;
 use field_structs::{FlatPace, FlatSetting, FlatState, FlatStepped};
+use potentials::BondRows;
+use potentials_angle::AngleRows;
+use potentials_pair::SpeciesTables;
 
 // One step of velocity Verlet: half a kick and the drift, the evaluation, half a kick, the thermostat. forces and potential are those at the positions.
 // Where a 7 or 8 stopped it after the drift (stopped is 1), positions and velocities are drifted, forces and potential old: call tyn_finish with more
@@ -39,22 +43,31 @@ pub extern "C" fn tyn_step(
 ) -> FlatStepped
     ensures { let m = motion_of (setting_of setting) (pace_of pace).dt (state_of s) potential (tables own_ids.now own_params.now ids.now params.now) species.now charges.now bonds.now lengths.now ks.now angles.now per_angle.now masses.now exclusions.now positions.old velocities.old pairs.old references.old starts.old items.old forces.old in Shown flat_stepped (λ a. StepSays (pace_of pace).thermostat m a positions.new velocities.new pairs.new references.new starts.new items.new forces.new × StepLists m a positions.new pairs.new) result }
 {
+    let molecule = Molecule {
+        tables: SpeciesTables {
+            own_ids,
+            own_params,
+            ids,
+            params,
+        },
+        species,
+        charges,
+        bonds: BondRows {
+            ends: bonds,
+            lengths,
+            ks,
+        },
+        angles: AngleRows {
+            corners: angles,
+            per_angle,
+        },
+    };
     verlet_step::step(
         setting.into(),
         pace.into(),
         s.into(),
         potential,
-        own_ids,
-        own_params,
-        ids,
-        params,
-        species,
-        charges,
-        bonds,
-        lengths,
-        ks,
-        angles,
-        per_angle,
+        &molecule,
         masses,
         exclusions,
         positions,
@@ -98,22 +111,31 @@ pub extern "C" fn tyn_finish(
 ) -> FlatStepped
     ensures { let m = motion_of (setting_of setting) (pace_of pace).dt (state_of s) potential (tables own_ids.now own_params.now ids.now params.now) species.now charges.now bonds.now lengths.now ks.now angles.now per_angle.now masses.now exclusions.now positions.now velocities.old pairs.old references.old starts.old items.old forces.old in Shown flat_stepped (λ a. FinishSays (pace_of pace).thermostat m a velocities.new pairs.new references.new starts.new items.new forces.new × StepLists m a positions.now pairs.new) result }
 {
+    let molecule = Molecule {
+        tables: SpeciesTables {
+            own_ids,
+            own_params,
+            ids,
+            params,
+        },
+        species,
+        charges,
+        bonds: BondRows {
+            ends: bonds,
+            lengths,
+            ks,
+        },
+        angles: AngleRows {
+            corners: angles,
+            per_angle,
+        },
+    };
     verlet_step::finish(
         setting.into(),
         pace.into(),
         s.into(),
         potential,
-        own_ids,
-        own_params,
-        ids,
-        params,
-        species,
-        charges,
-        bonds,
-        lengths,
-        ks,
-        angles,
-        per_angle,
+        &molecule,
         masses,
         exclusions,
         positions,

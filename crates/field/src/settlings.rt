@@ -5,7 +5,11 @@ ghost use Rattle.field_structs.specs.Taken.{setting_of, state_of};
 ghost use Rattle.fire.specs.Calls.{FireSays, settling_of};
 ghost use Rattle.potentials_pair.specs.Species.{tables};
 
+use evaluate::Molecule;
 use field_structs::{FlatFireOptions, FlatFired, FlatSetting, FlatState};
+use potentials::BondRows;
+use potentials_angle::AngleRows;
+use potentials_pair::SpeciesTables;
 
 // Relaxes the positions to a local minimum of the energy by damped steps: the first evaluation, the atoms at rest, then iterations until the largest force
 // component is within the tolerance or the limit is reached. forces is a room. A refusal inside an iteration tells it and leaves what a step stopped there
@@ -38,21 +42,30 @@ pub extern "C" fn tyn_fire(
 ) -> FlatFired
     ensures { Shown flat_fired (λ a. FireSays (fire_options_of o) (settling_of (fire_options_of o) (setting_of setting) (state_of s) (tables own_ids.now own_params.now ids.now params.now) species.now charges.now bonds.now lengths.now ks.now angles.now per_angle.now masses.now exclusions.now positions.old velocities.old pairs.old references.old starts.old items.old forces.old) a positions.new velocities.new pairs.new references.new starts.new items.new forces.new) result }
 {
+    let molecule = Molecule {
+        tables: SpeciesTables {
+            own_ids,
+            own_params,
+            ids,
+            params,
+        },
+        species,
+        charges,
+        bonds: BondRows {
+            ends: bonds,
+            lengths,
+            ks,
+        },
+        angles: AngleRows {
+            corners: angles,
+            per_angle,
+        },
+    };
     fire::fire(
         o.into(),
         setting.into(),
         s.into(),
-        own_ids,
-        own_params,
-        ids,
-        params,
-        species,
-        charges,
-        bonds,
-        lengths,
-        ks,
-        angles,
-        per_angle,
+        &molecule,
         masses,
         exclusions,
         positions,

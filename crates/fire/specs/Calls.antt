@@ -1,5 +1,5 @@
 -- What `fire` answers and leaves in everything lent: one outcome, made from the entry values alone. Definitions only.
-use Rattle.std.specs.Prelude.{Err, None, Ok, Result, Some}
+use Rattle.std.specs.Prelude.{Err, Ok, Result}
 use Rattle.answer.specs.declared.Refusal.{Refusal}
 use Rattle.std.specs.Prelude.{ℕ, zero, suc, ◌+◌, ◌≡◌, Bool, false, cond, not, List, Float, length}
 use Rattle.std.specs.Float.Ieee.{le}
@@ -9,11 +9,12 @@ use Rattle.virial.specs.Virial.{zero_forces}
 use Rattle.neighbor.specs.declared.State.{State}
 use Rattle.potentials_pair.specs.Species.{Tables}
 use Rattle.neighbor.specs.Update.{given}
+use Rattle.evaluate.specs.declared.Molecule.{Molecule}
 use Rattle.evaluate.specs.declared.Setting.{Setting}
 use Rattle.evaluate.specs.Calls.{Job, job, asked_of, settled_of}
 use Rattle.evaluate.specs.Calls as Evaluation
 use Rattle.verlet_step.specs.Asked.{motion_fits}
-use Rattle.verlet_step.specs.Calls.{Motion, motion, motion_of, advanced_by, all_stays}
+use Rattle.verlet_step.specs.Calls.{Motion, motion, motion_of, motion_on, advanced_by, all_stays}
 use Rattle.verlet_step.specs.Calls as Step
 use Rattle.fire.specs.declared.FireOptions.{FireOptions}
 use Rattle.fire.specs.declared.Fired.{Fired}
@@ -25,6 +26,11 @@ use Rattle.fire.specs.Steer.{largest_force, fresh_gait, steered_of}
 abbrev pub settling_of : FireOptions → Setting → State → (tab : Tables) (species : List ℕ) (charges : List Float) (bonds : List ℕ) (lengths ks : List Float) (angles : List ℕ) (per_angle masses : List Float) (exclusions : List ℕ) (positions velocities : List Float) (pairs : List ℕ) (references : List Float) (starts items : List ℕ) (forces : List Float) → Motion
 settling_of o setting s tab species charges bonds lengths ks angles per_angle masses exclusions positions velocities pairs references starts items forces =
     motion_of setting o.dt s f0 tab species charges bonds lengths ks angles per_angle masses exclusions positions velocities pairs references starts items forces
+
+-- .. from what it is handed with a molecule
+abbrev pub settling_on : FireOptions → Setting → State → Molecule → (masses : List Float) (exclusions : List ℕ) (positions velocities : List Float) (pairs : List ℕ) (references : List Float) (starts items : List ℕ) (forces : List Float) → Motion
+settling_on o setting s m masses exclusions positions velocities pairs references starts items forces =
+    motion_on setting o.dt s f0 m masses exclusions positions velocities pairs references starts items forces
 
 -- between two iterations: what a step leaves (its potential is the energy), the pace, the largest force component, and how many iterations there were
 pub record Relaxing : Type 0 where

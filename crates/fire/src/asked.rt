@@ -1,13 +1,12 @@
 // What is asked before the first evaluation, in 01's order: an evaluation's tests with those of the options and of the motion. Total.
 ghost use Rattle.std.specs.Prelude.{◌≡◌};
-ghost use Rattle.potentials_pair.specs.Species.{tables};
 ghost use Rattle.verlet_step.specs.Asked.{motion_fits};
 ghost use Rattle.fire.specs.Asked.{options_ok, settling_ok};
-ghost use Rattle.fire.specs.Calls.{settling_of, settling_asked};
+ghost use Rattle.fire.specs.Calls.{settling_on, settling_asked};
 
 use crate::FireOptions;
 use answer::Refusal;
-use evaluate::Setting;
+use evaluate::{Molecule, Setting};
 use neighbor::State;
 
 fn motion_fits(positions: usize, velocities: usize, masses: usize) -> bool
@@ -38,17 +37,7 @@ pub(crate) fn asked(
     o: FireOptions,
     setting: Setting,
     s: State,
-    own_ids: &[u32],
-    own_params: &[f64],
-    ids: &[u32],
-    params: &[f64],
-    species: &[u32],
-    charges: &[f64],
-    bonds: &[u32],
-    lengths: &[f64],
-    ks: &[f64],
-    angles: &[u32],
-    per_angle: &[f64],
+    molecule: &Molecule,
     masses: &[f64],
     exclusions: &[u32],
     positions: &[f64],
@@ -59,13 +48,12 @@ pub(crate) fn asked(
     items: &[u32],
     forces: &[f64],
 ) -> Result<(), Refusal>
-    ensures { result ≡ settling_asked o (settling_of o setting s (tables own_ids.now own_params.now ids.now params.now) species.now charges.now bonds.now lengths.now ks.now angles.now per_angle.now masses.now exclusions.now positions.now velocities.now pairs.now references.now starts.now items.now forces.now) }
+    ensures { result ≡ settling_asked o (settling_on o setting s molecule.now masses.now exclusions.now positions.now velocities.now pairs.now references.now starts.now items.now forces.now) }
 {
     let fits = motion_fits(positions.len(), velocities.len(), masses.len());
     let inside = settling_ok(o, masses, velocities);
     evaluate::asked::asked(
-        fits, inside, setting, s, own_ids, own_params, ids, params, species, charges, bonds,
-        lengths, ks, angles, per_angle, positions, exclusions, pairs, references, starts, items,
-        forces,
+        fits, inside, setting, s, molecule, positions, exclusions, pairs, references, starts,
+        items, forces,
     )
 }

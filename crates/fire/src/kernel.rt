@@ -1,8 +1,7 @@
 // The relaxation without tests: the first evaluation, an iteration, all of them.
 ghost use Rattle.std.specs.Prelude.{◌≡◌, false, ◌<◌};
 ghost use Rattle.answer.specs.Seen.{seen};
-ghost use Rattle.potentials_pair.specs.Species.{tables};
-ghost use Rattle.verlet_step.specs.Calls.{motion_of};
+ghost use Rattle.verlet_step.specs.Calls.{motion_on};
 ghost use Rattle.verlet_step.specs.Steps.{stepped_from};
 ghost use Rattle.fire.specs.Calls.{converged_of, goes_on};
 ghost use Rattle.fire.specs.Steps.{stage_of, paced, paced_first, paced_after, BeginSays, TurnSays, RelaxSays, fired_from, fired_refused};
@@ -10,7 +9,7 @@ ghost use Rattle.fire.specs.Steps.{stage_of, paced, paced_first, paced_after, Be
 use crate::steer::Gait;
 use crate::{FireOptions, Fired, steer};
 use answer::Refusal;
-use evaluate::{Evaluated, Setting};
+use evaluate::{Evaluated, Molecule, Setting};
 use neighbor::State;
 use verlet_step::Stepped;
 
@@ -71,17 +70,7 @@ pub(crate) fn begin(
     dt: f64,
     s: State,
     potential: f64,
-    own_ids: &[u32],
-    own_params: &[f64],
-    ids: &[u32],
-    params: &[f64],
-    species: &[u32],
-    charges: &[f64],
-    bonds: &[u32],
-    lengths: &[f64],
-    ks: &[f64],
-    angles: &[u32],
-    per_angle: &[f64],
+    molecule: &Molecule,
     masses: &[f64],
     exclusions: &[u32],
     positions: &[f64],
@@ -92,11 +81,10 @@ pub(crate) fn begin(
     items: &mut [u32],
     forces: &mut [f64],
 ) -> Stage
-    ensures { BeginSays (motion_of setting dt s potential (tables own_ids.now own_params.now ids.now params.now) species.now charges.now bonds.now lengths.now ks.now angles.now per_angle.now masses.now exclusions.now positions.now velocities.old pairs.old references.old starts.old items.old forces.old) result velocities.new pairs.new references.new starts.new items.new forces.new }
+    ensures { BeginSays (motion_on setting dt s potential molecule.now masses.now exclusions.now positions.now velocities.old pairs.old references.old starts.old items.old forces.old) result velocities.new pairs.new references.new starts.new items.new forces.new }
 {
     let e = evaluate::kernel::settle(
-        setting, s, own_ids, own_params, ids, params, species, charges, bonds, lengths, ks, angles,
-        per_angle, positions, exclusions, pairs, references, starts, items, forces,
+        setting, s, molecule, positions, exclusions, pairs, references, starts, items, forces,
     );
     rest(e, dt, forces, velocities)
 }
@@ -122,17 +110,7 @@ fn turn(
     setting: Setting,
     dt_max: f64,
     s: Stage,
-    own_ids: &[u32],
-    own_params: &[f64],
-    ids: &[u32],
-    params: &[f64],
-    species: &[u32],
-    charges: &[f64],
-    bonds: &[u32],
-    lengths: &[f64],
-    ks: &[f64],
-    angles: &[u32],
-    per_angle: &[f64],
+    molecule: &Molecule,
     masses: &[f64],
     exclusions: &[u32],
     positions: &mut [f64],
@@ -144,7 +122,7 @@ fn turn(
     forces: &mut [f64],
 ) -> Stage
     requires { (s.gait.since < 4294967295) × (s.iteration < 4294967295) }
-    ensures { TurnSays dt_max s (motion_of setting s.gait.dt s.last.state s.last.potential (tables own_ids.now own_params.now ids.now params.now) species.now charges.now bonds.now lengths.now ks.now angles.now per_angle.now masses.now exclusions.now positions.old velocities.old pairs.old references.old starts.old items.old forces.old) result positions.new velocities.new pairs.new references.new starts.new items.new forces.new }
+    ensures { TurnSays dt_max s (motion_on setting s.gait.dt s.last.state s.last.potential molecule.now masses.now exclusions.now positions.old velocities.old pairs.old references.old starts.old items.old forces.old) result positions.new velocities.new pairs.new references.new starts.new items.new forces.new }
 {
     let gait = s.gait;
     let last = s.last;
@@ -154,17 +132,7 @@ fn turn(
         gait.dt,
         state,
         last.potential,
-        own_ids,
-        own_params,
-        ids,
-        params,
-        species,
-        charges,
-        bonds,
-        lengths,
-        ks,
-        angles,
-        per_angle,
+        molecule,
         masses,
         exclusions,
         positions,
@@ -190,22 +158,12 @@ fn goes_on(tol: f64, s: Stage) -> bool
     !(s.largest <= tol)
 }
 
-// Iterations up to the limit.
+// Iterations up to the limit. `while`, since the stage itself counts them, and says after a turn whether the next is made.
 pub(crate) fn relax(
     setting: Setting,
     o: FireOptions,
     s: Stage,
-    own_ids: &[u32],
-    own_params: &[f64],
-    ids: &[u32],
-    params: &[f64],
-    species: &[u32],
-    charges: &[f64],
-    bonds: &[u32],
-    lengths: &[f64],
-    ks: &[f64],
-    angles: &[u32],
-    per_angle: &[f64],
+    molecule: &Molecule,
     masses: &[f64],
     exclusions: &[u32],
     positions: &mut [f64],
@@ -217,7 +175,7 @@ pub(crate) fn relax(
     forces: &mut [f64],
 ) -> Stage
     requires { (s.gait.since ≡ 0) × (s.iteration ≡ 0) }
-    ensures { RelaxSays o s (motion_of setting s.gait.dt s.last.state s.last.potential (tables own_ids.now own_params.now ids.now params.now) species.now charges.now bonds.now lengths.now ks.now angles.now per_angle.now masses.now exclusions.now positions.old velocities.old pairs.old references.old starts.old items.old forces.old) result positions.new velocities.new pairs.new references.new starts.new items.new forces.new }
+    ensures { RelaxSays o s (motion_on setting s.gait.dt s.last.state s.last.potential molecule.now masses.now exclusions.now positions.old velocities.old pairs.old references.old starts.old items.old forces.old) result positions.new velocities.new pairs.new references.new starts.new items.new forces.new }
 {
     let limit = o.max_iters;
     let tol = o.force_tol;
@@ -228,9 +186,8 @@ pub(crate) fn relax(
             return t;
         }
         let next = turn(
-            setting, most, t, own_ids, own_params, ids, params, species, charges, bonds, lengths,
-            ks, angles, per_angle, masses, exclusions, positions, velocities, pairs, references,
-            starts, items, forces,
+            setting, most, t, molecule, masses, exclusions, positions, velocities, pairs,
+            references, starts, items, forces,
         );
         t = next;
     }

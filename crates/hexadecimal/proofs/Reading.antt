@@ -1,6 +1,6 @@
 -- Laws of reading: a number's bytes read as that number, and a number that was read stands there in bytes. Assumes nothing.
 use Prim.Native.Nat.{ℕ, suc, ◌+◌, ◌-◌, ◌*◌, ◌/◌, ◌%◌, ◌≤◌, ◌<◌}
-use mathlib.Core.Path.{◌≡◌, refl, ap, ◌∙◌}
+use mathlib.Core.Path.{◌≡◌, refl, sym, ap, ◌∙◌}
 use mathlib.Core.List.{List, [], ◌∷◌, ◌++◌}
 use native.Mathlib.Nat.{add-zero}
 use native.Mathlib.Omega.{arith}
@@ -57,6 +57,18 @@ glyph_digit b =
 joined_good : (b hi lo : ℕ) → hi < b → lo < b → joined b hi lo ≡ hi * b + lo
 unfolding joined
 joined_good b hi lo h k = simp (lt-ltb hi b h, lt-ltb lo b k)
+
+-- as the readers put two halves together: both are numbers, or the first is none, or the second
+pub both_halves : (b hi lo x y : ℕ) → hi < b → lo < b → hi ≡ x → lo ≡ y → hi * b + lo ≡ joined b x y
+both_halves b hi lo x y h k e f = rw (← e, ← f) (sym (joined_good b hi lo h k))
+
+pub no_high : (b x y : ℕ) → b ≡ x → b * b ≡ joined b x y
+unfolding joined
+no_high b x y e = rw (← e) (simp (le-ltb b b (omega arith)))
+
+pub no_low : (b hi x y : ℕ) → hi < b → hi ≡ x → b ≡ y → b * b ≡ joined b x y
+unfolding joined
+no_low b hi x y h e f = rw (← e, ← f) (simp (lt-ltb hi b h, le-ltb b b (omega arith)))
 
 joined_back : (b hi lo : ℕ) → joined b hi lo < b * b → (hi < b) × (lo < b) × (joined b hi lo ≡ hi * b + lo)
 unfolding joined

@@ -1,5 +1,5 @@
 -- From bytes to numbers: lowercase hexadecimal numbers of 2, 4 and 8 digits, as 01's "Job sheet" has them. Definitions only.
-use Rattle.std.specs.Prelude.{ℕ, ◌+◌, ◌-◌, ◌*◌, cond, List, get_or, ltb}
+use Rattle.std.specs.Prelude.{Option, Some, None, ℕ, ◌+◌, ◌-◌, ◌*◌, cond, List, get_or, ltb}
 
 -- the byte at a place; past the end 0, which is neither a digit nor a newline
 abbrev pub byte_at : List ℕ → ℕ → ℕ
@@ -22,3 +22,8 @@ hex4 s at = joined 256 (hex2 s at) (hex2 s (at + 2))
 
 unfoldable pub hex8 : List ℕ → ℕ → ℕ
 hex8 s at = joined 65536 (hex4 s at) (hex4 s (at + 4))
+
+-- what a reader answers, with a number past those of its width where none stands there
+abbrev pub number_or : ℕ → Option ℕ → ℕ
+number_or past (Some n) = n
+number_or past None = past

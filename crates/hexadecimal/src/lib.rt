@@ -2,9 +2,9 @@
 // digit, and nothing is written there.
 #![tactic(auto)]
 
-ghost use Rattle.std.specs.Prelude.{◌≡◌, ◌≤◌, ◌<◌, set};
+ghost use Rattle.std.specs.Prelude.{◌≡◌, ℕ, ◌≤◌, ◌<◌, Some, set};
 ghost use Rattle.std.proofs.lemmas.List.Edits.{sets};
-ghost use Rattle.hexadecimal.specs.Digits.{byte_at, digit_of, joined, hex2 as digits_hex2, hex4 as digits_hex4, hex8 as digits_hex8};
+ghost use Rattle.hexadecimal.specs.Digits.{byte_at, digit_of, number_or, hex2 as digits_hex2, hex4 as digits_hex4, hex8 as digits_hex8};
 ghost use Rattle.hexadecimal.specs.Glyphs.{glyph_of, text2, text4, text8};
 
 // The byte at a place, and 0 past the end.
@@ -14,71 +14,56 @@ pub fn byte_at(s: &[u8], at: usize) -> u8
     if at < s.len() { s[at] } else { 0 }
 }
 
-// The value of a digit, and 16 for any other byte.
-pub fn digit(b: u8) -> u64
-    ensures { result ≡ digit_of b }
+// The value of a digit; none for any other byte.
+pub fn digit(b: u8) -> Option<u8>
+    ensures value { number_or 16 result ≡ digit_of b }
+    ensures below { (d : ℕ) → result ≡ Some d → d < 16 }
 {
     if b < 48 {
-        16
+        None
     } else if b < 58 {
-        (b - 48) as u64
+        Some(b - 48)
     } else if b < 97 {
-        16
+        None
     } else if b < 103 {
-        (b - 87) as u64
+        Some(b - 87)
     } else {
-        16
+        None
     }
 }
 
-// A number of two halves, and the base's square where one of them is none.
-fn join(base: u64, hi: u64, lo: u64) -> u64
-    requires { base ≤ 65536 }
-    ensures { result ≡ joined base hi lo }
-{
-    if hi < base {
-        if lo < base {
-            hi * base + lo
-        } else {
-            base * base
-        }
-    } else {
-        base * base
-    }
-}
-
-// The number of two digits at a place, and 256 where they are not two digits. (The first test keeps the places in range.)
-pub fn hex2(s: &[u8], at: usize) -> u64
-    ensures { result ≡ digits_hex2 s.now at }
+// The number of two digits at a place; none where they are not two digits. (The first test keeps the places in range.)
+pub fn hex2(s: &[u8], at: usize) -> Option<u8>
+    ensures { number_or 256 result ≡ digits_hex2 s.now at }
 {
     if s.len() <= at {
-        return 256;
+        return None;
     }
-    let hi = digit(byte_at(s, at));
-    let lo = digit(byte_at(s, at + 1));
-    join(16, hi, lo)
+    let hi = digit(byte_at(s, at))?;
+    let lo = digit(byte_at(s, at + 1))?;
+    Some(hi * 16 + lo)
 }
 
-pub fn hex4(s: &[u8], at: usize) -> u64
-    ensures { result ≡ digits_hex4 s.now at }
+pub fn hex4(s: &[u8], at: usize) -> Option<u16>
+    ensures { number_or 65536 result ≡ digits_hex4 s.now at }
 {
     if s.len() <= at {
-        return 65536;
+        return None;
     }
-    let hi = hex2(s, at);
-    let lo = hex2(s, at + 2);
-    join(256, hi, lo)
+    let hi = hex2(s, at)?;
+    let lo = hex2(s, at + 2)?;
+    Some(hi as u16 * 256 + lo as u16)
 }
 
-pub fn hex8(s: &[u8], at: usize) -> u64
-    ensures { result ≡ digits_hex8 s.now at }
+pub fn hex8(s: &[u8], at: usize) -> Option<u32>
+    ensures { number_or 4294967296 result ≡ digits_hex8 s.now at }
 {
     if s.len() <= at {
-        return 4294967296;
+        return None;
     }
-    let hi = hex4(s, at);
-    let lo = hex4(s, at + 4);
-    join(65536, hi, lo)
+    let hi = hex4(s, at)?;
+    let lo = hex4(s, at + 4)?;
+    Some(hi as u32 * 65536 + lo as u32)
 }
 
 fn glyph(d: u64) -> u8

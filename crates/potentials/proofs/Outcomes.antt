@@ -1,5 +1,5 @@
 -- A public call's outcome by its two ways, refused and answered; and that an answered call's tables ascend, so that its lookup is the one by membership. Assumes nothing.
-use Rattle.std.specs.Prelude.{Err, None, Ok, Option, Result, Some}
+use Rattle.std.specs.Prelude.{Err, Ok, Option, Result}
 use Rattle.cell.specs.declared.Lattice.{Lattice}
 use mathlib.Core.Path.{◌≡◌, refl, sym, ap, ◌∙◌}
 use mathlib.Core.Bool.{Bool, true, false, cond}

@@ -1,5 +1,5 @@
 -- What each public call answers, and what it leaves in the lent forces: one relation a call. Tests in 01's order, 1 to 5; a refusal leaves the forces as they came. Definitions only.
-use Rattle.std.specs.Prelude.{Err, None, Ok, Option, Result, Some}
+use Rattle.std.specs.Prelude.{Err, Ok, Option, Result}
 use Rattle.answer.specs.declared.Refusal.{Refusal}
 use Rattle.cell.specs.declared.Lattice.{Lattice}
 use Rattle.std.specs.Prelude.{◌≡◌, Bool, true, cond, ◌&&◌, List, [], ℕ, ◌/◌, ◌%◌, eqb, ltb, Float, length}

@@ -7,7 +7,7 @@ ghost use Rattle.potentials_pair.specs.Pull.{held};
 ghost use Rattle.potentials.specs.Terms.{bond_step};
 ghost use Rattle.potentials.specs.Blocks.{block_step, bond_at, length_on, bond_energy_on, bond_slope_on, bonded_step, with_pull, Block, Bonded, PlaceAdds, Sifted};
 
-use crate::{Bond, block, pairs};
+use crate::{Bond, BondRows, block, pairs};
 use cell_prepared::Prepared;
 use virial::Sum;
 
@@ -15,9 +15,7 @@ use virial::Sum;
 fn gather(
     bond: Bond,
     p: Prepared,
-    table: &[u32],
-    lengths: &[f64],
-    ks: &[f64],
+    bonds: &BondRows,
     xs: &[f64],
     b: usize,
     c: usize,
@@ -25,16 +23,16 @@ fn gather(
     apart: &mut [f64],
     two: &mut [f64],
 ) -> usize
-    requires { (c < 128) × (b < length table.now / 2) × Block atoms.old apart.old two.old }
-    ensures { PlaceAdds (block_step bond_at atoms.old apart.old two.old) (block_step bond_at atoms.new apart.new two.new) c result (bond_step (λ d. image_in p d) bond table.now lengths.now ks.now xs.now) b }
+    requires { (c < 128) × (b < length bonds.now.ends.now / 2) × Block atoms.old apart.old two.old }
+    ensures { PlaceAdds (block_step bond_at atoms.old apart.old two.old) (block_step bond_at atoms.new apart.new two.new) c result (bond_step (λ d. image_in p d) bond bonds.now.ends.now bonds.now.lengths.now bonds.now.ks.now xs.now) b }
 {
-    let i = pairs::first_of(table, b);
-    let j = pairs::second_of(table, b);
+    let i = pairs::first_of(bonds.ends, b);
+    let j = pairs::second_of(bonds.ends, b);
     if pairs::is_absent(xs.len() / 3, i, j) {
         return c;
     }
-    let r0 = potentials_pair::kernel::table_at(lengths, b, bond.r0);
-    let k = potentials_pair::kernel::table_at(ks, b, bond.k);
+    let r0 = potentials_pair::kernel::table_at(bonds.lengths, b, bond.r0);
+    let k = potentials_pair::kernel::table_at(bonds.ks, b, bond.k);
     let d = pairs::quick_displacement(p, xs, i, j);
     block::put(c, i, j, d, k, r0, atoms, apart, two);
     c + 1
@@ -44,9 +42,7 @@ fn gather(
 fn sift(
     bond: Bond,
     p: Prepared,
-    table: &[u32],
-    lengths: &[f64],
-    ks: &[f64],
+    bonds: &BondRows,
     xs: &[f64],
     from: usize,
     to: usize,
@@ -54,12 +50,12 @@ fn sift(
     apart: &mut [f64],
     two: &mut [f64],
 ) -> usize
-    requires { (from ≤ to) × (to ≤ from + 128) × (to ≤ length table.now / 2) × Block atoms.old apart.old two.old }
-    ensures { Sifted (block_step bond_at atoms.new apart.new two.new) result (bond_step (λ d. image_in p d) bond table.now lengths.now ks.now xs.now) (up_to (length (rows table.now))) from to }
+    requires { (from ≤ to) × (to ≤ from + 128) × (to ≤ length bonds.now.ends.now / 2) × Block atoms.old apart.old two.old }
+    ensures { Sifted (block_step bond_at atoms.new apart.new two.new) result (bond_step (λ d. image_in p d) bond bonds.now.ends.now bonds.now.lengths.now bonds.now.ks.now xs.now) (up_to (length (rows bonds.now.ends.now))) from to }
 {
     let mut c = 0;
     for b in from..to {
-        c = gather(bond, p, table, lengths, ks, xs, b, c, atoms, apart, two);
+        c = gather(bond, p, bonds, xs, b, c, atoms, apart, two);
     }
     c
 }
@@ -144,13 +140,11 @@ fn add_all(
     s
 }
 
-// The rows of a table, a block after the other. `while`, since `block_end` says how far each turn goes: a `for` cannot jump.
+// The bonds, a block after the other. `while`, since `block_end` says how far each turn goes: a `for` cannot jump.
 fn by_blocks(
     bond: Bond,
     p: Prepared,
-    table: &[u32],
-    lengths: &[f64],
-    ks: &[f64],
+    bonds: &BondRows,
     xs: &[f64],
     atoms: &mut [usize],
     apart: &mut [f64],
@@ -161,13 +155,13 @@ fn by_blocks(
     sum: Sum,
 ) -> Sum
     requires { Block atoms.old apart.old two.old × (length roots.old ≡ 128) × (length pulls.old ≡ 256) }
-    ensures { held result forces.new ≡ foldl (bond_step (λ d. image_in p d) bond table.now lengths.now ks.now xs.now) (held sum forces.old) (up_to (length (rows table.now))) }
+    ensures { held result forces.new ≡ foldl (bond_step (λ d. image_in p d) bond bonds.now.ends.now bonds.now.lengths.now bonds.now.ks.now xs.now) (held sum forces.old) (up_to (length (rows bonds.now.ends.now))) }
 {
     let mut s = sum;
     let mut b = 0;
-    while b < table.len() / 2 {
-        let to = block::block_end(b, table.len() / 2);
-        let n = sift(bond, p, table, lengths, ks, xs, b, to, atoms, apart, two);
+    while b < bonds.ends.len() / 2 {
+        let to = block::block_end(b, bonds.ends.len() / 2);
+        let n = sift(bond, p, bonds, xs, b, to, atoms, apart, two);
         estimate_all(n, apart, roots);
         pull_all(n, apart, two, roots, pulls);
         s = add_all(n, atoms, apart, roots, pulls, forces, s);
@@ -176,18 +170,16 @@ fn by_blocks(
     s
 }
 
-// The rows of a table, in order.
+// The bonds, in order.
 pub(crate) fn over(
     bond: Bond,
     p: Prepared,
-    table: &[u32],
-    lengths: &[f64],
-    ks: &[f64],
+    bonds: &BondRows,
     xs: &[f64],
     forces: &mut [f64],
     sum: Sum,
 ) -> Sum
-    ensures { held result forces.new ≡ foldl (bond_step (λ d. image_in p d) bond table.now lengths.now ks.now xs.now) (held sum forces.old) (up_to (length (rows table.now))) }
+    ensures { held result forces.new ≡ foldl (bond_step (λ d. image_in p d) bond bonds.now.ends.now bonds.now.lengths.now bonds.now.ks.now xs.now) (held sum forces.old) (up_to (length (rows bonds.now.ends.now))) }
 {
     let mut atoms = block::blank_atoms();
     let mut apart = block::blank_apart();
@@ -195,7 +187,6 @@ pub(crate) fn over(
     let mut roots = block::blank_one();
     let mut pulls = block::blank_two();
     by_blocks(
-        bond, p, table, lengths, ks, xs, &mut atoms, &mut apart, &mut two, &mut roots, &mut pulls,
-        forces, sum,
+        bond, p, bonds, xs, &mut atoms, &mut apart, &mut two, &mut roots, &mut pulls, forces, sum,
     )
 }

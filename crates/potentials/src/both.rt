@@ -3,13 +3,13 @@
 ghost use Rattle.std.specs.Prelude.{◌≡◌, length};
 ghost use mathlib.Core.List.{foldl};
 ghost use Rattle.lists.specs.Lists.{rows};
-ghost use Rattle.potentials_pair.specs.Species.{tables};
+ghost use Rattle.potentials_pair.specs.Species.{tables_of};
 ghost use Rattle.potentials_pair.specs.Pull.{held};
 ghost use Rattle.potentials.specs.Steps.{lj_step, coulomb_step, Kept};
 
 use crate::{BothSums, block, coulomb, kept, lennard_jones, rows};
 use cell_prepared::Prepared;
-use potentials_pair::Lj;
+use potentials_pair::{Lj, SpeciesTables};
 use virial::Sum;
 
 // The rows of a list, a block after the other. `while`, since `block_end` says how far each turn goes: a `for` cannot jump.
@@ -18,10 +18,7 @@ fn by_blocks(
     ke: f64,
     cutoff: f64,
     p: Prepared,
-    own_ids: &[u32],
-    own_params: &[f64],
-    ids: &[u32],
-    params: &[f64],
+    tables: &SpeciesTables,
     species: &[u32],
     charges: &[f64],
     xs: &[f64],
@@ -36,8 +33,8 @@ fn by_blocks(
     sum: Sum,
 ) -> BothSums
     requires ways_len { (length ways.old ≡ 512) × (length two.old ≡ 256) × (length pulls.old ≡ 256) }
-    requires kept { Kept lj (tables own_ids.now own_params.now ids.now params.now) atoms.old room.old }
-    ensures forces_after { held result.lj forces.new ≡ foldl (lj_step lj p (tables own_ids.now own_params.now ids.now params.now) species.now xs.now) (held sum forces.old) (rows table.now) }
+    requires kept { Kept lj (tables_of tables.now) atoms.old room.old }
+    ensures forces_after { held result.lj forces.new ≡ foldl (lj_step lj p (tables_of tables.now) species.now xs.now) (held sum forces.old) (rows table.now) }
     ensures others_after { held result.coulomb others.new ≡ foldl (coulomb_step ke cutoff p charges.now xs.now) (held sum others.old) (rows table.now) }
 {
     let mut s = sum;
@@ -48,8 +45,7 @@ fn by_blocks(
         let to = block::block_end(k, table.len() / 2);
         went = rows::lay_rows(p, xs, table, k, to, ways, went);
         s = lennard_jones::add(
-            lj, own_ids, own_params, ids, params, species, table, k, to, ways, atoms, room, pulls,
-            forces, s,
+            lj, tables, species, table, k, to, ways, atoms, room, pulls, forces, s,
         );
         t = coulomb::add(
             ke, cutoff, charges, table, k, to, ways, two, pulls, others, t,
@@ -65,10 +61,7 @@ pub(crate) fn over(
     ke: f64,
     cutoff: f64,
     p: Prepared,
-    own_ids: &[u32],
-    own_params: &[f64],
-    ids: &[u32],
-    params: &[f64],
+    tables: &SpeciesTables,
     species: &[u32],
     charges: &[f64],
     xs: &[f64],
@@ -77,16 +70,16 @@ pub(crate) fn over(
     others: &mut [f64],
     sum: Sum,
 ) -> BothSums
-    ensures forces_after { held result.lj forces.new ≡ foldl (lj_step lj p (tables own_ids.now own_params.now ids.now params.now) species.now xs.now) (held sum forces.old) (rows table.now) }
+    ensures forces_after { held result.lj forces.new ≡ foldl (lj_step lj p (tables_of tables.now) species.now xs.now) (held sum forces.old) (rows table.now) }
     ensures others_after { held result.coulomb others.new ≡ foldl (coulomb_step ke cutoff p charges.now xs.now) (held sum others.old) (rows table.now) }
 {
     let mut ways = rows::blank_ways();
     let mut atoms = kept::blank_keys();
-    let mut room = kept::first_room(own_ids, own_params, ids, params, lj);
+    let mut room = kept::first_room(tables, lj);
     let mut two = block::blank_two();
     let mut pulls = block::blank_two();
     by_blocks(
-        lj, ke, cutoff, p, own_ids, own_params, ids, params, species, charges, xs, table,
-        &mut ways, &mut atoms, &mut room, &mut two, &mut pulls, forces, others, sum,
+        lj, ke, cutoff, p, tables, species, charges, xs, table, &mut ways, &mut atoms, &mut room,
+        &mut two, &mut pulls, forces, others, sum,
     )
 }

@@ -1,23 +1,15 @@
 // The numbers of two species, remembered: 16 rows, each of a key, so that a root is taken once for two species and not once for two atoms. They lie in
 // Lennard-Jones's room, behind what its 128 places have: a slice fewer in each call.
 ghost use Rattle.std.specs.Prelude.{◌≡◌, ◌+◌, ◌*◌, ◌^◌, length};
-ghost use Rattle.potentials_pair.specs.Species.{tables};
+ghost use Rattle.potentials_pair.specs.Species.{tables_of};
 ghost use Rattle.potentials.specs.Steps.{numbers_for, slot_of, Kept, Renewed, BlankKeys, FirstRow};
 
-use potentials_pair::{Lj, Numbers};
+use potentials_pair::{Lj, Numbers, SpeciesTables};
 
-fn numbers_for(
-    own_ids: &[u32],
-    own_params: &[f64],
-    ids: &[u32],
-    params: &[f64],
-    lj: Lj,
-    y: u32,
-    z: u32,
-) -> Numbers
-    ensures { result ≡ numbers_for lj (tables own_ids.now own_params.now ids.now params.now) y z }
+fn numbers_for(tables: &SpeciesTables, lj: Lj, y: u32, z: u32) -> Numbers
+    ensures { result ≡ numbers_for lj (tables_of tables.now) y z }
 {
-    let m = potentials_pair::species::mixed(own_ids, own_params, ids, params, lj, y, z);
+    let m = potentials_pair::species::mixed(tables, lj, y, z);
     potentials_pair::lennard_jones::numbers_of(lj, m)
 }
 
@@ -48,16 +40,10 @@ fn blank_room() -> [f64; 561]
 }
 
 // A room whose row 0 is right. No other row can have the key 0.
-pub(crate) fn first_room(
-    own_ids: &[u32],
-    own_params: &[f64],
-    ids: &[u32],
-    params: &[f64],
-    lj: Lj,
-) -> [f64; 561]
-    ensures { FirstRow lj (tables own_ids.now own_params.now ids.now params.now) result }
+pub(crate) fn first_room(tables: &SpeciesTables, lj: Lj) -> [f64; 561]
+    ensures { FirstRow lj (tables_of tables.now) result }
 {
-    let n = numbers_for(own_ids, own_params, ids, params, lj, 0, 0);
+    let n = numbers_for(tables, lj, 0, 0);
     let mut room = blank_room();
     room[513] = n.depth;
     room[514] = n.square;
@@ -67,10 +53,7 @@ pub(crate) fn first_room(
 
 // Row s made anew for y and z.
 fn renew(
-    own_ids: &[u32],
-    own_params: &[f64],
-    ids: &[u32],
-    params: &[f64],
+    tables: &SpeciesTables,
     lj: Lj,
     y: u32,
     z: u32,
@@ -79,11 +62,11 @@ fn renew(
     room: &mut [f64],
 ) -> Numbers
     requires s_value { s ≡ slot_of y z }
-    requires kept { Kept lj (tables own_ids.now own_params.now ids.now params.now) atoms.old room.old }
-    ensures value { result ≡ numbers_for lj (tables own_ids.now own_params.now ids.now params.now) y z }
-    ensures renewed { Renewed lj (tables own_ids.now own_params.now ids.now params.now) atoms.old atoms.new room.old room.new }
+    requires kept { Kept lj (tables_of tables.now) atoms.old room.old }
+    ensures value { result ≡ numbers_for lj (tables_of tables.now) y z }
+    ensures renewed { Renewed lj (tables_of tables.now) atoms.old atoms.new room.old room.new }
 {
-    let n = numbers_for(own_ids, own_params, ids, params, lj, y, z);
+    let n = numbers_for(tables, lj, y, z);
     let k = 3 * (171 + s);
     atoms[128 + s] = key_of(y, z);
     room[k] = n.depth;
@@ -93,19 +76,16 @@ fn renew(
 }
 
 pub(crate) fn recall(
-    own_ids: &[u32],
-    own_params: &[f64],
-    ids: &[u32],
-    params: &[f64],
+    tables: &SpeciesTables,
     lj: Lj,
     y: u32,
     z: u32,
     atoms: &mut [usize],
     room: &mut [f64],
 ) -> Numbers
-    requires { Kept lj (tables own_ids.now own_params.now ids.now params.now) atoms.old room.old }
-    ensures value { result ≡ numbers_for lj (tables own_ids.now own_params.now ids.now params.now) y z }
-    ensures renewed { Renewed lj (tables own_ids.now own_params.now ids.now params.now) atoms.old atoms.new room.old room.new }
+    requires { Kept lj (tables_of tables.now) atoms.old room.old }
+    ensures value { result ≡ numbers_for lj (tables_of tables.now) y z }
+    ensures renewed { Renewed lj (tables_of tables.now) atoms.old atoms.new room.old room.new }
 {
     let s = slot_of(y, z);
     if atoms[128 + s] == key_of(y, z) {
@@ -116,5 +96,5 @@ pub(crate) fn recall(
             shift: room[k + 2],
         };
     }
-    renew(own_ids, own_params, ids, params, lj, y, z, s, atoms, room)
+    renew(tables, lj, y, z, s, atoms, room)
 }

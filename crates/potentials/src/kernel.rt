@@ -2,14 +2,14 @@
 // overwritten with the term's own, from zero. No public call.
 ghost use Rattle.std.specs.Prelude.{◌≡◌, length};
 ghost use Rattle.lists.specs.Lists.{rows};
-ghost use Rattle.potentials_pair.specs.Species.{tables, look_by};
+ghost use Rattle.potentials_pair.specs.Species.{tables_of, look_by};
 ghost use Rattle.potentials_pair.specs.Pull.{held};
 ghost use Rattle.potentials.specs.Terms.{lj_over, coulomb_over, bonds_over};
 ghost use Rattle.potentials.specs.Calls.{monatomic_of};
 
-use crate::{Bond, BothSums};
+use crate::{Bond, BondRows, BothSums};
 use cell::Lattice;
-use potentials_pair::{Lj, Mixing};
+use potentials_pair::{Lj, Mixing, SpeciesTables};
 use virial::{Sum, Units};
 
 pub fn monatomic(epsilon: f64, sigma: f64, cutoff: f64) -> Lj
@@ -28,23 +28,18 @@ pub fn monatomic(epsilon: f64, sigma: f64, cutoff: f64) -> Lj
 pub fn lj_pairs(
     lj: Lj,
     cell: Option<Lattice>,
-    own_ids: &[u32],
-    own_params: &[f64],
-    ids: &[u32],
-    params: &[f64],
+    tables: &SpeciesTables,
     species: &[u32],
     positions: &[f64],
     pairs: &[u32],
     forces: &mut [f64],
 ) -> Sum
-    ensures { held result forces.new ≡ lj_over (look_by (tables own_ids.now own_params.now ids.now params.now) lj) lj cell species.now positions.now (length forces.old) (rows pairs.now) }
+    ensures { held result forces.new ≡ lj_over (look_by (tables_of tables.now) lj) lj cell species.now positions.now (length forces.old) (rows pairs.now) }
 {
     virial::kernel::clear(forces);
     let p = cell_prepared::prepare(cell);
     let sum = virial::kernel::zero();
-    crate::lennard_jones::over(
-        lj, p, own_ids, own_params, ids, params, species, positions, pairs, forces, sum,
-    )
+    crate::lennard_jones::over(lj, p, tables, species, positions, pairs, forces, sum)
 }
 
 pub fn coulomb_pairs(
@@ -79,10 +74,7 @@ pub fn both_pairs(
     units: Units,
     cutoff: f64,
     cell: Option<Lattice>,
-    own_ids: &[u32],
-    own_params: &[f64],
-    ids: &[u32],
-    params: &[f64],
+    tables: &SpeciesTables,
     species: &[u32],
     charges: &[f64],
     positions: &[f64],
@@ -90,7 +82,7 @@ pub fn both_pairs(
     forces: &mut [f64],
     others: &mut [f64],
 ) -> BothSums
-    ensures forces_after { held result.lj forces.new ≡ lj_over (look_by (tables own_ids.now own_params.now ids.now params.now) lj) lj cell species.now positions.now (length forces.old) (rows pairs.now) }
+    ensures forces_after { held result.lj forces.new ≡ lj_over (look_by (tables_of tables.now) lj) lj cell species.now positions.now (length forces.old) (rows pairs.now) }
     ensures others_after { held result.coulomb others.new ≡ coulomb_over units.ke_coulomb cutoff cell charges.now positions.now (length others.old) (rows pairs.now) }
 {
     virial::kernel::clear(forces);
@@ -102,10 +94,7 @@ pub fn both_pairs(
         units.ke_coulomb,
         cutoff,
         p,
-        own_ids,
-        own_params,
-        ids,
-        params,
+        tables,
         species,
         charges,
         positions,
@@ -116,20 +105,17 @@ pub fn both_pairs(
     )
 }
 
-// `lengths` is the Rust's per_bond, `ks` its per_bond_k.
 pub fn bonds_all(
     bond: Bond,
     cell: Option<Lattice>,
-    bonds: &[u32],
-    lengths: &[f64],
-    ks: &[f64],
+    bonds: &BondRows,
     positions: &[f64],
     forces: &mut [f64],
 ) -> Sum
-    ensures { held result forces.new ≡ bonds_over bond cell bonds.now lengths.now ks.now positions.now (length forces.old) }
+    ensures { held result forces.new ≡ bonds_over bond cell bonds.now.ends.now bonds.now.lengths.now bonds.now.ks.now positions.now (length forces.old) }
 {
     virial::kernel::clear(forces);
     let p = cell_prepared::prepare(cell);
     let sum = virial::kernel::zero();
-    crate::bonds::over(bond, p, bonds, lengths, ks, positions, forces, sum)
+    crate::bonds::over(bond, p, bonds, positions, forces, sum)
 }

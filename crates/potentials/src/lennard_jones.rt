@@ -2,7 +2,7 @@
 ghost use Rattle.std.specs.Prelude.{◌≡◌, ◌+◌, ◌-◌, ◌/◌, ◌≤◌, ◌<◌, length, get_or};
 ghost use mathlib.Core.List.{foldl};
 ghost use Rattle.lists.specs.Lists.{up_to, rows};
-ghost use Rattle.potentials_pair.specs.Species.{tables};
+ghost use Rattle.potentials_pair.specs.Species.{tables_of};
 ghost use Rattle.potentials_pair.specs.Pull.{held};
 ghost use Rattle.potentials.specs.Steps.{lj_step, NearBlock, Kept};
 ghost use Rattle.potentials.specs.Blocks.{lj_energy_on, lj_slope_on, with_pull, Pulled, NumberedAt, Recalled};
@@ -10,7 +10,7 @@ ghost use Rattle.potentials.specs.Rows.{lj_rowed, NearPicked, RowsThere};
 
 use crate::{block, kept, pairs, rows};
 use cell_prepared::Prepared;
-use potentials_pair::{Lj, Numbers};
+use potentials_pair::{Lj, Numbers, SpeciesTables};
 use virial::Sum;
 
 fn species_of(species: &[u32], i: usize) -> u32
@@ -43,10 +43,7 @@ fn number_at(
     m: usize,
     n: usize,
     lj: Lj,
-    own_ids: &[u32],
-    own_params: &[f64],
-    ids: &[u32],
-    params: &[f64],
+    tables: &SpeciesTables,
     species: &[u32],
     table: &[u32],
     from: usize,
@@ -54,13 +51,13 @@ fn number_at(
     room: &mut [f64],
 )
     requires m_lt_n { (m < n) × RowsThere table.now from atoms.old n }
-    requires kept { Kept lj (tables own_ids.now own_params.now ids.now params.now) atoms.old room.old }
-    ensures { NumberedAt lj (tables own_ids.now own_params.now ids.now params.now) species.now table.now from atoms.old atoms.new room.old room.new m }
+    requires kept { Kept lj (tables_of tables.now) atoms.old room.old }
+    ensures { NumberedAt lj (tables_of tables.now) species.now table.now from atoms.old atoms.new room.old room.new m }
 {
     let k = from + atoms[m];
     let y = species_of(species, pairs::first_of(table, k));
     let z = species_of(species, pairs::second_of(table, k));
-    let r = kept::recall(own_ids, own_params, ids, params, lj, y, z, atoms, room);
+    let r = kept::recall(tables, lj, y, z, atoms, room);
     room[128 + m] = r.depth;
     room[256 + m] = r.square;
     room[384 + m] = r.shift;
@@ -70,10 +67,7 @@ fn number_at(
 fn number_all(
     n: usize,
     lj: Lj,
-    own_ids: &[u32],
-    own_params: &[f64],
-    ids: &[u32],
-    params: &[f64],
+    tables: &SpeciesTables,
     species: &[u32],
     table: &[u32],
     from: usize,
@@ -81,13 +75,11 @@ fn number_all(
     room: &mut [f64],
 )
     requires rows_there { RowsThere table.now from atoms.old n }
-    requires kept { Kept lj (tables own_ids.now own_params.now ids.now params.now) atoms.old room.old }
-    ensures { Recalled lj (tables own_ids.now own_params.now ids.now params.now) species.now table.now from atoms.old atoms.new room.old room.new n }
+    requires kept { Kept lj (tables_of tables.now) atoms.old room.old }
+    ensures { Recalled lj (tables_of tables.now) species.now table.now from atoms.old atoms.new room.old room.new n }
 {
     for m in 0..n {
-        number_at(
-            m, n, lj, own_ids, own_params, ids, params, species, table, from, atoms, room,
-        );
+        number_at(m, n, lj, tables, species, table, from, atoms, room);
     }
 }
 
@@ -119,10 +111,7 @@ fn pull_all(n: usize, shift: bool, room: &[f64], pulls: &mut [f64])
 // What the rows from `from` up to `to` add.
 pub(crate) fn add(
     lj: Lj,
-    own_ids: &[u32],
-    own_params: &[f64],
-    ids: &[u32],
-    params: &[f64],
+    tables: &SpeciesTables,
     species: &[u32],
     table: &[u32],
     from: usize,
@@ -135,14 +124,12 @@ pub(crate) fn add(
     sum: Sum,
 ) -> Sum
     requires from_le_to { (from ≤ to) × (to ≤ from + 128) × (to ≤ length table.now / 2) × (length ways.now ≡ 512) × (length pulls.old ≡ 256) }
-    requires kept { Kept lj (tables own_ids.now own_params.now ids.now params.now) atoms.old room.old }
-    ensures kept_2 { Kept lj (tables own_ids.now own_params.now ids.now params.now) atoms.new room.new }
-    ensures forces_after { held result forces.new ≡ foldl (lj_rowed lj (tables own_ids.now own_params.now ids.now params.now) species.now table.now from ways.now) (held sum forces.old) (up_to (to - from)) }
+    requires kept { Kept lj (tables_of tables.now) atoms.old room.old }
+    ensures kept_2 { Kept lj (tables_of tables.now) atoms.new room.new }
+    ensures forces_after { held result forces.new ≡ foldl (lj_rowed lj (tables_of tables.now) species.now table.now from ways.now) (held sum forces.old) (up_to (to - from)) }
 {
     let n = keep(lj.cutoff, to - from, ways, atoms, room);
-    number_all(
-        n, lj, own_ids, own_params, ids, params, species, table, from, atoms, room,
-    );
+    number_all(n, lj, tables, species, table, from, atoms, room);
     pull_all(n, lj.shift, room, pulls);
     rows::add_all(n, table, from, atoms, ways, pulls, forces, sum)
 }
@@ -151,10 +138,7 @@ pub(crate) fn add(
 fn by_blocks(
     lj: Lj,
     p: Prepared,
-    own_ids: &[u32],
-    own_params: &[f64],
-    ids: &[u32],
-    params: &[f64],
+    tables: &SpeciesTables,
     species: &[u32],
     xs: &[f64],
     table: &[u32],
@@ -166,8 +150,8 @@ fn by_blocks(
     sum: Sum,
 ) -> Sum
     requires ways_len { (length ways.old ≡ 512) × (length pulls.old ≡ 256) }
-    requires kept { Kept lj (tables own_ids.now own_params.now ids.now params.now) atoms.old room.old }
-    ensures { held result forces.new ≡ foldl (lj_step lj p (tables own_ids.now own_params.now ids.now params.now) species.now xs.now) (held sum forces.old) (rows table.now) }
+    requires kept { Kept lj (tables_of tables.now) atoms.old room.old }
+    ensures { held result forces.new ≡ foldl (lj_step lj p (tables_of tables.now) species.now xs.now) (held sum forces.old) (rows table.now) }
 {
     let mut s = sum;
     let mut k = 0;
@@ -176,8 +160,7 @@ fn by_blocks(
         let to = block::block_end(k, table.len() / 2);
         went = rows::lay_rows(p, xs, table, k, to, ways, went);
         s = add(
-            lj, own_ids, own_params, ids, params, species, table, k, to, ways, atoms, room, pulls,
-            forces, s,
+            lj, tables, species, table, k, to, ways, atoms, room, pulls, forces, s,
         );
         k = to;
     }
@@ -188,24 +171,21 @@ fn by_blocks(
 pub fn over(
     lj: Lj,
     p: Prepared,
-    own_ids: &[u32],
-    own_params: &[f64],
-    ids: &[u32],
-    params: &[f64],
+    tables: &SpeciesTables,
     species: &[u32],
     xs: &[f64],
     table: &[u32],
     forces: &mut [f64],
     sum: Sum,
 ) -> Sum
-    ensures { held result forces.new ≡ foldl (lj_step lj p (tables own_ids.now own_params.now ids.now params.now) species.now xs.now) (held sum forces.old) (rows table.now) }
+    ensures { held result forces.new ≡ foldl (lj_step lj p (tables_of tables.now) species.now xs.now) (held sum forces.old) (rows table.now) }
 {
     let mut ways = rows::blank_ways();
     let mut atoms = kept::blank_keys();
-    let mut room = kept::first_room(own_ids, own_params, ids, params, lj);
+    let mut room = kept::first_room(tables, lj);
     let mut pulls = block::blank_two();
     by_blocks(
-        lj, p, own_ids, own_params, ids, params, species, xs, table, &mut ways, &mut atoms,
-        &mut room, &mut pulls, forces, sum,
+        lj, p, tables, species, xs, table, &mut ways, &mut atoms, &mut room, &mut pulls, forces,
+        sum,
     )
 }

@@ -27,6 +27,15 @@ pub struct Bond {
     pub r0: f64,
 }
 
+// The bonds, as they are lent: two atoms a row, and for each row a length at rest and a force constant of its own, the Rust's per_bond and per_bond_k. A row
+// past the end of `lengths` or `ks` takes the number of a `Bond`.
+#[derive(Clone, Copy)]
+pub struct BondRows<'a> {
+    pub ends: &'a [u32],
+    pub lengths: &'a [f64],
+    pub ks: &'a [f64],
+}
+
 // What one walk over a list sums: each term from zero.
 #[derive(Drop)]
 pub struct BothSums {

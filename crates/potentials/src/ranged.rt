@@ -4,7 +4,7 @@ ghost use Rattle.lists.specs.Lists.{every};
 ghost use Rattle.potentials.specs.Ranged.{coordinate, depth, cutoff_ok, charge, rows_in_range, lj_in_range, bond_in_range};
 
 use crate::Bond;
-use potentials_pair::Lj;
+use potentials_pair::{Lj, SpeciesTables};
 
 const ENTRY: f64 = cell::ranged::ENTRY;
 
@@ -36,10 +36,10 @@ pub fn params_in_range(params: &[f64]) -> bool
 }
 
 // Those of both species tables.
-pub fn rows_in_range(own_params: &[f64], params: &[f64]) -> bool
-    ensures { result ≡ rows_in_range own_params.now params.now }
+pub fn rows_in_range(tables: &SpeciesTables) -> bool
+    ensures { result ≡ rows_in_range tables.now.own_params.now tables.now.params.now }
 {
-    params_in_range(own_params) & params_in_range(params)
+    params_in_range(tables.own_params) & params_in_range(tables.params)
 }
 
 pub fn charges_in_range(charges: &[f64]) -> bool

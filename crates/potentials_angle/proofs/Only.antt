@@ -1,14 +1,13 @@
 -- Each public call has one answer and leaves one memory: no second pair of these fits what the call says. Assumes nothing.
-use Rattle.answer.specs.Seen.{seen}
-use Rattle.std.specs.Prelude.{Err, Ok, Option, Result}
+use Rattle.std.specs.Prelude.{Option, Result}
 use Rattle.answer.specs.declared.Refusal.{Refusal}
 use Rattle.cell.specs.declared.Lattice.{Lattice}
 use Rattle.virial.specs.declared.Sum.{Sum}
-use mathlib.Core.Path.{◌≡◌, refl, sym, ap, ◌∙◌}
+use mathlib.Core.Path.{◌≡◌, sym, ap, ◌∙◌}
 use mathlib.Core.List.{List}
 use Prim.Native.Nat.{ℕ}
 use lib.Ieee.{Float}
-use Rattle.answer.proofs.Only.{made, seen_only, told_back}
+use Rattle.answer.proofs.Only.{seen_only}
 use Rattle.potentials.specs.Calls.{Outcome}
 use Rattle.potentials_angle.specs.declared.Angle.{Angle}
 use Rattle.potentials_angle.specs.Calls.{UniformAnglesSays, AnglesAllSays}

@@ -1,12 +1,12 @@
 -- What each public call answers, and what it leaves in the lent forces: one relation a call (02, No. 1). Tests in 01's order, 1 to 4; a refusal leaves the forces as they came. Definitions only.
-use Rattle.std.specs.Prelude.{Err, None, Ok, Option, Result, Some}
+use Rattle.std.specs.Prelude.{Ok, Option, Result}
 use Rattle.answer.specs.declared.Refusal.{Refusal}
 use Rattle.cell.specs.declared.Lattice.{Lattice}
 use Rattle.virial.specs.declared.Sum.{Sum}
 use Rattle.std.specs.Prelude.{◌≡◌, Bool, ◌&&◌, List, ℕ, ◌/◌, ◌%◌, eqb, Float, length}
 use Rattle.lists.specs.Atoms.{atoms_of}
 use Rattle.lists.specs.Lists.{every}
-use Rattle.answer.specs.Seen.{Seen, answered, refused_by, seen}
+use Rattle.answer.specs.Seen.{seen}
 use Rattle.cell.specs.Calls.{when}
 use Rattle.cell.specs.Ranged.{coordinate, cell_in_range}
 use Rattle.potentials.specs.Calls.{asked_by, outcome_of, left}

@@ -1,9 +1,9 @@
 // What is tested before the term is computed: refusals 1 to 4, in their order.
-ghost use Rattle.std.specs.Prelude.{◌≡◌, Ok};
+ghost use Rattle.std.specs.Prelude.{◌≡◌, Ok, length};
 ghost use Rattle.potentials.specs.Calls.{asked_by};
 ghost use Rattle.potentials_angle.specs.Calls.{angles_fit, angles_ranges, angles_asked};
 
-use crate::{Angle, ranged};
+use crate::{Angle, AngleRows, ranged};
 use answer::Refusal;
 use cell::Lattice;
 
@@ -50,15 +50,19 @@ fn in_range(angle: Angle, cell: Option<Lattice>, per_angle: &[f64], xs: &[f64]) 
 pub(crate) fn asked(
     angle: Angle,
     cell: Option<Lattice>,
-    angles: usize,
-    per_angle: &[f64],
+    angles: &AngleRows,
     xs: &[f64],
     forces: usize,
     missing: usize,
 ) -> Result<(), Refusal>
-    ensures { result ≡ angles_asked angle cell angles per_angle.now xs.now forces missing }
+    ensures { result ≡ angles_asked angle cell (length angles.now.corners.now) angles.now.per_angle.now xs.now forces missing }
 {
-    let fit = fits(angles, per_angle.len(), xs.len(), forces);
-    let inside = in_range(angle, cell, per_angle, xs);
-    in_turn(fit, xs.len() / 3, inside, angles / 3, missing)
+    let fit = fits(
+        angles.corners.len(),
+        angles.per_angle.len(),
+        xs.len(),
+        forces,
+    );
+    let inside = in_range(angle, cell, angles.per_angle, xs);
+    in_turn(fit, xs.len() / 3, inside, angles.corners.len() / 3, missing)
 }

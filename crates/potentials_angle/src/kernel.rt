@@ -4,22 +4,21 @@ ghost use Rattle.std.specs.Prelude.{◌≡◌, length};
 ghost use Rattle.potentials_pair.specs.Pull.{held};
 ghost use Rattle.potentials_angle.specs.Terms.{angles_over};
 
-use crate::Angle;
+use crate::{Angle, AngleRows};
 use cell::Lattice;
 use virial::Sum;
 
 pub fn angles_all(
     angle: Angle,
     cell: Option<Lattice>,
-    angles: &[u32],
-    per_angle: &[f64],
+    angles: &AngleRows,
     positions: &[f64],
     forces: &mut [f64],
 ) -> Sum
-    ensures { held result forces.new ≡ angles_over angle cell angles.now per_angle.now positions.now (length forces.old) }
+    ensures { held result forces.new ≡ angles_over angle cell angles.now.corners.now angles.now.per_angle.now positions.now (length forces.old) }
 {
     virial::kernel::clear(forces);
     let p = cell_prepared::prepare(cell);
     let sum = virial::kernel::zero();
-    crate::over::over(angle, p, angles, per_angle, positions, forces, sum)
+    crate::over::over(angle, p, angles, positions, forces, sum)
 }

@@ -23,6 +23,14 @@ pub struct Angle {
     pub rest: f64,
 }
 
+// The angles, as they are lent: three atoms a row, the apex in the middle, and for each row k and rest of its own. A row past the end of `per_angle` takes the
+// numbers of an `Angle`.
+#[derive(Clone, Copy)]
+pub struct AngleRows<'a> {
+    pub corners: &'a [u32],
+    pub per_angle: &'a [f64],
+}
+
 // The three atoms of a row: the Rust's (i, apex, k).
 #[derive(Clone, Copy)]
 pub struct Corner {
@@ -52,26 +60,17 @@ pub fn uniform_angles(k: f64, rest: f64) -> Result<Angle, Refusal>
     Err(Refusal::Range)
 }
 
-// Cosine angles, three atoms a row; one past the end of `per_angle`, which has k and rest a row, takes `angle`'s own numbers.
+// Cosine angles; one past the end of `per_angle` takes the numbers of `angle`.
 pub fn angles_all(
     angle: Angle,
     cell: Option<Lattice>,
-    angles: &[u32],
-    per_angle: &[f64],
+    angles: &AngleRows,
     positions: &[f64],
     forces: &mut [f64],
 ) -> Result<Sum, Refusal>
-    ensures { AnglesAllSays angle cell angles.now per_angle.now positions.now forces.old result forces.new }
+    ensures { AnglesAllSays angle cell angles.now.corners.now angles.now.per_angle.now positions.now forces.old result forces.new }
 {
-    let missing = rows::first_missing(angles, positions.len() / 3);
-    asked::asked(
-        angle,
-        cell,
-        angles.len(),
-        per_angle,
-        positions,
-        forces.len(),
-        missing,
-    )?;
-    Ok(kernel::angles_all(angle, cell, angles, per_angle, positions, forces))
+    let missing = rows::first_missing(angles.corners, positions.len() / 3);
+    asked::asked(angle, cell, angles, positions, forces.len(), missing)?;
+    Ok(kernel::angles_all(angle, cell, angles, positions, forces))
 }

@@ -9,7 +9,7 @@ ghost use Rattle.potentials_pair.specs.Pull.{held};
 ghost use Rattle.potentials.specs.Terms.{displaced};
 ghost use Rattle.potentials_angle.specs.Terms.{angle_at, angle_bend, angle_step};
 
-use crate::{Angle, Bend, Corner, bends, ranged, rows};
+use crate::{Angle, AngleRows, Bend, Corner, bends, ranged, rows};
 use cell::Vec3;
 use cell_prepared::Prepared;
 use virial::Sum;
@@ -66,39 +66,37 @@ fn bend_at(
 fn one(
     angle: Angle,
     p: Prepared,
-    angles: &[u32],
-    per_angle: &[f64],
+    angles: &AngleRows,
     xs: &[f64],
     r: usize,
     forces: &mut [f64],
     sum: Sum,
 ) -> Sum
-    requires { r < length angles.now / 3 }
-    ensures { held result forces.new ≡ angle_step (λ d. image_in p d) angle angles.now per_angle.now xs.now (held sum forces.old) r }
+    requires { r < length angles.now.corners.now / 3 }
+    ensures { held result forces.new ≡ angle_step (λ d. image_in p d) angle angles.now.corners.now angles.now.per_angle.now xs.now (held sum forces.old) r }
 {
-    let c = rows::corner_at(angles, r);
+    let c = rows::corner_at(angles.corners, r);
     if rows::is_missing(xs.len() / 3, c) {
         return sum;
     }
-    let bend = bend_at(angle, p, per_angle, xs, r, c);
+    let bend = bend_at(angle, p, angles.per_angle, xs, r, c);
     bends::apply(sum, forces, c, bend)
 }
 
-// The rows of a table, in order.
+// The angles, in order.
 pub(crate) fn over(
     angle: Angle,
     p: Prepared,
-    angles: &[u32],
-    per_angle: &[f64],
+    angles: &AngleRows,
     xs: &[f64],
     forces: &mut [f64],
     sum: Sum,
 ) -> Sum
-    ensures { held result forces.new ≡ foldl (angle_step (λ d. image_in p d) angle angles.now per_angle.now xs.now) (held sum forces.old) (up_to (length angles.now / 3)) }
+    ensures { held result forces.new ≡ foldl (angle_step (λ d. image_in p d) angle angles.now.corners.now angles.now.per_angle.now xs.now) (held sum forces.old) (up_to (length angles.now.corners.now / 3)) }
 {
     let mut s = sum;
-    for r in 0..angles.len() / 3 {
-        s = one(angle, p, angles, per_angle, xs, r, forces, s);
+    for r in 0..angles.corners.len() / 3 {
+        s = one(angle, p, angles, xs, r, forces, s);
     }
     s
 }

@@ -34,13 +34,11 @@ pub fn first_missing(angles: &[u32], n: usize) -> usize
     ensures { result ≡ missing_of n angles.now }
 {
     let m = angles.len() / 3;
-    let mut r = 0;
-    while r < m {
+    for r in 0..m {
         let c = corner_at(angles, r);
         if is_missing(n, c) {
             return r;
         }
-        r += 1;
     }
-    r
+    m
 }

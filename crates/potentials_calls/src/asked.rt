@@ -1,12 +1,12 @@
 // What is tested before a term is computed: refusals 1 to 5, in their order.
-ghost use Rattle.std.specs.Prelude.{◌≡◌};
-ghost use Rattle.potentials_pair.specs.Species.{tables};
+ghost use Rattle.std.specs.Prelude.{◌≡◌, length};
+ghost use Rattle.potentials_pair.specs.Species.{tables_of};
 ghost use Rattle.potentials.specs.Calls.{asked_by, rows_asked, lj_fits, coulomb_fits, bonds_fit, lj_ranges, coulomb_ranges, bonds_ranges, lj_asked, coulomb_asked, bonds_asked};
 
 use answer::Refusal;
 use cell::Lattice;
-use potentials::{Bond, ranged, species};
-use potentials_pair::Lj;
+use potentials::{Bond, BondRows, ranged, species};
+use potentials_pair::{Lj, SpeciesTables};
 use virial::Units;
 
 // `absent` is the first of the rows that names an atom not there.
@@ -53,12 +53,12 @@ fn bonds_fit(xs: usize, bonds: usize, forces: usize) -> bool
     (xs % 3 == 0) & (bonds % 2 == 0) & (forces == xs)
 }
 
-fn lj_ranges(lj: Lj, cell: Option<Lattice>, own_params: &[f64], params: &[f64], xs: &[f64]) -> bool
-    ensures { result ≡ lj_ranges lj cell own_params.now params.now xs.now }
+fn lj_ranges(lj: Lj, cell: Option<Lattice>, tables: &SpeciesTables, xs: &[f64]) -> bool
+    ensures { result ≡ lj_ranges lj cell tables.now.own_params.now tables.now.params.now xs.now }
 {
     ranged::lj_in_range(lj)
         & cell::ranged::cell_in_range(cell)
-        & ranged::rows_in_range(own_params, params)
+        & ranged::rows_in_range(tables)
         & ranged::entries_in_range(xs)
 }
 
@@ -78,50 +78,42 @@ fn coulomb_ranges(
         & ranged::entries_in_range(xs)
 }
 
-fn bonds_ranges(bond: Bond, cell: Option<Lattice>, lengths: &[f64], ks: &[f64], xs: &[f64]) -> bool
-    ensures { result ≡ bonds_ranges bond cell lengths.now ks.now xs.now }
+fn bonds_ranges(bond: Bond, cell: Option<Lattice>, bonds: &BondRows, xs: &[f64]) -> bool
+    ensures { result ≡ bonds_ranges bond cell bonds.now.lengths.now bonds.now.ks.now xs.now }
 {
     ranged::bond_in_range(bond)
         & cell::ranged::cell_in_range(cell)
-        & ranged::entries_in_range(lengths)
-        & ranged::entries_in_range(ks)
+        & ranged::entries_in_range(bonds.lengths)
+        & ranged::entries_in_range(bonds.ks)
         & ranged::entries_in_range(xs)
 }
 
 pub(crate) fn lj_asked(
     lj: Lj,
     cell: Option<Lattice>,
-    own_ids: &[u32],
-    own_params: &[f64],
-    ids: &[u32],
-    params: &[f64],
+    tables: &SpeciesTables,
     species: usize,
     xs: &[f64],
     forces: usize,
     pairs: usize,
     absent: usize,
 ) -> Result<(), Refusal>
-    ensures { result ≡ lj_asked lj cell (tables own_ids.now own_params.now ids.now params.now) species xs.now forces pairs absent }
+    ensures { result ≡ lj_asked lj cell (tables_of tables.now) species xs.now forces pairs absent }
 {
-    let tables = species::tables_fit(own_ids.len(), own_params.len(), ids.len(), params.len());
-    let fits = lj_fits(tables, species, xs.len(), pairs, forces);
-    let in_range = lj_ranges(lj, cell, own_params, params, xs);
-    let order = species::asked_order(own_ids, ids);
+    let rows_fit = species::tables_fit(tables);
+    let fits = lj_fits(rows_fit, species, xs.len(), pairs, forces);
+    let in_range = lj_ranges(lj, cell, tables, xs);
+    let order = species::asked_order(tables);
     asked(fits, xs.len() / 3, in_range, pairs / 2, absent, order)
 }
 
 // Refusals 1, 3, 5 of the tables alone.
-pub(crate) fn rows_asked(
-    own_ids: &[u32],
-    own_params: &[f64],
-    ids: &[u32],
-    params: &[f64],
-) -> Result<(), Refusal>
-    ensures { result ≡ rows_asked (tables own_ids.now own_params.now ids.now params.now) }
+pub(crate) fn rows_asked(tables: &SpeciesTables) -> Result<(), Refusal>
+    ensures { result ≡ rows_asked (tables_of tables.now) }
 {
-    let fits = species::tables_fit(own_ids.len(), own_params.len(), ids.len(), params.len());
-    let in_range = ranged::rows_in_range(own_params, params);
-    let order = species::asked_order(own_ids, ids);
+    let fits = species::tables_fit(tables);
+    let in_range = ranged::rows_in_range(tables);
+    let order = species::asked_order(tables);
     asked(fits, 0, in_range, 0, 0, order)
 }
 
@@ -145,16 +137,21 @@ pub(crate) fn coulomb_asked(
 pub(crate) fn bonds_asked(
     bond: Bond,
     cell: Option<Lattice>,
-    bonds: usize,
-    lengths: &[f64],
-    ks: &[f64],
+    bonds: &BondRows,
     xs: &[f64],
     forces: usize,
     absent: usize,
 ) -> Result<(), Refusal>
-    ensures { result ≡ bonds_asked bond cell bonds lengths.now ks.now xs.now forces absent }
+    ensures { result ≡ bonds_asked bond cell (length bonds.now.ends.now) bonds.now.lengths.now bonds.now.ks.now xs.now forces absent }
 {
-    let fits = bonds_fit(xs.len(), bonds, forces);
-    let in_range = bonds_ranges(bond, cell, lengths, ks, xs);
-    asked(fits, xs.len() / 3, in_range, bonds / 2, absent, Ok(()))
+    let fits = bonds_fit(xs.len(), bonds.ends.len(), forces);
+    let in_range = bonds_ranges(bond, cell, bonds, xs);
+    asked(
+        fits,
+        xs.len() / 3,
+        in_range,
+        bonds.ends.len() / 2,
+        absent,
+        Ok(()),
+    )
 }

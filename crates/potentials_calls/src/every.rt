@@ -3,7 +3,7 @@ ghost use Rattle.std.specs.Prelude.{◌≡◌, ◌≤◌, ◌<◌, length};
 ghost use mathlib.Core.List.{foldl};
 ghost use Rattle.lists.specs.Atoms.{atoms_of};
 ghost use Rattle.lists.specs.Lists.{all_pairs};
-ghost use Rattle.potentials_pair.specs.Species.{tables, look_by};
+ghost use Rattle.potentials_pair.specs.Species.{tables_of, look_by};
 ghost use Rattle.potentials_pair.specs.Pull.{held};
 ghost use Rattle.potentials.specs.Terms.{lj_over, coulomb_over};
 ghost use Rattle.potentials.specs.Steps.{lj_step, coulomb_step};
@@ -11,7 +11,7 @@ ghost use Rattle.potentials_calls.specs.AllPairs.{PairPut, PairsFilled};
 
 use cell::Lattice;
 use cell_prepared::Prepared;
-use potentials_pair::Lj;
+use potentials_pair::{Lj, SpeciesTables};
 use virial::{Sum, Units};
 
 // A pair.
@@ -50,7 +50,7 @@ fn put(n: usize, i: usize, j: usize, c: usize, table: &mut [u32]) -> Two
     Two { i: a, j: a + 1 }
 }
 
-// The pairs from (i, j) on, 1024 or as many as there are.
+// The pairs from (i, j) on, 1024 or as many as there are. `while`, since two tests end it: a full table, and no pair left.
 fn fill(n: usize, i: usize, j: usize, table: &mut [u32]) -> Chunk
     requires { (i < j) × (j < n) × (n ≤ 16384) × (length table.old ≡ 2048) }
     ensures { PairsFilled n table.new result.rows i j result.i result.j }
@@ -68,13 +68,11 @@ fn fill(n: usize, i: usize, j: usize, table: &mut [u32]) -> Chunk
     }
 }
 
+// `while`, since each turn says with which pair the next begins: a `for` cannot jump.
 fn lj_from(
     lj: Lj,
     p: Prepared,
-    own_ids: &[u32],
-    own_params: &[f64],
-    ids: &[u32],
-    params: &[f64],
+    tables: &SpeciesTables,
     species: &[u32],
     xs: &[f64],
     table: &mut [u32],
@@ -82,7 +80,7 @@ fn lj_from(
     sum: Sum,
 ) -> Sum
     requires { (atoms_of xs.now ≤ 16384) × (length table.old ≡ 2048) }
-    ensures { held result forces.new ≡ foldl (lj_step lj p (tables own_ids.now own_params.now ids.now params.now) species.now xs.now) (held sum forces.old) (all_pairs (atoms_of xs.now)) }
+    ensures { held result forces.new ≡ foldl (lj_step lj p (tables_of tables.now) species.now xs.now) (held sum forces.old) (all_pairs (atoms_of xs.now)) }
 {
     let mut s = sum;
     let mut i = 0;
@@ -90,19 +88,7 @@ fn lj_from(
     while j < xs.len() / 3 {
         let c = fill(xs.len() / 3, i, j, table);
         let m = 2 * c.rows;
-        s = potentials::lennard_jones::over(
-            lj,
-            p,
-            own_ids,
-            own_params,
-            ids,
-            params,
-            species,
-            xs,
-            &table[..m],
-            forces,
-            s,
-        );
+        s = potentials::lennard_jones::over(lj, p, tables, species, xs, &table[..m], forces, s);
         i = c.i;
         j = c.j;
     }
@@ -112,26 +98,22 @@ fn lj_from(
 pub(crate) fn lj_all(
     lj: Lj,
     cell: Option<Lattice>,
-    own_ids: &[u32],
-    own_params: &[f64],
-    ids: &[u32],
-    params: &[f64],
+    tables: &SpeciesTables,
     species: &[u32],
     positions: &[f64],
     forces: &mut [f64],
 ) -> Sum
     requires { atoms_of positions.now ≤ 16384 }
-    ensures { held result forces.new ≡ lj_over (look_by (tables own_ids.now own_params.now ids.now params.now) lj) lj cell species.now positions.now (length forces.old) (all_pairs (atoms_of positions.now)) }
+    ensures { held result forces.new ≡ lj_over (look_by (tables_of tables.now) lj) lj cell species.now positions.now (length forces.old) (all_pairs (atoms_of positions.now)) }
 {
     virial::kernel::clear(forces);
     let p = cell_prepared::prepare(cell);
     let sum = virial::kernel::zero();
     let mut table = blank_table();
-    lj_from(
-        lj, p, own_ids, own_params, ids, params, species, positions, &mut table, forces, sum,
-    )
+    lj_from(lj, p, tables, species, positions, &mut table, forces, sum)
 }
 
+// `while`, since each turn says with which pair the next begins: a `for` cannot jump.
 fn coulomb_from(
     ke: f64,
     cutoff: f64,

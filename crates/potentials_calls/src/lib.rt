@@ -3,13 +3,13 @@
 #![tactic(auto)]
 
 ghost use Rattle.std.specs.Prelude.{◌≡◌};
-ghost use Rattle.potentials_pair.specs.Species.{tables};
+ghost use Rattle.potentials_pair.specs.Species.{tables_of};
 ghost use Rattle.potentials.specs.Calls.{MonatomicSays, UniformSays, argon_of, SpeciesRowSays, SpeciesRowAskedSays, LjPairsSays, LjAllSays, CoulombPairsSays, CoulombAllSays, BondsAllSays};
 
 use answer::Refusal;
 use cell::Lattice;
-use potentials::{Bond, kernel, ranged};
-use potentials_pair::Lj;
+use potentials::{Bond, BondRows, kernel, ranged};
+use potentials_pair::{Lj, SpeciesTables};
 use virial::{Sum, Units};
 
 mod asked;
@@ -43,102 +43,73 @@ pub fn uniform(k: f64, r0: f64) -> Result<Bond, Refusal>
     Err(Refusal::Range)
 }
 
-// Lennard-Jones over the listed pairs. `own_ids` and `ids` are the species that `own_params` and `params` have epsilon and sigma of, a desk's own and the house's;
-// `species` an id an atom.
+// Lennard-Jones over the listed pairs. `species` is an id for each atom.
 pub fn lj_pairs(
     lj: Lj,
     cell: Option<Lattice>,
-    own_ids: &[u32],
-    own_params: &[f64],
-    ids: &[u32],
-    params: &[f64],
+    tables: &SpeciesTables,
     species: &[u32],
     positions: &[f64],
     pairs: &[u32],
     forces: &mut [f64],
 ) -> Result<Sum, Refusal>
-    ensures { LjPairsSays lj cell (tables own_ids.now own_params.now ids.now params.now) species.now positions.now pairs.now forces.old result forces.new }
+    ensures { LjPairsSays lj cell (tables_of tables.now) species.now positions.now pairs.now forces.old result forces.new }
 {
     let absent = ranges::rows::first_absent(pairs, positions.len() / 3);
     asked::lj_asked(
         lj,
         cell,
-        own_ids,
-        own_params,
-        ids,
-        params,
+        tables,
         species.len(),
         positions,
         forces.len(),
         pairs.len(),
         absent,
     )?;
-    Ok(kernel::lj_pairs(
-        lj, cell, own_ids, own_params, ids, params, species, positions, pairs, forces,
-    ))
+    Ok(kernel::lj_pairs(lj, cell, tables, species, positions, pairs, forces))
 }
 
 // The same over every pair, i, then j, rising.
 pub fn lj_all(
     lj: Lj,
     cell: Option<Lattice>,
-    own_ids: &[u32],
-    own_params: &[f64],
-    ids: &[u32],
-    params: &[f64],
+    tables: &SpeciesTables,
     species: &[u32],
     positions: &[f64],
     forces: &mut [f64],
 ) -> Result<Sum, Refusal>
-    ensures { LjAllSays lj cell (tables own_ids.now own_params.now ids.now params.now) species.now positions.now forces.old result forces.new }
+    ensures { LjAllSays lj cell (tables_of tables.now) species.now positions.now forces.old result forces.new }
 {
     asked::lj_asked(
         lj,
         cell,
-        own_ids,
-        own_params,
-        ids,
-        params,
+        tables,
         species.len(),
         positions,
         forces.len(),
         0,
         0,
     )?;
-    Ok(every::lj_all(
-        lj, cell, own_ids, own_params, ids, params, species, positions, forces,
-    ))
+    Ok(every::lj_all(lj, cell, tables, species, positions, forces))
 }
 
 // The row of a species, two floats: a part of the desk's own table where it has the species, else of the house's, else empty. Nothing is copied. Empty where
 // `species_row_asked` refuses.
-pub fn species_row<'a>(
-    own_ids: &[u32],
-    own_params: &'a [f64],
-    ids: &[u32],
-    params: &'a [f64],
-    species: u32,
-) -> &'a [f64]
-    ensures { SpeciesRowSays (tables own_ids.now own_params.now ids.now params.now) species result.now }
+pub fn species_row<'a>(tables: &SpeciesTables<'a>, species: u32) -> &'a [f64]
+    ensures { SpeciesRowSays (tables_of tables.now) species result.now }
 {
-    let a = asked::rows_asked(own_ids, own_params, ids, params);
+    let a = asked::rows_asked(tables);
     if let Err(_) = a {
-        return &params[0..0];
+        return &tables.params[0..0];
     }
-    potentials_pair::species::row_of(own_ids, own_params, ids, params, species)
+    potentials_pair::species::row_of(tables, species)
 }
 
 // Refusals 1, 3, 5 of both tables.
-pub fn species_row_asked(
-    own_ids: &[u32],
-    own_params: &[f64],
-    ids: &[u32],
-    params: &[f64],
-    species: u32,
-) -> Result<(), Refusal>
-    ensures { SpeciesRowAskedSays (tables own_ids.now own_params.now ids.now params.now) result }
+pub fn species_row_asked(tables: &SpeciesTables, species: u32) -> Result<(), Refusal>
+    ensures { SpeciesRowAskedSays (tables_of tables.now) result }
 {
-    asked::rows_asked(own_ids, own_params, ids, params)
+    asked::rows_asked(tables)
 }
 
 // Coulomb over the listed pairs.
@@ -182,28 +153,17 @@ pub fn coulomb_all(
     Ok(every::coulomb_all(units, cutoff, cell, charges, positions, forces))
 }
 
-// Harmonic bonds, two atoms a row; a bond past the end of a table takes `bond`'s own number.
+// Harmonic bonds; one past the end of `lengths` or `ks` takes the number of `bond`.
 pub fn bonds_all(
     bond: Bond,
     cell: Option<Lattice>,
-    bonds: &[u32],
-    per_bond: &[f64],
-    per_bond_k: &[f64],
+    bonds: &BondRows,
     positions: &[f64],
     forces: &mut [f64],
 ) -> Result<Sum, Refusal>
-    ensures { BondsAllSays bond cell bonds.now per_bond.now per_bond_k.now positions.now forces.old result forces.new }
+    ensures { BondsAllSays bond cell bonds.now.ends.now bonds.now.lengths.now bonds.now.ks.now positions.now forces.old result forces.new }
 {
-    let absent = ranges::rows::first_absent(bonds, positions.len() / 3);
-    asked::bonds_asked(
-        bond,
-        cell,
-        bonds.len(),
-        per_bond,
-        per_bond_k,
-        positions,
-        forces.len(),
-        absent,
-    )?;
-    Ok(kernel::bonds_all(bond, cell, bonds, per_bond, per_bond_k, positions, forces))
+    let absent = ranges::rows::first_absent(bonds.ends, positions.len() / 3);
+    asked::bonds_asked(bond, cell, bonds, positions, forces.len(), absent)?;
+    Ok(kernel::bonds_all(bond, cell, bonds, positions, forces))
 }

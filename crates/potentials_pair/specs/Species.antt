@@ -5,6 +5,7 @@ use Rattle.lists.specs.Lists.{up_to, every, first_where}
 use Rattle.lists.specs.Loops.{halved}
 use Rattle.potentials_pair.specs.declared.Lj.{Lj}
 use Rattle.potentials_pair.specs.declared.Mixed.{Mixed}
+use Rattle.potentials_pair.specs.declared.SpeciesTables.{SpeciesTables}
 
 -- 01's refusal 5 does not apply: each id below the next
 unfoldable pub rising : List ℕ → Bool
@@ -19,6 +20,10 @@ pub record Tables : Type 0 where
 
 abbrev pub tables : (own_ids : List ℕ) (own_params : List Float) (ids : List ℕ) (params : List Float) → Tables
 tables own_ids own_params ids params = record { own_ids = own_ids; own_params = own_params; ids = ids; params = params }
+
+-- what the code's tables hold
+abbrev pub tables_of : SpeciesTables → Tables
+tables_of t = tables t.own_ids.now t.own_params.now t.ids.now t.params.now
 
 -- "Absent species take the default"
 abbrev pub default_of : Lj → Mixed

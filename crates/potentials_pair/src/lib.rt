@@ -38,3 +38,12 @@ pub struct Lj {
     pub shift: bool,
     pub rule: Mixing,
 }
+
+// The species tables, a desk's own before the house's, as they are lent: ids ascending, and epsilon and sigma for each id. The Rust's hash map.
+#[derive(Clone, Copy)]
+pub struct SpeciesTables<'a> {
+    pub own_ids: &'a [u32],
+    pub own_params: &'a [f64],
+    pub ids: &'a [u32],
+    pub params: &'a [f64],
+}

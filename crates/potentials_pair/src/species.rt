@@ -1,9 +1,9 @@
 // The species tables, a desk's own before the house's: ids ascending, and two floats an id. The Rust's hash map, as lent slices.
 ghost use Rattle.std.specs.Prelude.{◌≡◌, ◌+◌, ◌<◌, ltb, length, get_or};
-ghost use Rattle.potentials_pair.specs.Species.{tables, rising, place_in, is_at, default_of, params_at, numbers_in, row_in_by, row_by, look_by};
+ghost use Rattle.potentials_pair.specs.Species.{tables_of, rising, place_in, is_at, default_of, params_at, numbers_in, row_in_by, row_by, look_by};
 ghost use Rattle.potentials_pair.specs.Lj.{mix_of};
 
-use crate::{Lj, Mixed};
+use crate::{Lj, Mixed, SpeciesTables};
 
 fn is_below(ids: &[u32], k: usize) -> bool
     requires { k + 1 < length ids.now }
@@ -81,20 +81,14 @@ fn row_in<'a>(ids: &[u32], params: &'a [f64], z: u32) -> &'a [f64]
 }
 
 // The row of species z: a part of the own table, else of the house's, else the empty part.
-pub fn row_of<'a>(
-    own_ids: &[u32],
-    own_params: &'a [f64],
-    ids: &[u32],
-    params: &'a [f64],
-    z: u32,
-) -> &'a [f64]
-    ensures { result.now ≡ row_by (tables own_ids.now own_params.now ids.now params.now) z }
+pub fn row_of<'a>(tables: &SpeciesTables<'a>, z: u32) -> &'a [f64]
+    ensures { result.now ≡ row_by (tables_of tables.now) z }
 {
-    let own = row_in(own_ids, own_params, z);
+    let own = row_in(tables.own_ids, tables.own_params, z);
     if 0 < own.len() {
         return own;
     }
-    row_in(ids, params, z)
+    row_in(tables.ids, tables.params, z)
 }
 
 // The numbers of a row, or the term's default where it is empty.
@@ -110,40 +104,20 @@ fn read(row: &[f64], lj: Lj) -> Mixed
     default_of(lj)
 }
 
-// The numbers of a species: those of its row (`row_of`), or the term's default where no table has it. The row isn't handed on as one of two parts: the two tables
-// are lent for different times.
-pub fn look(
-    own_ids: &[u32],
-    own_params: &[f64],
-    ids: &[u32],
-    params: &[f64],
-    lj: Lj,
-    z: u32,
-) -> Mixed
-    ensures { result ≡ look_by (tables own_ids.now own_params.now ids.now params.now) lj z }
+// The numbers of a species: those of its row (`row_of`), or the term's default where no table has it.
+pub fn look(tables: &SpeciesTables, lj: Lj, z: u32) -> Mixed
+    ensures { result ≡ look_by (tables_of tables.now) lj z }
 {
-    let own = row_in(own_ids, own_params, z);
-    if 0 < own.len() {
-        return read(own, lj);
-    }
-    let house = row_in(ids, params, z);
-    read(house, lj)
+    let row = row_of(tables, z);
+    read(row, lj)
 }
 
 // The mixed numbers of two species: asked here and nowhere else.
-pub fn mixed(
-    own_ids: &[u32],
-    own_params: &[f64],
-    ids: &[u32],
-    params: &[f64],
-    lj: Lj,
-    y: u32,
-    z: u32,
-) -> Mixed
-    ensures { result ≡ mix_of lj.rule (look_by (tables own_ids.now own_params.now ids.now params.now) lj y) (look_by (tables own_ids.now own_params.now ids.now params.now) lj z) }
+pub fn mixed(tables: &SpeciesTables, lj: Lj, y: u32, z: u32) -> Mixed
+    ensures { result ≡ mix_of lj.rule (look_by (tables_of tables.now) lj y) (look_by (tables_of tables.now) lj z) }
 {
-    let a = look(own_ids, own_params, ids, params, lj, y);
-    let b = look(own_ids, own_params, ids, params, lj, z);
+    let a = look(tables, lj, y);
+    let b = look(tables, lj, z);
     let rule = lj.rule;
     crate::lennard_jones::mix(rule, a, b)
 }

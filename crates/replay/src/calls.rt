@@ -1,47 +1,36 @@
-// Which call a case asks for, by its number. A new call is a function NAME_case(ws, out) in the module of its group and a line in that module's `answer`; a
-// new group is a module and a line here, or in replay_lists or replay_frames, which have what needs no term and no step. A case takes its arguments one after the other, each from the place that the one before left; where it does not
-// end at the number of words it is no case, and answers no words (0). Then it calls, and puts its answer together in `out`.
+// Which call a case asks for, by its number. A new call is a function NAME_case(case, out) in the module of its group and a line in the `told` of its crate; a
+// new group is a module, here or in replay_lists, replay_frames or replay_melts, which have what takes long and what needs no term. A case takes its arguments
+// one after the other; where one is missing, or a word is left over, it is no case, and answers None. Then it calls, and puts its answer together in `out`.
 use crate::{angles, desks, forces, velocities};
-use replay_melts::works;
+use replay_words::{Answer, Case};
 
-// Terms and evaluations.
-fn terms(call: u64, ws: &[u64], out: &mut [u64; 8208]) -> usize {
-    if call < 85 {
-        return forces::answer(call, ws, out);
+fn told(call: u64, case: Case, out: &mut Answer) -> Option<()> {
+    match call {
+        0x50 => forces::lj_pairs_case(case, out),
+        0x51 => forces::coulomb_pairs_case(case, out),
+        0x52 => forces::bonds_all_case(case, out),
+        0x53 => forces::lj_all_case(case, out),
+        0x54 => forces::coulomb_all_case(case, out),
+        0x56 => angles::angles_all_case(case, out),
+        0x58 => desks::lj_pairs_case(case, out),
+        0x59 => desks::lj_all_case(case, out),
+        0x5a => desks::species_row_case(case, out),
+        0x60 => velocities::kinetic_energy_case(case, out),
+        0x61 => velocities::temperature_case(case, out),
+        0x62 => velocities::berendsen_case(case, out),
+        _ => None,
     }
-    if call == 86 {
-        return angles::angles_all_case(ws, out);
-    }
-    if call == 88 || call == 89 || call == 90 {
-        return desks::answer(call, ws, out);
-    }
-    works::answer(call, ws, out)
 }
 
-// Velocities, steps, and what changes a running melt.
-fn motion(call: u64, ws: &[u64], out: &mut [u64; 8208]) -> usize {
-    if call < 99 {
-        return velocities::answer(call, ws, out);
+// The answer in `out`; None where the call is unknown or the words are not its arguments.
+pub(crate) fn answer(call: u64, words: &[u64], out: &mut Answer) -> Option<()> {
+    match call {
+        0x00..=0x3f => replay_lists::answer(call, words, out),
+        0x40..=0x4f => replay_frames::answer(call, words, out),
+        0x55 | 0x57 | 0x63..=0x6b => replay_melts::answer(call, words, out),
+        _ => {
+            out.clear();
+            told(call, Case::new(words), out)
+        }
     }
-    if call == 106 || call == 107 {
-        return replay_melts::answer(call, ws, out);
-    }
-    works::answer(call, ws, out)
-}
-
-// How many words of `out` are the answer: 0 where the call is unknown or the words are not its arguments.
-pub(crate) fn answer(call: u64, ws: &[u64], out: &mut [u64; 8208]) -> usize {
-    if call < 48 {
-        return replay_lists::numbers(call, ws, out);
-    }
-    if call < 64 {
-        return replay_lists::lists(call, ws, out);
-    }
-    if call < 80 {
-        return replay_frames::wholes(call, ws, out);
-    }
-    if call < 96 {
-        return terms(call, ws, out);
-    }
-    motion(call, ws, out)
 }

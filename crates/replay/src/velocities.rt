@@ -1,65 +1,42 @@
 // The calls of `verlet`, 60 to 62.
-use replay_words::{plain, tables};
+use replay_lists::records;
+use replay_words::{Answer, Case};
 
-fn kinetic_energy_case(ws: &[u64], out: &mut [u64; 8208]) -> usize {
-    let units = replay_lists::records::take_units(ws, 0);
-    let v = replay_words::take_floats(ws, units.next);
-    let m = replay_words::take_floats(ws, v.next);
-    if m.next != ws.len() {
-        return 0;
-    }
-    let fs = tables::floats(ws);
-    let r = verlet::kinetic_energy(units.value, tables::part(&fs, v), tables::part(&fs, m));
-    plain::put_number(out, r)
+pub(crate) fn kinetic_energy_case(mut case: Case, out: &mut Answer) -> Option<()> {
+    let units = records::take_units(&mut case)?;
+    let velocities = case.take_floats()?;
+    let masses = case.take_floats()?;
+    case.end()?;
+    out.put_answer(verlet::kinetic_energy(units, velocities.items(), masses.items()));
+    Some(())
 }
 
-fn temperature_case(ws: &[u64], out: &mut [u64; 8208]) -> usize {
-    let units = replay_lists::records::take_units(ws, 0);
-    let dof = replay_words::take_float(ws, units.next);
-    let v = replay_words::take_floats(ws, dof.next);
-    let m = replay_words::take_floats(ws, v.next);
-    if m.next != ws.len() {
-        return 0;
-    }
-    let fs = tables::floats(ws);
-    let r = verlet::temperature(
-        units.value,
-        dof.value,
-        tables::part(&fs, v),
-        tables::part(&fs, m),
-    );
-    plain::put_number(out, r)
+pub(crate) fn temperature_case(mut case: Case, out: &mut Answer) -> Option<()> {
+    let units = records::take_units(&mut case)?;
+    let dof = case.take_float()?;
+    let velocities = case.take_floats()?;
+    let masses = case.take_floats()?;
+    case.end()?;
+    out.put_answer(verlet::temperature(units, dof, velocities.items(), masses.items()));
+    Some(())
 }
 
-fn berendsen_case(ws: &[u64], out: &mut [u64; 8208]) -> usize {
-    let units = replay_lists::records::take_units(ws, 0);
-    let dt = replay_words::take_float(ws, units.next);
-    let target = replay_words::take_float(ws, dt.next);
-    let tau = replay_words::take_float(ws, target.next);
-    let m = replay_words::take_floats(ws, tau.next);
-    let v = replay_words::take_floats(ws, m.next);
-    if v.next != ws.len() {
-        return 0;
-    }
-    let fs = tables::floats(ws);
-    let mut velocities = tables::floats(ws);
-    let r = verlet::berendsen(
-        units.value,
-        dt.value,
-        target.value,
-        tau.value,
-        tables::part(&fs, m),
-        tables::room(&mut velocities, v),
-    );
-    let at = plain::put_done(out, r);
-    replay_words::put_floats(out, at, tables::part(&velocities, v))
-}
-
-pub(crate) fn answer(call: u64, ws: &[u64], out: &mut [u64; 8208]) -> usize {
-    match call {
-        96 => kinetic_energy_case(ws, out),
-        97 => temperature_case(ws, out),
-        98 => berendsen_case(ws, out),
-        _ => 0,
-    }
+pub(crate) fn berendsen_case(mut case: Case, out: &mut Answer) -> Option<()> {
+    let units = records::take_units(&mut case)?;
+    let dt = case.take_float()?;
+    let target_k = case.take_float()?;
+    let tau_fs = case.take_float()?;
+    let masses = case.take_floats()?;
+    let mut velocities = case.take_floats()?;
+    case.end()?;
+    out.put_head(verlet::berendsen(
+        units,
+        dt,
+        target_k,
+        tau_fs,
+        masses.items(),
+        velocities.room(),
+    ));
+    out.put_table(velocities.items());
+    Some(())
 }

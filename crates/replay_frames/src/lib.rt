@@ -7,23 +7,30 @@ mod labels;
 mod sheets;
 mod skins;
 
-ghost use Rattle.std.specs.Prelude.{◌≤◌};
+ghost use Rattle.std.specs.Prelude.{◌≡◌, [], IfNone};
 
-// The whole-number frame and what stands on it.
-pub fn wholes(call: u64, ws: &[u64], out: &mut [u64; 8208]) -> usize
-    ensures { result ≤ 8208 }
+use replay_words::{Answer, Case};
+
+fn told(call: u64, case: Case, out: &mut Answer) -> Option<()> {
+    match call {
+        0x40 => frames::build_case(case, out),
+        0x41 => frames::squared_distance_case(case, out),
+        0x42 => sheets::write_case(case, out),
+        0x44 => counts::add_shells_case(case, out),
+        0x45 => labels::label_case(case, out),
+        0x46 => skins::within_skin_case(case, out),
+        _ => None,
+    }
+}
+
+// The answer to a case; None, and no word, where the call is none of these or the words are not its arguments.
+pub fn answer(call: u64, words: &[u64], out: &mut Answer) -> Option<()>
+    ensures { IfNone result (out.new ≡ []) }
 {
-    if call == 70 {
-        return skins::answer(ws, out);
+    out.clear();
+    let answered = told(call, Case::new(words), out);
+    if answered.is_none() {
+        out.clear();
     }
-    if call == 68 {
-        return counts::add_shells_case(ws, out);
-    }
-    if call == 69 {
-        return labels::answer(call, ws, out);
-    }
-    if call == 66 {
-        return sheets::answer(call, ws, out);
-    }
-    frames::answer(call, ws, out)
+    answered
 }

@@ -1,28 +1,14 @@
 // The call of `skin`, 46.
-ghost use Rattle.std.specs.Prelude.{◌≤◌};
-
 use crate::frames;
-use replay_words::{plain, tables};
+use replay_words::{Answer, Case};
 
 // A frame whose radius is the cutoff, the skin, old and new coordinates.
-pub(crate) fn answer(ws: &[u64], out: &mut [u64; 8208]) -> usize
-    ensures { result ≤ 8208 }
-{
-    let f = frames::take_frame(ws, 0);
-    let skin = replay_words::take_u32(ws, f.next);
-    let old = replay_words::take_u32s(ws, skin.next);
-    let new = replay_words::take_u32s(ws, old.next);
-    if new.next != ws.len() {
-        return 0;
-    }
-    let us = tables::u32s(ws);
-    plain::put_yes_no(
-        out,
-        skin::within_skin(
-            f.value,
-            skin.value,
-            tables::part_u32(&us, old),
-            tables::part_u32(&us, new),
-        ),
-    )
+pub(crate) fn within_skin_case(mut case: Case, out: &mut Answer) -> Option<()> {
+    let f = frames::take_frame(&mut case)?;
+    let skin = case.take_u32()?;
+    let old = case.take_u32s()?;
+    let new = case.take_u32s()?;
+    case.end()?;
+    out.put_answer(skin::within_skin(f, skin, old.items(), new.items()));
+    Some(())
 }

@@ -1,124 +1,95 @@
-// An answer's values as words. Each call writes from a place on, and answers the place after.
-ghost use Rattle.std.specs.Prelude.{◌≤◌};
+// The library's records told as words.
+ghost use Rattle.std.specs.Prelude.{ℕ, ◌≡◌, List, [], ◌∷◌, ◌++◌, length};
+ghost use Rattle.replay_words.specs.Told.{told, float_words};
+ghost use Rattle.replay_lists.specs.Told.{sum_words, summed_words, lattice_words, cell_words, state_words};
 
 use answer::Refusal;
 use cell::{Lattice, Rows, Vec3};
 use neighbor::State;
-use replay_words::plain;
+use replay_words::Answer;
 use virial::Sum;
 
-// Three rows of three floats, or the refusal.
-pub fn put_rows_answer(out: &mut [u64; 8208], answer: Result<Rows, Refusal>) -> usize
-    ensures { result ≤ 8208 }
+pub fn put_vec3(out: &mut Answer, v: Vec3)
+    ensures { out.new ≡ told out.old (float_words (v.x ∷ v.y ∷ v.z ∷ [])) }
 {
-    match answer {
-        Ok(rows) => {
-            let at = plain::put_answered(out);
-            put_rows(out, at, rows)
-        }
-        Err(why) => plain::put_refusal(out, why),
-    }
+    out.put_all(&[v.x, v.y, v.z]);
 }
 
-// A sum, or the refusal.
-pub fn put_summed(out: &mut [u64; 8208], answer: Result<Sum, Refusal>) -> usize
-    ensures { result ≤ 8208 }
+#[tactic(auto, using(replay_words::proofs::Words::told_told))]
+pub fn put_rows(out: &mut Answer, rows: Rows)
+    ensures { out.new ≡ told out.old (float_words rows.x ++ float_words rows.y ++ float_words rows.z) }
 {
-    match answer {
-        Ok(sum) => {
-            let at = plain::put_answered(out);
-            put_sum(out, at, sum)
-        }
-        Err(why) => plain::put_refusal(out, why),
-    }
+    out.put_all(&rows.x);
+    out.put_all(&rows.y);
+    out.put_all(&rows.z);
 }
 
-// A sum or the refusal, then the forces, whatever became of them.
-pub fn put_summed_forces(
-    out: &mut [u64; 8208],
-    answer: Result<Sum, Refusal>,
-    forces: &[f64],
-) -> usize
-    ensures { result ≤ 8208 }
+pub fn put_lattice(out: &mut Answer, l: Lattice)
+    ensures { out.new ≡ told out.old (lattice_words l) }
 {
-    let at = put_summed(out, answer);
-    replay_words::put_floats(out, at, forces)
+    out.put_all(&[
+        l.a.x, l.a.y, l.a.z, l.b.x, l.b.y, l.b.z, l.c.x, l.c.y, l.c.z,
+    ]);
+    out.put_all(&[l.px, l.py, l.pz]);
 }
 
-pub fn put_vec3(out: &mut [u64; 8208], at: usize, v: Vec3) -> usize
-    ensures { result ≤ 8208 }
+pub fn put_sum(out: &mut Answer, s: Sum)
+    ensures { out.new ≡ told out.old (sum_words s) }
 {
-    replay_words::put_reals(out, at, &[v.x, v.y, v.z])
+    out.put_all(&[
+        s.energy, s.xx, s.xy, s.xz, s.yx, s.yy, s.yz, s.zx, s.zy, s.zz,
+    ]);
 }
 
-pub fn put_rows(out: &mut [u64; 8208], at: usize, rows: Rows) -> usize
-    ensures { result ≤ 8208 }
+#[tactic(auto, using(replay_words::proofs::Words::told_told))]
+pub fn put_state(out: &mut Answer, s: State)
+    ensures { out.new ≡ told out.old (state_words s) }
 {
-    let rx = rows.x;
-    let ry = rows.y;
-    let rz = rows.z;
-    let x = replay_words::put_reals(out, at, &rx);
-    let y = replay_words::put_reals(out, x, &ry);
-    replay_words::put_reals(out, y, &rz)
+    out.put_all(&[s.cutoff, s.skin]);
+    out.put_all(&[s.pairs, s.references, s.checks]);
+    out.put(s.fallback);
+    out.put(s.builds);
 }
 
-pub fn put_lattice(out: &mut [u64; 8208], at: usize, l: Lattice) -> usize
-    ensures { result ≤ 8208 }
-{
-    let a = l.a;
-    let b = l.b;
-    let c = l.c;
-    let next = replay_words::put_reals(out, at, &[a.x, a.y, a.z, b.x, b.y, b.z, c.x, c.y, c.z]);
-    let px = replay_words::flag_word(l.px);
-    let py = replay_words::flag_word(l.py);
-    let pz = replay_words::flag_word(l.pz);
-    replay_words::put_words(out, next, &[px, py, pz])
-}
-
-pub fn put_sum(out: &mut [u64; 8208], at: usize, s: Sum) -> usize
-    ensures { result ≤ 8208 }
-{
-    replay_words::put_reals(
-        out,
-        at,
-        &[
-            s.energy, s.xx, s.xy, s.xz, s.yx, s.yy, s.yz, s.zx, s.zy, s.zz,
-        ],
-    )
-}
-
-pub fn put_state(out: &mut [u64; 8208], at: usize, s: State) -> usize
-    ensures { result ≤ 8208 }
-{
-    let next = replay_words::put_reals(out, at, &[s.cutoff, s.skin]);
-    let pairs = s.pairs as u64;
-    let references = s.references as u64;
-    let checks = s.checks as u64;
-    let fallback = replay_words::flag_word(s.fallback);
-    let builds = s.builds as u64;
-    replay_words::put_words(out, next, &[pairs, references, checks, fallback, builds])
-}
-
-fn put_cell(out: &mut [u64; 8208], at: usize, cell: Option<Lattice>) -> usize
-    ensures { result ≤ 8208 }
+fn put_cell(out: &mut Answer, cell: Option<Lattice>)
+    ensures { out.new ≡ told out.old (cell_words cell) }
 {
     match cell {
-        None => replay_words::put_word(out, at, 0),
+        None => out.put(false),
         Some(l) => {
-            let next = replay_words::put_word(out, at, 1);
-            put_lattice(out, next, l)
+            out.put(true);
+            put_lattice(out, l);
         }
     }
 }
 
 // The same, with the remembered cell at its end where it stands in the line.
-pub fn put_state_and(cell: bool, out: &mut [u64; 8208], at: usize, s: State) -> usize
-    ensures { result ≤ 8208 }
+#[tactic(auto, using(replay_words::proofs::Words::told_told))]
+pub fn put_state_and(cell: bool, out: &mut Answer, s: State)
+    ensures { (ws : List ℕ) × (out.new ≡ told out.old ws) }
 {
-    let next = put_state(out, at, s);
+    put_state(out, s);
     if cell {
-        let remembered = s.built_in;
-        return put_cell(out, next, remembered);
+        put_cell(out, s.built_in);
     }
-    next
+}
+
+fn put_summed(out: &mut Answer, answer: Result<Sum, Refusal>)
+    ensures { out.new ≡ told out.old (summed_words answer) }
+{
+    match answer {
+        Ok(sum) => {
+            out.put_done();
+            put_sum(out, sum);
+        }
+        Err(why) => out.put_refusal(why),
+    }
+}
+
+// A sum or the refusal, then the forces, whatever became of them.
+pub fn put_summed_forces(out: &mut Answer, answer: Result<Sum, Refusal>, forces: &[f64])
+    ensures { out.new ≡ told out.old (summed_words answer ++ length forces.now ∷ float_words forces.now) }
+{
+    put_summed(out, answer);
+    out.put_table(forces);
 }

@@ -1,203 +1,114 @@
-// The calls of `cell`, 10 to 1a.
-ghost use Rattle.std.specs.Prelude.{◌≤◌};
-
+// The calls of `cell`, 10 to 1b.
 use crate::{answers, records};
 use answer::Refusal;
-use cell::{Image, Lattice, Rows, Vec3};
-use replay_words::plain;
+use cell::{Lattice, Rows, Triple, Uncounted, Vec3};
+use replay_words::{Answer, Case};
 
 // ---- answers as words
 
-fn tell_lattice(out: &mut [u64; 8208], answer: Result<Lattice, Refusal>) -> usize
-    ensures { result ≤ 8208 }
-{
-    match answer {
-        Ok(l) => {
-            let at = plain::put_answered(out);
-            answers::put_lattice(out, at, l)
-        }
-        Err(why) => plain::put_refusal(out, why),
-    }
+pub(crate) fn put_flag(out: &mut Answer, flag: bool) {
+    out.put(flag);
 }
 
-fn tell_vector(out: &mut [u64; 8208], answer: Result<Vec3, Refusal>) -> usize
-    ensures { result ≤ 8208 }
-{
-    match answer {
-        Ok(v) => {
-            let at = plain::put_answered(out);
-            answers::put_vec3(out, at, v)
-        }
-        Err(why) => plain::put_refusal(out, why),
-    }
+pub(crate) fn put_float(out: &mut Answer, x: f64) {
+    out.put(x);
 }
 
-fn tell_image(out: &mut [u64; 8208], answer: Result<Image, Refusal>) -> usize
-    ensures { result ≤ 8208 }
-{
-    match answer {
-        Ok(image) => {
-            let diff = image.diff;
-            let at = plain::put_answered(out);
-            answers::put_vec3(out, at, diff)
-        }
-        Err(why) => plain::put_refusal(out, why),
+fn put_lattice(out: &mut Answer, answer: Result<Lattice, Refusal>) {
+    if let Some(l) = out.put_head(answer) {
+        answers::put_lattice(out, l);
     }
 }
 
 // 0 where there is no inverse, or 1 and its rows.
-fn tell_inverse(out: &mut [u64; 8208], answer: Result<Option<Rows>, Refusal>) -> usize
-    ensures { result ≤ 8208 }
-{
-    match answer {
-        Ok(found) => {
-            let at = plain::put_answered(out);
-            match found {
-                Some(rows) => {
-                    let told = replay_words::put_word(out, at, replay_words::flag_word(true));
-                    answers::put_rows(out, told, rows)
-                }
-                None => replay_words::put_word(out, at, replay_words::flag_word(false)),
-            }
-        }
-        Err(why) => plain::put_refusal(out, why),
+pub(crate) fn put_inverse(out: &mut Answer, inverse: Option<Rows>) {
+    out.put(inverse.is_some());
+    if let Some(rows) = inverse {
+        answers::put_rows(out, rows);
     }
+}
+
+// What kind of counts there are, and the counts, zeros where there are none.
+fn put_counts(out: &mut Answer, counts: Result<Triple, Uncounted>) {
+    let (kind, x, y, z) = match counts {
+        Ok(n) => (0u64, n.x, n.y, n.z),
+        Err(Uncounted::NoFit) => (1, 0, 0, 0),
+        Err(Uncounted::NoInverse) => (2, 0, 0, 0),
+    };
+    out.put(kind);
+    out.put_all(&[i64::from(x), i64::from(y), i64::from(z)]);
 }
 
 // ---- the calls
 
-fn orthorhombic_case(ws: &[u64], out: &mut [u64; 8208]) -> usize
-    ensures { result ≤ 8208 }
-{
-    let lx = replay_words::take_float(ws, 0);
-    let ly = replay_words::take_float(ws, lx.next);
-    let lz = replay_words::take_float(ws, ly.next);
-    if lz.next != ws.len() {
-        return 0;
-    }
-    tell_lattice(out, cell::orthorhombic(lx.value, ly.value, lz.value))
+pub(crate) fn orthorhombic_case(mut case: Case, out: &mut Answer) -> Option<()> {
+    let lx = case.take_float()?;
+    let ly = case.take_float()?;
+    let lz = case.take_float()?;
+    case.end()?;
+    put_lattice(out, cell::orthorhombic(lx, ly, lz));
+    Some(())
 }
 
-fn cubic_case(ws: &[u64], out: &mut [u64; 8208]) -> usize
-    ensures { result ≤ 8208 }
-{
-    let l = replay_words::take_float(ws, 0);
-    if l.next != ws.len() {
-        return 0;
-    }
-    tell_lattice(out, cell::cubic(l.value))
+pub(crate) fn cubic_case(mut case: Case, out: &mut Answer) -> Option<()> {
+    let l = case.take_float()?;
+    case.end()?;
+    put_lattice(out, cell::cubic(l));
+    Some(())
 }
 
-fn is_orthorhombic_case(ws: &[u64], out: &mut [u64; 8208]) -> usize
-    ensures { result ≤ 8208 }
+// A call of a lattice, and how its value is told.
+pub(crate) fn lattice_case<
+    T,
+    F: FnOnce(Lattice) -> Result<T, Refusal> + Drop,
+    P: FnOnce(&mut Answer, T) + Drop,
+>(call: F, put: P, mut case: Case, out: &mut Answer) -> Option<()>
+    requires call { F.IsAlwaysCallable call }
+    requires put { P.IsAlwaysCallable put }
 {
-    let l = records::take_lattice(ws, 0);
-    if l.next != ws.len() {
-        return 0;
+    let l = records::take_lattice(&mut case)?;
+    case.end()?;
+    if let Some(value) = out.put_head(call(l)) {
+        put(out, value);
     }
-    plain::put_yes_no(out, cell::is_orthorhombic(l.value))
+    Some(())
 }
 
-fn matrix_case(ws: &[u64], out: &mut [u64; 8208]) -> usize
-    ensures { result ≤ 8208 }
+// A call of a lattice and a vector that answers a vector.
+pub(crate) fn vector_case<F: FnOnce(Lattice, Vec3) -> Result<Vec3, Refusal> + Drop>(
+    call: F,
+    mut case: Case,
+    out: &mut Answer,
+) -> Option<()>
+    requires { F.IsAlwaysCallable call }
 {
-    let l = records::take_lattice(ws, 0);
-    if l.next != ws.len() {
-        return 0;
+    let l = records::take_lattice(&mut case)?;
+    let v = records::take_vec3(&mut case)?;
+    case.end()?;
+    if let Some(value) = out.put_head(call(l, v)) {
+        answers::put_vec3(out, value);
     }
-    answers::put_rows_answer(out, cell::matrix(l.value))
+    Some(())
 }
 
-fn volume_case(ws: &[u64], out: &mut [u64; 8208]) -> usize
-    ensures { result ≤ 8208 }
-{
-    let l = records::take_lattice(ws, 0);
-    if l.next != ws.len() {
-        return 0;
+pub(crate) fn min_image_case(mut case: Case, out: &mut Answer) -> Option<()> {
+    let d = records::take_vec3(&mut case)?;
+    let around = records::take_cell(&mut case)?;
+    case.end()?;
+    if let Some(image) = out.put_head(cell::min_image(d, around)) {
+        answers::put_vec3(out, image.diff);
     }
-    plain::put_number(out, cell::volume(l.value))
+    Some(())
 }
 
-fn inverse_case(ws: &[u64], out: &mut [u64; 8208]) -> usize
-    ensures { result ≤ 8208 }
-{
-    let l = records::take_lattice(ws, 0);
-    if l.next != ws.len() {
-        return 0;
+// The same with the boxes that were taken off.
+pub(crate) fn counted_image_case(mut case: Case, out: &mut Answer) -> Option<()> {
+    let d = records::take_vec3(&mut case)?;
+    let around = records::take_cell(&mut case)?;
+    case.end()?;
+    if let Some(image) = out.put_head(cell::min_image(d, around)) {
+        answers::put_vec3(out, image.diff);
+        put_counts(out, image.counts);
     }
-    tell_inverse(out, cell::inverse(l.value))
-}
-
-fn to_fractional_case(ws: &[u64], out: &mut [u64; 8208]) -> usize
-    ensures { result ≤ 8208 }
-{
-    let l = records::take_lattice(ws, 0);
-    let r = records::take_vec3(ws, l.next);
-    if r.next != ws.len() {
-        return 0;
-    }
-    tell_vector(out, cell::to_fractional(l.value, r.value))
-}
-
-fn to_cartesian_case(ws: &[u64], out: &mut [u64; 8208]) -> usize
-    ensures { result ≤ 8208 }
-{
-    let l = records::take_lattice(ws, 0);
-    let s = records::take_vec3(ws, l.next);
-    if s.next != ws.len() {
-        return 0;
-    }
-    tell_vector(out, cell::to_cartesian(l.value, s.value))
-}
-
-fn wrap_case(ws: &[u64], out: &mut [u64; 8208]) -> usize
-    ensures { result ≤ 8208 }
-{
-    let l = records::take_lattice(ws, 0);
-    let r = records::take_vec3(ws, l.next);
-    if r.next != ws.len() {
-        return 0;
-    }
-    tell_vector(out, cell::wrap(l.value, r.value))
-}
-
-fn perp_widths_case(ws: &[u64], out: &mut [u64; 8208]) -> usize
-    ensures { result ≤ 8208 }
-{
-    let l = records::take_lattice(ws, 0);
-    if l.next != ws.len() {
-        return 0;
-    }
-    tell_vector(out, cell::perp_widths(l.value))
-}
-
-fn min_image_case(ws: &[u64], out: &mut [u64; 8208]) -> usize
-    ensures { result ≤ 8208 }
-{
-    let d = records::take_vec3(ws, 0);
-    let there = records::take_cell(ws, d.next);
-    if there.next != ws.len() {
-        return 0;
-    }
-    let around = there.value;
-    tell_image(out, cell::min_image(d.value, around))
-}
-
-pub(crate) fn answer(call: u64, ws: &[u64], out: &mut [u64; 8208]) -> usize
-    ensures { result ≤ 8208 }
-{
-    match call {
-        16 => orthorhombic_case(ws, out),
-        17 => cubic_case(ws, out),
-        18 => is_orthorhombic_case(ws, out),
-        19 => matrix_case(ws, out),
-        20 => volume_case(ws, out),
-        21 => inverse_case(ws, out),
-        22 => to_fractional_case(ws, out),
-        23 => to_cartesian_case(ws, out),
-        24 => wrap_case(ws, out),
-        25 => perp_widths_case(ws, out),
-        26 => min_image_case(ws, out),
-        _ => 0,
-    }
+    Some(())
 }

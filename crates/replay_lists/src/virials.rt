@@ -1,162 +1,98 @@
 // The calls of `virial`, 20 to 27.
-ghost use Rattle.std.specs.Prelude.{◌≤◌};
-
 use crate::{answers, records};
-use cell::Vec3;
-use replay_words::{plain, tables};
+use replay_words::{Answer, Case};
 
-fn three_rows(a: Vec3, b: Vec3, c: Vec3) -> [[f64; 3]; 3] {
-    [[a.x, a.y, a.z], [b.x, b.y, b.z], [c.x, c.y, c.z]]
+fn take_row(case: &mut Case) -> Option<[f64; 3]> {
+    let x = case.take_float()?;
+    let y = case.take_float()?;
+    let z = case.take_float()?;
+    Some([x, y, z])
 }
 
-fn merge_case(ws: &[u64], out: &mut [u64; 8208]) -> usize
-    ensures { result ≤ 8208 }
-{
-    let sum = records::take_sum(ws, 0);
-    let other = records::take_sum(ws, sum.next);
-    let a = replay_words::take_floats(ws, other.next);
-    let f = replay_words::take_floats(ws, a.next);
-    if f.next != ws.len() {
-        return 0;
-    }
-    let fs = tables::floats(ws);
-    let mut forces = tables::floats(ws);
-    let r = virial::merge(
-        sum.value,
-        tables::room(&mut forces, f),
-        other.value,
-        tables::part(&fs, a),
-    );
-    answers::put_summed_forces(out, r, tables::part(&forces, f))
+fn take_rows(case: &mut Case) -> Option<[[f64; 3]; 3]> {
+    let x = take_row(case)?;
+    let y = take_row(case)?;
+    let z = take_row(case)?;
+    Some([x, y, z])
 }
 
-fn add_pair_force_case(ws: &[u64], out: &mut [u64; 8208]) -> usize
-    ensures { result ≤ 8208 }
-{
-    let sum = records::take_sum(ws, 0);
-    let i = replay_words::take_u32(ws, sum.next);
-    let j = replay_words::take_u32(ws, i.next);
-    let d = records::take_vec3(ws, j.next);
-    let f = records::take_vec3(ws, d.next);
-    let t = replay_words::take_floats(ws, f.next);
-    if t.next != ws.len() {
-        return 0;
-    }
-    let mut forces = tables::floats(ws);
-    let r = virial::add_pair_force(
-        sum.value,
-        tables::room(&mut forces, t),
-        i.value,
-        j.value,
-        d.value,
-        f.value,
-    );
-    answers::put_summed_forces(out, r, tables::part(&forces, t))
+pub(crate) fn merge_case(mut case: Case, out: &mut Answer) -> Option<()> {
+    let sum = records::take_sum(&mut case)?;
+    let other = records::take_sum(&mut case)?;
+    let added = case.take_floats()?;
+    let mut forces = case.take_floats()?;
+    case.end()?;
+    let merged = virial::merge(sum, forces.room(), other, added.items());
+    answers::put_summed_forces(out, merged, forces.items());
+    Some(())
 }
 
-fn virial_from_pair_case(ws: &[u64], out: &mut [u64; 8208]) -> usize
-    ensures { result ≤ 8208 }
-{
-    let x = records::take_vec3(ws, 0);
-    let y = records::take_vec3(ws, x.next);
-    let z = records::take_vec3(ws, y.next);
-    let d = records::take_vec3(ws, z.next);
-    let f = records::take_vec3(ws, d.next);
-    if f.next != ws.len() {
-        return 0;
-    }
-    let rows = three_rows(x.value, y.value, z.value);
-    answers::put_rows_answer(out, virial::virial_from_pair(rows, d.value, f.value))
+pub(crate) fn add_pair_force_case(mut case: Case, out: &mut Answer) -> Option<()> {
+    let sum = records::take_sum(&mut case)?;
+    let i = case.take_u32()?;
+    let j = case.take_u32()?;
+    let d = records::take_vec3(&mut case)?;
+    let f = records::take_vec3(&mut case)?;
+    let mut forces = case.take_floats()?;
+    case.end()?;
+    let added = virial::add_pair_force(sum, forces.room(), i, j, d, f);
+    answers::put_summed_forces(out, added, forces.items());
+    Some(())
 }
 
-fn scalar_virial_case(ws: &[u64], out: &mut [u64; 8208]) -> usize
-    ensures { result ≤ 8208 }
-{
-    let x = records::take_vec3(ws, 0);
-    let y = records::take_vec3(ws, x.next);
-    let z = records::take_vec3(ws, y.next);
-    if z.next != ws.len() {
-        return 0;
+pub(crate) fn virial_from_pair_case(mut case: Case, out: &mut Answer) -> Option<()> {
+    let rows = take_rows(&mut case)?;
+    let d = records::take_vec3(&mut case)?;
+    let f = records::take_vec3(&mut case)?;
+    case.end()?;
+    if let Some(virial) = out.put_head(virial::virial_from_pair(rows, d, f)) {
+        answers::put_rows(out, virial);
     }
-    let rows = three_rows(x.value, y.value, z.value);
-    plain::put_number(out, virial::scalar_virial(rows))
+    Some(())
 }
 
-fn pressure_case(ws: &[u64], out: &mut [u64; 8208]) -> usize
-    ensures { result ≤ 8208 }
-{
-    let kinetic = replay_words::take_float(ws, 0);
-    let scalar = replay_words::take_float(ws, kinetic.next);
-    let volume = replay_words::take_float(ws, scalar.next);
-    if volume.next != ws.len() {
-        return 0;
-    }
-    plain::put_number(
-        out,
-        virial::pressure(kinetic.value, scalar.value, volume.value),
-    )
+pub(crate) fn scalar_virial_case(mut case: Case, out: &mut Answer) -> Option<()> {
+    let rows = take_rows(&mut case)?;
+    case.end()?;
+    out.put_answer(virial::scalar_virial(rows));
+    Some(())
 }
 
-fn pressure_tensor_case(ws: &[u64], out: &mut [u64; 8208]) -> usize
-    ensures { result ≤ 8208 }
-{
-    let units = records::take_units(ws, 0);
-    let volume = replay_words::take_float(ws, units.next);
-    let x = records::take_vec3(ws, volume.next);
-    let y = records::take_vec3(ws, x.next);
-    let z = records::take_vec3(ws, y.next);
-    let v = replay_words::take_floats(ws, z.next);
-    let m = replay_words::take_floats(ws, v.next);
-    if m.next != ws.len() {
-        return 0;
-    }
-    let rows = three_rows(x.value, y.value, z.value);
-    let fs = tables::floats(ws);
-    let r = virial::pressure_tensor(
-        units.value,
-        volume.value,
-        rows,
-        tables::part(&fs, v),
-        tables::part(&fs, m),
-    );
-    answers::put_rows_answer(out, r)
+pub(crate) fn pressure_case(mut case: Case, out: &mut Answer) -> Option<()> {
+    let kinetic = case.take_float()?;
+    let scalar = case.take_float()?;
+    let volume = case.take_float()?;
+    case.end()?;
+    out.put_answer(virial::pressure(kinetic, scalar, volume));
+    Some(())
 }
 
-fn to_gpa_case(ws: &[u64], out: &mut [u64; 8208]) -> usize
-    ensures { result ≤ 8208 }
-{
-    let units = records::take_units(ws, 0);
-    let p = replay_words::take_float(ws, units.next);
-    if p.next != ws.len() {
-        return 0;
+pub(crate) fn pressure_tensor_case(mut case: Case, out: &mut Answer) -> Option<()> {
+    let units = records::take_units(&mut case)?;
+    let volume = case.take_float()?;
+    let rows = take_rows(&mut case)?;
+    let velocities = case.take_floats()?;
+    let masses = case.take_floats()?;
+    case.end()?;
+    let answer = virial::pressure_tensor(units, volume, rows, velocities.items(), masses.items());
+    if let Some(tensor) = out.put_head(answer) {
+        answers::put_rows(out, tensor);
     }
-    plain::put_number(out, virial::to_gpa(units.value, p.value))
+    Some(())
 }
 
-fn zeros_case(ws: &[u64], out: &mut [u64; 8208]) -> usize
-    ensures { result ≤ 8208 }
-{
-    let t = replay_words::take_floats(ws, 0);
-    if t.next != ws.len() {
-        return 0;
-    }
-    let mut forces = tables::floats(ws);
-    let r = virial::zeros(tables::room(&mut forces, t));
-    answers::put_summed_forces(out, r, tables::part(&forces, t))
+pub(crate) fn to_gpa_case(mut case: Case, out: &mut Answer) -> Option<()> {
+    let units = records::take_units(&mut case)?;
+    let pressure = case.take_float()?;
+    case.end()?;
+    out.put_answer(virial::to_gpa(units, pressure));
+    Some(())
 }
 
-pub(crate) fn answer(call: u64, ws: &[u64], out: &mut [u64; 8208]) -> usize
-    ensures { result ≤ 8208 }
-{
-    match call {
-        32 => merge_case(ws, out),
-        33 => add_pair_force_case(ws, out),
-        34 => virial_from_pair_case(ws, out),
-        35 => scalar_virial_case(ws, out),
-        36 => pressure_case(ws, out),
-        37 => pressure_tensor_case(ws, out),
-        38 => to_gpa_case(ws, out),
-        39 => zeros_case(ws, out),
-        _ => 0,
-    }
+pub(crate) fn zeros_case(mut case: Case, out: &mut Answer) -> Option<()> {
+    let mut forces = case.take_floats()?;
+    case.end()?;
+    let zeros = virial::zeros(forces.room());
+    answers::put_summed_forces(out, zeros, forces.items());
+    Some(())
 }

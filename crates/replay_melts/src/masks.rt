@@ -1,9 +1,11 @@
-// The first word of 57, 67, 68, and of 58, 59: which further parts stand in the line.
-ghost use Rattle.std.specs.Prelude.{◌+◌, ◌≤◌, length, ◌≡◌, false};
+// The first word of 57, 67 to 69, and of 58, 59: which further parts stand in the line.
+ghost use Rattle.std.specs.Prelude.{◌≡◌, ◌+◌, ◌*◌, ◌∷◌, IfSome, false};
+ghost use Rattle.replay_words.specs.Told.{bit};
 
-use replay_words::Table;
+use replay_words::{Case, Store};
 
-#[derive(Clone, Copy)]
+// The commands without a mask have none.
+#[derive(Clone, Copy, Default)]
 pub struct Parts {
     pub angles: bool, // 1: the term of angles after bonds', and its two tables after theirs
     pub cell: bool, // 2: a cell at the end of State
@@ -11,56 +13,39 @@ pub struct Parts {
     pub rule: bool, // 8: the mixing rule at the end of Lennard-Jones' numbers
 }
 
-#[derive(Drop)]
-pub struct MaskArg {
-    pub parts: Parts,
-    pub known: bool, // a mask with another bit is no case
-    pub next: usize,
-}
-
-// The parts of the commands without a mask.
-pub fn none() -> Parts
-    ensures { result.own ≡ false }
+// A mask with another bit is no case.
+pub fn take_mask(case: &mut Case) -> Option<Parts>
+    ensures { IfSome result (λ p. case.old ≡ (bit p.angles + 2 * bit p.cell + 4 * bit p.own + 8 * bit p.rule) ∷ case.new) }
 {
-    Parts {
-        angles: false,
-        cell: false,
-        own: false,
-        rule: false,
+    let mask = case.take_word()?;
+    if 16 <= mask {
+        return None;
     }
-}
-
-pub fn take_mask(ws: &[u64]) -> MaskArg
-    ensures { result.next ≤ length ws.now + 1 }
-{
-    let w = replay_words::take_word(ws, 0);
-    MaskArg {
-        parts: Parts {
-            angles: w.value % 2 == 1,
-            cell: w.value / 2 % 2 == 1,
-            own: w.value / 4 % 2 == 1,
-            rule: w.value / 8 == 1,
-        },
-        known: w.value < 16,
-        next: w.next,
-    }
+    Some(Parts {
+        angles: mask % 2 == 1,
+        cell: mask / 2 % 2 == 1,
+        own: mask / 4 % 2 == 1,
+        rule: mask / 8 == 1,
+    })
 }
 
 // A table, and an empty one where it does not stand in the line.
-pub fn take_u32s_if(there: bool, ws: &[u64], at: usize) -> Table
-    ensures { result.next ≤ at + length ws.now + 1 }
+pub fn take_u32s_if(there: bool, case: &mut Case) -> Option<Store<u32>>
+    ensures { there ≡ false → case.new ≡ case.old }
 {
     if there {
-        return replay_words::take_u32s(ws, at);
+        case.take_u32s()
+    } else {
+        Some(Store::new(&[]))
     }
-    Table { from: at, next: at }
 }
 
-pub fn take_floats_if(there: bool, ws: &[u64], at: usize) -> Table
-    ensures { result.next ≤ at + length ws.now + 1 }
+pub fn take_floats_if(there: bool, case: &mut Case) -> Option<Store<f64>>
+    ensures { there ≡ false → case.new ≡ case.old }
 {
     if there {
-        return replay_words::take_floats(ws, at);
+        case.take_floats()
+    } else {
+        Some(Store::new(&[]))
     }
-    Table { from: at, next: at }
 }

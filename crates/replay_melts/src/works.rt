@@ -1,132 +1,105 @@
 // The calls on a whole melt, whose words have one form: `evaluate`, 55, and 57 with a mask; `verlet_step`, 63 and its finish 64, and 67, 68 with a mask;
 // `fire`, 69, with a mask.
-ghost use Rattle.std.specs.Prelude.{◌≤◌};
+ghost use Rattle.replay_melts.specs.Came.{ComesOf};
 
 use crate::masks::Parts;
-use crate::records::SettingsArg;
 use crate::{masks, records};
-use answer::Refusal;
-use evaluate::Evaluated;
+use evaluate::{Evaluated, Molecule, Setting};
 use fire::{FireOptions, Fired};
+use neighbor::State;
+use potentials::BondRows;
+use potentials_angle::AngleRows;
+use potentials_pair::SpeciesTables;
 use replay_lists::answers;
-use replay_words::{Table, plain, tables};
+use replay_words::{Answer, Case, Store};
 use verlet::Thermostat;
 use verlet_step::{Pace, Stepped};
-use virial::Sum;
 
 #[derive(Clone, Copy)]
-pub enum Work {
+pub(crate) enum Kind {
     Evaluate,
     Step,
     Finish,
     Settle,
 }
 
-// What stands before the settings: of a step its pace, of `fire` its options, of an evaluation nothing.
-#[derive(Drop)]
-pub struct Front {
-    pub options: FireOptions,
-    pub pace: Pace,
-    pub next: usize,
-}
-
-fn take_options(ws: &[u64], at: usize) -> Front {
-    let limit = replay_words::take_u32(ws, at);
-    let tol = replay_words::take_float(ws, limit.next);
-    let dt = replay_words::take_float(ws, tol.next);
-    let most = replay_words::take_float(ws, dt.next);
-    Front {
-        options: FireOptions {
-            max_iters: limit.value,
-            force_tol: tol.value,
-            dt: dt.value,
-            dt_max: most.value,
-        },
-        pace: Pace {
-            dt: 0.0,
-            thermostat: None,
-        },
-        next: most.next,
-    }
-}
-
-fn paced(dt: f64, thermostat: Option<Thermostat>, next: usize) -> Front {
-    Front {
-        options: FireOptions {
-            max_iters: 0,
-            force_tol: 0.0,
-            dt: 0.0,
-            dt_max: 0.0,
-        },
-        pace: Pace { dt, thermostat },
-        next,
-    }
+// What is done, and what it alone is given: it stands before the settings.
+#[derive(Clone, Copy)]
+pub enum Work {
+    Evaluate,
+    Step(Pace),
+    Finish(Pace),
+    Settle(FireOptions),
 }
 
 // The time of a step, and 0, or 1, the target and tau.
-fn take_pace(ws: &[u64], at: usize) -> Front {
-    let dt = replay_words::take_float(ws, at);
-    let there = replay_words::take_bool(ws, dt.next);
-    if there.value {
-        let target = replay_words::take_float(ws, there.next);
-        let tau = replay_words::take_float(ws, target.next);
-        let target_k = target.value;
-        let tau_fs = tau.value;
-        return paced(dt.value, Some(Thermostat { target_k, tau_fs }), tau.next);
+fn take_pace(case: &mut Case) -> Option<Pace> {
+    let dt = case.take_float()?;
+    if !case.take_bool()? {
+        return Some(Pace {
+            dt,
+            thermostat: None,
+        });
     }
-    paced(dt.value, None, there.next)
+    let target_k = case.take_float()?;
+    let tau_fs = case.take_float()?;
+    Some(Pace {
+        dt,
+        thermostat: Some(Thermostat { target_k, tau_fs }),
+    })
 }
 
-fn take_front(work: Work, ws: &[u64], at: usize) -> Front {
-    match work {
-        Work::Evaluate => paced(0.0, None, at),
-        Work::Settle => take_options(ws, at),
-        _ => take_pace(ws, at),
+fn take_options(case: &mut Case) -> Option<FireOptions> {
+    let max_iters = case.take_u32()?;
+    let force_tol = case.take_float()?;
+    let dt = case.take_float()?;
+    let dt_max = case.take_float()?;
+    Some(FireOptions {
+        max_iters,
+        force_tol,
+        dt,
+        dt_max,
+    })
+}
+
+fn take_work(kind: Kind, case: &mut Case) -> Option<Work> {
+    match kind {
+        Kind::Evaluate => Some(Work::Evaluate),
+        Kind::Step => Some(Work::Step(take_pace(case)?)),
+        Kind::Finish => Some(Work::Finish(take_pace(case)?)),
+        Kind::Settle => Some(Work::Settle(take_options(case)?)),
     }
 }
 
-// What is no table, and the tables that are only read.
+// The tables of the terms.
 #[derive(Drop)]
-pub struct Given {
-    pub work: Work,
-    pub front: Front,
-    pub settings: SettingsArg,
-    pub own_ids: Table,
-    pub own_params: Table,
-    pub ids: Table,
-    pub params: Table,
-    pub species: Table,
-    pub charges: Table,
-    pub bonds: Table,
-    pub lengths: Table,
-    pub ks: Table,
-    pub angles: Table,
-    pub per_angle: Table,
-    pub masses: Table, // of an evaluation the positions
-    pub exclusions: Table,
-    pub next: usize,
+struct Terms {
+    own_ids: Store<u32>,
+    own_params: Store<f64>,
+    ids: Store<u32>,
+    params: Store<f64>,
+    species: Store<u32>,
+    charges: Store<f64>,
+    bonds: Store<u32>,
+    lengths: Store<f64>,
+    ks: Store<f64>,
+    angles: Store<u32>,
+    per_angle: Store<f64>,
 }
 
-fn take_given(work: Work, parts: Parts, from: usize, ws: &[u64]) -> Given {
-    let front = take_front(work, ws, from);
-    let settings = records::take_settings(parts, ws, front.next);
-    let own_ids = masks::take_u32s_if(parts.own, ws, settings.next);
-    let own_params = masks::take_floats_if(parts.own, ws, own_ids.next);
-    let ids = replay_words::take_u32s(ws, own_params.next);
-    let params = replay_words::take_floats(ws, ids.next);
-    let species = replay_words::take_u32s(ws, params.next);
-    let charges = replay_words::take_floats(ws, species.next);
-    let bonds = replay_words::take_u32s(ws, charges.next);
-    let lengths = replay_words::take_floats(ws, bonds.next);
-    let ks = replay_words::take_floats(ws, lengths.next);
-    let angles = masks::take_u32s_if(parts.angles, ws, ks.next);
-    let per_angle = masks::take_floats_if(parts.angles, ws, angles.next);
-    let masses = replay_words::take_floats(ws, per_angle.next);
-    let exclusions = replay_words::take_u32s(ws, masses.next);
-    Given {
-        work,
-        front,
-        settings,
+fn take_terms(parts: Parts, case: &mut Case) -> Option<Terms> {
+    let own_ids = masks::take_u32s_if(parts.own, case)?;
+    let own_params = masks::take_floats_if(parts.own, case)?;
+    let ids = case.take_u32s()?;
+    let params = case.take_floats()?;
+    let species = case.take_u32s()?;
+    let charges = case.take_floats()?;
+    let bonds = case.take_u32s()?;
+    let lengths = case.take_floats()?;
+    let ks = case.take_floats()?;
+    let angles = masks::take_u32s_if(parts.angles, case)?;
+    let per_angle = masks::take_floats_if(parts.angles, case)?;
+    Some(Terms {
         own_ids,
         own_params,
         ids,
@@ -138,295 +111,217 @@ fn take_given(work: Work, parts: Parts, from: usize, ws: &[u64]) -> Given {
         ks,
         angles,
         per_angle,
-        masses,
-        exclusions,
-        next: exclusions.next,
-    }
+    })
 }
 
-// The rooms and stores: of an evaluation the positions are only read, and there are no velocities. A step has its potential before them.
-#[derive(Drop)]
-struct Rooms {
-    potential: f64,
-    positions: Table,
-    velocities: Table,
-    pairs: Table,
-    references: Table,
-    starts: Table,
-    items: Table,
-    forces: Table,
-}
-
+// All that is only read. An evaluation reads neither the potential nor masses.
 #[derive(Clone, Copy)]
-struct Form {
-    moves: bool,
-    has_potential: bool,
+pub struct Given<'a> {
+    pub work: Work,
+    pub setting: Setting,
+    pub state: State,
+    pub potential: f64,
+    pub molecule: Molecule<'a>,
+    pub masses: &'a [f64],
+    pub exclusions: &'a [u32],
 }
 
-fn form_of(work: Work) -> Form {
-    match work {
-        Work::Evaluate => Form {
-            moves: false,
-            has_potential: false,
-        },
-        Work::Settle => Form {
-            moves: true,
-            has_potential: false,
-        },
-        _ => Form {
-            moves: true,
-            has_potential: true,
-        },
+fn put_evaluated(out: &mut Answer, cell: bool, r: Evaluated) {
+    out.put_head(r.done);
+    out.put(r.rebuilt);
+    answers::put_state_and(cell, out, r.state);
+    if r.done.is_ok() {
+        answers::put_sum(out, r.sum);
     }
 }
 
-fn take_float_if(there: bool, ws: &[u64], at: usize) -> replay_words::Real {
-    if there {
-        return replay_words::take_float(ws, at);
-    }
-    replay_words::Real {
-        value: 0.0,
-        next: at,
-    }
+fn put_stepped(out: &mut Answer, cell: bool, r: Stepped) {
+    out.put_head(r.done);
+    out.put_all(&[r.stopped, r.rebuilt]);
+    answers::put_state_and(cell, out, r.state);
+    out.put(r.potential);
 }
 
-// The positions of an evaluation stand where a step has its masses.
-fn if_moving(moves: bool, places: Table, masses: Table) -> Table {
-    if moves {
-        return places;
-    }
-    masses
+fn put_settled(out: &mut Answer, cell: bool, r: Fired) {
+    out.put_head(r.done);
+    out.put(r.iteration);
+    out.put_all(&[r.stopped, r.converged]);
+    out.put_all(&[r.energy, r.max_force]);
+    answers::put_state_and(cell, out, r.state);
 }
 
-fn take_rooms(k: Form, masses: Table, ws: &[u64], at: usize) -> Rooms {
-    let potential = take_float_if(k.has_potential, ws, at);
-    let places = masks::take_floats_if(k.moves, ws, potential.next);
-    let velocities = masks::take_floats_if(k.moves, ws, places.next);
-    let pairs = replay_words::take_u32s(ws, velocities.next);
-    let references = replay_words::take_floats(ws, pairs.next);
-    let starts = replay_words::take_u32s(ws, references.next);
-    let items = replay_words::take_u32s(ws, starts.next);
-    let forces = replay_words::take_floats(ws, items.next);
-    Rooms {
-        potential: potential.value,
-        positions: if_moving(k.moves, places, masses),
-        velocities,
-        pairs,
-        references,
-        starts,
-        items,
-        forces,
-    }
+// What came of it.
+#[derive(Drop)]
+pub enum Came {
+    Evaluated(Evaluated),
+    Stepped(Stepped),
+    Settled(Fired),
 }
 
-// The sum, where there is one.
-fn tell_sum(out: &mut [u64; 8208], at: usize, answer: Result<(), Refusal>, sum: Sum) -> usize
-    ensures { result ≤ 8208 }
-{
-    match answer {
-        Ok(()) => answers::put_sum(out, at, sum),
-        Err(_) => replay_words::put_words(out, at, &[]),
-    }
-}
-
-fn tell_evaluated(out: &mut [u64; 8208], cell: bool, r: Evaluated) -> usize
-    ensures { result ≤ 8208 }
-{
-    let done = r.done;
-    let state = r.state;
-    let sum = r.sum;
-    let head = plain::put_done(out, done);
-    let asked = replay_words::put_word(out, head, replay_words::flag_word(r.rebuilt));
-    let at = answers::put_state_and(cell, out, asked, state);
-    tell_sum(out, at, done, sum)
-}
-
-fn tell_stepped(out: &mut [u64; 8208], cell: bool, r: Stepped) -> usize
-    ensures { result ≤ 8208 }
-{
-    let done = r.done;
-    let state = r.state;
-    let head = plain::put_done(out, done);
-    let stop = replay_words::put_word(out, head, replay_words::flag_word(r.stopped));
-    let asked = replay_words::put_word(out, stop, replay_words::flag_word(r.rebuilt));
-    let at = answers::put_state_and(cell, out, asked, state);
-    replay_words::put_float(out, at, r.potential)
-}
-
-fn tell_settled(out: &mut [u64; 8208], cell: bool, r: Fired) -> usize
-    ensures { result ≤ 8208 }
-{
-    let done = r.done;
-    let state = r.state;
-    let head = plain::put_done(out, done);
-    let turns = r.iteration as u64;
-    let stop = replay_words::flag_word(r.stopped);
-    let met = replay_words::flag_word(r.converged);
-    let counted = replay_words::put_words(out, head, &[turns, stop, met]);
-    let most = replay_words::put_reals(out, counted, &[r.energy, r.max_force]);
-    answers::put_state_and(cell, out, most, state)
-}
-
-// One function for all four: what they share is cut up once. The place after what it told comes back as it was lent, at the lifetime of every room: so the
-// rooms are given up, and none has to be lent on and taken back.
-pub fn worked<'a>(
+// One function for all four, whose rooms are the same.
+pub fn worked(
     g: Given,
-    potential: f64,
-    us: &[u32],
-    fs: &[f64],
-    positions: &'a mut [f64],
-    velocities: &'a mut [f64],
-    pairs: &'a mut [u32],
-    references: &'a mut [f64],
-    starts: &'a mut [u32],
-    items: &'a mut [u32],
-    forces: &'a mut [f64],
-    at: &'a mut usize,
-    out: &mut [u64; 8208],
-) -> &'a mut usize
-    ensures { result.now ≤ 8208 }
+    positions: &mut [f64],
+    velocities: &mut [f64],
+    pairs: &mut [u32],
+    references: &mut [f64],
+    starts: &mut [u32],
+    items: &mut [u32],
+    forces: &mut [f64],
+) -> Came
+    ensures { ComesOf g.entry.work result }
 {
-    let s = g.settings;
-    let setting = s.setting;
-    let state = s.state;
-    let parts = s.parts;
-    let cell = parts.cell;
-    let own_ids = tables::part_u32(us, g.own_ids);
-    let own_params = tables::part(fs, g.own_params);
-    let ids = tables::part_u32(us, g.ids);
-    let params = tables::part(fs, g.params);
-    let species = tables::part_u32(us, g.species);
-    let charges = tables::part(fs, g.charges);
-    let bonds = tables::part_u32(us, g.bonds);
-    let lengths = tables::part(fs, g.lengths);
-    let ks = tables::part(fs, g.ks);
-    let angles = tables::part_u32(us, g.angles);
-    let per_angle = tables::part(fs, g.per_angle);
-    let masses = tables::part(fs, g.masses);
-    let exclusions = tables::part_u32(us, g.exclusions);
-    let front = g.front;
-    let work = g.work;
-    match work {
-        Work::Evaluate => {
-            let r = evaluate::evaluate(
-                setting, state, own_ids, own_params, ids, params, species, charges, bonds, lengths,
-                ks, angles, per_angle, positions, exclusions, pairs, references, starts, items,
-                forces,
-            );
-            *at = tell_evaluated(out, cell, r);
-            at
-        }
-        Work::Step => {
-            let pace = front.pace;
-            let r = verlet_step::step(
-                setting, pace, state, potential, own_ids, own_params, ids, params, species,
-                charges, bonds, lengths, ks, angles, per_angle, masses, exclusions, positions,
-                velocities, pairs, references, starts, items, forces,
-            );
-            *at = tell_stepped(out, cell, r);
-            at
-        }
-        Work::Finish => {
-            let pace = front.pace;
-            let r = verlet_step::finish(
-                setting, pace, state, potential, own_ids, own_params, ids, params, species,
-                charges, bonds, lengths, ks, angles, per_angle, masses, exclusions, positions,
-                velocities, pairs, references, starts, items, forces,
-            );
-            *at = tell_stepped(out, cell, r);
-            at
-        }
-        Work::Settle => {
-            let options = front.options;
-            let r = fire::fire(
-                options, setting, state, own_ids, own_params, ids, params, species, charges, bonds,
-                lengths, ks, angles, per_angle, masses, exclusions, positions, velocities, pairs,
-                references, starts, items, forces,
-            );
-            *at = tell_settled(out, cell, r);
-            at
-        }
+    match g.work {
+        Work::Evaluate => Came::Evaluated(evaluate::evaluate(
+            g.setting,
+            g.state,
+            &g.molecule,
+            positions,
+            g.exclusions,
+            pairs,
+            references,
+            starts,
+            items,
+            forces,
+        )),
+        Work::Step(pace) => Came::Stepped(verlet_step::step(
+            g.setting,
+            pace,
+            g.state,
+            g.potential,
+            &g.molecule,
+            g.masses,
+            g.exclusions,
+            positions,
+            velocities,
+            pairs,
+            references,
+            starts,
+            items,
+            forces,
+        )),
+        Work::Finish(pace) => Came::Stepped(verlet_step::finish(
+            g.setting,
+            pace,
+            g.state,
+            g.potential,
+            &g.molecule,
+            g.masses,
+            g.exclusions,
+            positions,
+            velocities,
+            pairs,
+            references,
+            starts,
+            items,
+            forces,
+        )),
+        Work::Settle(options) => Came::Settled(fire::fire(
+            options,
+            g.setting,
+            g.state,
+            &g.molecule,
+            g.masses,
+            g.exclusions,
+            positions,
+            velocities,
+            pairs,
+            references,
+            starts,
+            items,
+            forces,
+        )),
     }
 }
 
-fn put_room_if(there: bool, out: &mut [u64; 8208], at: usize, xs: [f64; 8192], t: Table) -> usize {
-    if there {
-        return tables::put_room(out, at, xs, t);
+// `cell` says whether the state is told with its remembered cell.
+fn put_came(out: &mut Answer, cell: bool, came: Came) {
+    match came {
+        Came::Evaluated(r) => put_evaluated(out, cell, r),
+        Came::Stepped(r) => put_stepped(out, cell, r),
+        Came::Settled(r) => put_settled(out, cell, r),
     }
-    at
 }
 
-fn told(moves: bool, given: Given, t: Rooms, ws: &[u64], out: &mut [u64; 8208]) -> usize
-    ensures { result ≤ 8208 }
-{
-    let us = tables::u32s(ws);
-    let fs = tables::floats(ws);
-    let mut positions = tables::floats(ws);
-    let mut velocities = tables::floats(ws);
-    let mut pairs = tables::u32s(ws);
-    let mut references = tables::floats(ws);
-    let mut starts = tables::u32s(ws);
-    let mut items = tables::u32s(ws);
-    let mut forces = tables::floats(ws);
-    let mut at = 0;
-    worked(
+// The words after a mask, or of a command without one.
+fn told(kind: Kind, parts: Parts, mut case: Case, out: &mut Answer) -> Option<()> {
+    let moves = !matches!(kind, Kind::Evaluate);
+    let work = take_work(kind, &mut case)?;
+    let (setting, state) = records::take_settings(parts, &mut case)?;
+    let terms = take_terms(parts, &mut case)?;
+    let mut masses = case.take_floats()?;
+    let exclusions = case.take_u32s()?;
+    let potential = match kind {
+        Kind::Step | Kind::Finish => case.take_float()?,
+        Kind::Evaluate | Kind::Settle => 0.0,
+    };
+    let mut positions = masks::take_floats_if(moves, &mut case)?;
+    let mut velocities = masks::take_floats_if(moves, &mut case)?;
+    if !moves {
+        // where a step has its masses an evaluation has the positions
+        std::mem::swap(&mut positions, &mut masses);
+    }
+    let mut pairs = case.take_u32s()?;
+    let mut references = case.take_floats()?;
+    let mut starts = case.take_u32s()?;
+    let mut items = case.take_u32s()?;
+    let mut forces = case.take_floats()?;
+    case.end()?;
+    let given = Given {
+        work,
+        setting,
+        state,
+        potential,
+        molecule: Molecule {
+            tables: SpeciesTables {
+                own_ids: terms.own_ids.items(),
+                own_params: terms.own_params.items(),
+                ids: terms.ids.items(),
+                params: terms.params.items(),
+            },
+            species: terms.species.items(),
+            charges: terms.charges.items(),
+            bonds: BondRows {
+                ends: terms.bonds.items(),
+                lengths: terms.lengths.items(),
+                ks: terms.ks.items(),
+            },
+            angles: AngleRows {
+                corners: terms.angles.items(),
+                per_angle: terms.per_angle.items(),
+            },
+        },
+        masses: masses.items(),
+        exclusions: exclusions.items(),
+    };
+    let came = worked(
         given,
-        t.potential,
-        &us,
-        &fs,
-        tables::room(&mut positions, t.positions),
-        tables::room(&mut velocities, t.velocities),
-        tables::room_u32(&mut pairs, t.pairs),
-        tables::room(&mut references, t.references),
-        tables::room_u32(&mut starts, t.starts),
-        tables::room_u32(&mut items, t.items),
-        tables::room(&mut forces, t.forces),
-        &mut at,
-        out,
+        positions.room(),
+        velocities.room(),
+        pairs.room(),
+        references.room(),
+        starts.room(),
+        items.room(),
+        forces.room(),
     );
-    let placed = put_room_if(moves, out, at, positions, t.positions);
-    let moving = put_room_if(moves, out, placed, velocities, t.velocities);
-    let listed = tables::put_room_u32(out, moving, pairs, t.pairs);
-    let referred = tables::put_room(out, listed, references, t.references);
-    let laid = tables::put_room_u32(out, referred, starts, t.starts);
-    let sorted = tables::put_room_u32(out, laid, items, t.items);
-    tables::put_room(out, sorted, forces, t.forces)
+    put_came(out, parts.cell, came);
+    if moves {
+        out.put_table(positions.items());
+        out.put_table(velocities.items());
+    }
+    out.put_table(pairs.items());
+    out.put_table(references.items());
+    out.put_table(starts.items());
+    out.put_table(items.items());
+    out.put_table(forces.items());
+    Some(())
 }
 
-fn case(work: Work, parts: Parts, from: usize, ws: &[u64], out: &mut [u64; 8208]) -> usize
-    ensures { result ≤ 8208 }
-{
-    let given = take_given(work, parts, from, ws);
-    let k = form_of(work);
-    let rooms = take_rooms(k, given.masses, ws, given.next);
-    let last = rooms.forces;
-    if last.next != ws.len() {
-        return 0;
-    }
-    told(k.moves, given, rooms, ws, out)
+pub(crate) fn plain_case(kind: Kind, case: Case, out: &mut Answer) -> Option<()> {
+    told(kind, Parts::default(), case, out)
 }
 
-fn masked(work: Work, ws: &[u64], out: &mut [u64; 8208]) -> usize
-    ensures { result ≤ 8208 }
-{
-    let m = masks::take_mask(ws);
-    if !m.known {
-        return 0;
-    }
-    case(work, m.parts, m.next, ws, out)
-}
-
-pub fn answer(call: u64, ws: &[u64], out: &mut [u64; 8208]) -> usize
-    ensures { result ≤ 8208 }
-{
-    match call {
-        85 => case(Work::Evaluate, masks::none(), 0, ws, out),
-        87 => masked(Work::Evaluate, ws, out),
-        99 => case(Work::Step, masks::none(), 0, ws, out),
-        100 => case(Work::Finish, masks::none(), 0, ws, out),
-        103 => masked(Work::Step, ws, out),
-        104 => masked(Work::Finish, ws, out),
-        105 => masked(Work::Settle, ws, out),
-        _ => 0,
-    }
+pub(crate) fn masked_case(kind: Kind, mut case: Case, out: &mut Answer) -> Option<()> {
+    let parts = masks::take_mask(&mut case)?;
+    told(kind, parts, case, out)
 }

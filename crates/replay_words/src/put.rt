@@ -1,94 +1,117 @@
-// An answer put together as words, of which there are at most 8,208. Each call writes from a place on, and answers the place after; what finds no room is
-// not written.
-ghost use Rattle.std.specs.Prelude.{◌≤◌};
+// An answer put together as words, one after the other. What finds no room is not written.
+ghost use Rattle.std.specs.Prelude.{ℕ, ◌≡◌, ◌≤◌, List, [], ◌∷◌, ◌++◌, length, take, map, Ok, Err, Some, None, MatchResult};
+ghost use Rattle.answer.specs.Seen.{number_of, place_of};
+ghost use Rattle.replay_words.specs.Told.{told};
 
-pub fn put_word(out: &mut [u64; 8208], at: usize, w: u64) -> usize
-    ensures { result ≤ 8208 }
-{
-    if at < 8208 {
-        out[at] = w;
-        return at + 1;
+use crate::Word;
+use answer::Refusal;
+use std::marker::Model;
+
+#[derive(Drop)]
+pub struct Answer {
+    words: [u64; 8208],
+    count: usize,
+}
+
+impl Model for Answer {
+    ghost Value = { List ℕ };
+
+    ghost view = { λ a. take a.count a.words };
+
+    ghost invariant = { λ a. a.count ≤ 8208 };
+}
+
+impl Answer {
+    pub fn new() -> Self
+        ensures { result ≡ [] }
+    {
+        Answer {
+            words: [0; 8208],
+            count: 0,
+        }
     }
-    8208
-}
 
-pub fn put_float(out: &mut [u64; 8208], at: usize, x: f64) -> usize
-    ensures { result ≤ 8208 }
-{
-    put_word(out, at, float::to_bits(x))
-}
-
-// A bool as a word.
-pub fn flag_word(b: bool) -> u64
-    ensures { result ≤ 1 }
-{
-    if b {
-        return 1;
+    pub fn clear(&mut self)
+        ensures { self.new ≡ [] }
+    {
+        self.count = 0;
     }
-    0
-}
 
-// The two's complement of a signed number.
-fn signed_bits(x: i64) -> u64 {
-    if x < 0 {
-        18446744073709551615 - (-1 - x) as u64
-    } else {
-        x as u64
+    pub fn words(&self) -> &[u64]
+        ensures value { result.now ≡ self.now }
+        ensures fits { length result.now ≤ 8208 }
+    {
+        &self.words[..self.count]
     }
-}
 
-pub fn put_i64(out: &mut [u64; 8208], at: usize, x: i64) -> usize
-    ensures { result ≤ 8208 }
-{
-    put_word(out, at, signed_bits(x))
-}
-
-// Some words, one after the other.
-pub fn put_words(out: &mut [u64; 8208], at: usize, ws: &[u64]) -> usize
-    ensures { result ≤ 8208 }
-{
-    if at > 8208 {
-        return 8208;
+    fn put_word(&mut self, w: u64)
+        ensures { self.new ≡ told self.old (w ∷ []) }
+    {
+        if self.count < 8208 {
+            self.words[self.count] = w;
+            self.count += 1;
+        }
     }
-    let mut next = at;
-    for w in ws {
-        next = put_word(out, next, *w);
-    }
-    next
-}
 
-// Some floats, one after the other.
-pub fn put_reals(out: &mut [u64; 8208], at: usize, xs: &[f64]) -> usize
-    ensures { result ≤ 8208 }
-{
-    if at > 8208 {
-        return 8208;
+    pub fn put<T: Word>(&mut self, x: T)
+        ensures { self.new ≡ told self.old (T.word_of x ∷ []) }
+    {
+        self.put_word(x.to_word());
     }
-    let mut next = at;
-    for x in xs {
-        next = put_float(out, next, *x);
+
+    // Some values, one after the other.
+    pub fn put_all<T: Word>(&mut self, xs: &[T])
+        ensures { self.new ≡ told self.old (map T.word_of xs.now) }
+    {
+        for x in xs {
+            self.put(*x);
+        }
     }
-    next
-}
 
-// A table is its length and its elements.
-pub fn put_floats(out: &mut [u64; 8208], at: usize, xs: &[f64]) -> usize
-    ensures { result ≤ 8208 }
-{
-    let next = put_word(out, at, xs.len() as u64);
-    put_reals(out, next, xs)
-}
-
-fn wide(x: u32) -> u64 {
-    x as u64
-}
-
-pub fn put_u32s(out: &mut [u64; 8208], at: usize, xs: &[u32]) -> usize
-    ensures { result ≤ 8208 }
-{
-    let mut next = put_word(out, at, xs.len() as u64);
-    for x in xs {
-        next = put_word(out, next, wide(*x));
+    // A table is its length and its elements.
+    pub fn put_table<T: Word>(&mut self, xs: &[T])
+        ensures { self.new ≡ told self.old (length xs.now ∷ map T.word_of xs.now) }
+    {
+        self.put(xs.len());
+        self.put_all(xs);
     }
-    next
+
+    // 0 and 0: no refusal.
+    pub fn put_done(&mut self)
+        ensures { self.new ≡ told self.old (0 ∷ 0 ∷ []) }
+    {
+        self.put_all(&[0u64, 0]);
+    }
+
+    // A refusal's number and place.
+    pub fn put_refusal(&mut self, why: Refusal)
+        ensures { self.new ≡ told self.old (number_of why ∷ place_of why ∷ []) }
+    {
+        self.put_all(&[why.number(), why.place()]);
+    }
+
+    // What an answer begins with: 0 and 0, or the refusal. The value comes back where there is one.
+    pub fn put_head<T>(&mut self, answer: Result<T, Refusal>) -> Option<T>
+        ensures { MatchResult answer (λ v. (result ≡ Some v) × (self.new ≡ told self.old (0 ∷ 0 ∷ []))) (λ e. (result ≡ None) × (self.new ≡ told self.old (number_of e ∷ place_of e ∷ []))) }
+    {
+        match answer {
+            Ok(value) => {
+                self.put_done();
+                Some(value)
+            }
+            Err(why) => {
+                self.put_refusal(why);
+                None
+            }
+        }
+    }
+
+    // The head, and the value where there is one.
+    pub fn put_answer<T: Word>(&mut self, answer: Result<T, Refusal>)
+        ensures { MatchResult answer (λ v. self.new ≡ told self.old (0 ∷ 0 ∷ T.word_of v ∷ [])) (λ e. self.new ≡ told self.old (number_of e ∷ place_of e ∷ [])) }
+    {
+        if let Some(value) = self.put_head(answer) {
+            self.put(value);
+        }
+    }
 }

@@ -1,117 +1,116 @@
-// A case's arguments taken out of its words. The place one past the end says that a word was missing or was no such argument; whoever ends at the number
-// of words had them all, and nothing over.
-ghost use Rattle.std.specs.Prelude.{◌+◌, ◌≤◌, length};
+// A case's arguments taken out of its words, one after the other.
+ghost use Rattle.std.specs.Prelude.{ℕ, ◌≡◌, ◌<◌, ◌%◌, List, [], ◌∷◌, ◌++◌, IfSome, IfNone, IsSome, ◌↔◌, length, from_bits, if◌then◌else◌};
+ghost use Rattle.std.specs.Float.Ieee.{binary64};
+ghost use Rattle.std.specs.List.{All};
+ghost use Rattle.replay_words.specs.Told.{stored};
 
-use crate::{Flag, Real, Small, Table, Word};
+use crate::{Store, Word};
+use std::marker::Model;
 
-pub fn take_word(ws: &[u64], at: usize) -> Word
-    ensures { result.next ≤ length ws.now + 1 }
-{
-    if at < ws.len() {
-        return Word {
-            value: ws[at],
-            next: at + 1,
-        };
-    }
-    Word {
-        value: 0,
-        next: ws.len() + 1,
-    }
+// The words that are not taken yet. None is answered where a word is missing or is no such argument: then the line is no case.
+#[derive(Drop)]
+pub struct Case<'a> {
+    rest: &'a [u64],
 }
 
-// A float is its bits.
-pub fn take_float(ws: &[u64], at: usize) -> Real
-    ensures { result.next ≤ length ws.now + 1 }
-{
-    let w = take_word(ws, at);
-    Real {
-        value: float::of_bits(w.value),
-        next: w.next,
-    }
+impl<'a> Model for Case<'a> {
+    ghost Value = { List ℕ };
+
+    ghost view = { λ c. c.rest.now };
 }
 
-// A word that has to be below a limit.
-fn take_below(ws: &[u64], at: usize, limit: u64) -> Word
-    ensures { result.next ≤ length ws.now + 1 }
-{
-    let w = take_word(ws, at);
-    if w.value < limit {
-        return w;
+impl<'a> Case<'a> {
+    pub fn new(words: &'a [u64]) -> Self
+        ensures { result ≡ words.now }
+    {
+        Case { rest: words }
     }
-    Word {
-        value: 0,
-        next: ws.len() + 1,
-    }
-}
 
-// A bool is 0 or 1.
-pub fn take_bool(ws: &[u64], at: usize) -> Flag
-    ensures { result.next ≤ length ws.now + 1 }
-{
-    let w = take_below(ws, at, 2);
-    Flag {
-        value: w.value == 1,
-        next: w.next,
+    pub fn take_word(&mut self) -> Option<u64>
+        ensures taken { IfSome result (λ w. self.old ≡ w ∷ self.new) }
+        ensures missing { IfNone result (self.old ≡ []) }
+    {
+        let (first, rest) = self.rest.split_first()?;
+        self.rest = rest;
+        Some(*first)
     }
-}
 
-pub fn take_u32(ws: &[u64], at: usize) -> Small
-    ensures { result.next ≤ length ws.now + 1 }
-{
-    let w = take_below(ws, at, 4294967296);
-    Small {
-        value: (w.value % 4294967296) as u32,
-        next: w.next,
+    // A float is its bits.
+    pub fn take_float(&mut self) -> Option<f64>
+        ensures taken { IfSome result (λ x. (w : ℕ) × (self.old ≡ w ∷ self.new) × (x ≡ from_bits binary64 w)) }
+        ensures missing { IfNone result (self.old ≡ []) }
+    {
+        Some(f64::of_word(self.take_word()?))
     }
-}
 
-// No table: an empty one past the end.
-fn none(ws: &[u64]) -> Table
-    ensures { result.next ≤ length ws.now + 1 }
-{
-    Table {
-        from: ws.len() + 1,
-        next: ws.len() + 1,
-    }
-}
-
-// A table of floats: its length, then as many words as it says.
-pub fn take_floats(ws: &[u64], at: usize) -> Table
-    ensures { result.next ≤ length ws.now + 1 }
-{
-    if ws.len() <= at {
-        return none(ws);
-    }
-    let n = ws[at] as usize;
-    let from = at + 1;
-    if ws.len() - from < n {
-        return none(ws);
-    }
-    Table {
-        from,
-        next: from + n,
-    }
-}
-
-// Whether each word from one place to another is a u32.
-fn all_u32(ws: &[u64], from: usize, to: usize) -> bool {
-    let mut k = from;
-    while k < to && k < ws.len() {
-        if ws[k] >= 4294967296 {
-            return false;
+    // A bool is 0 or 1.
+    pub fn take_bool(&mut self) -> Option<bool>
+        ensures { IfSome result (λ b. self.old ≡ (if b then 1 else 0) ∷ self.new) }
+    {
+        match self.take_word()? {
+            0 => Some(false),
+            1 => Some(true),
+            _ => None,
         }
-        k += 1;
     }
-    true
-}
 
-// The same of u32s.
-pub fn take_u32s(ws: &[u64], at: usize) -> Table
-    ensures { result.next ≤ length ws.now + 1 }
-{
-    let t = take_floats(ws, at);
-    if all_u32(ws, t.from, t.next) {
-        return t;
+    pub fn take_u32(&mut self) -> Option<u32>
+        ensures { IfSome result (λ x. self.old ≡ x ∷ self.new) }
+    {
+        u32::try_from(self.take_word()?).ok()
     }
-    none(ws)
+
+    // The words of a table: its length, then as many words as it says.
+    fn take_table(&mut self) -> Option<&'a [u64]>
+        ensures { IfSome result (λ t. self.old ≡ length t.now ∷ (t.now ++ self.new)) }
+    {
+        let count = self.take_word()? as usize;
+        let (table, rest) = self.rest.split_at_checked(count)?;
+        self.rest = rest;
+        Some(table)
+    }
+
+    // The same where each is below a limit.
+    fn take_below(&mut self, limit: u64) -> Option<&'a [u64]>
+        ensures { IfSome result (λ t. (self.old ≡ length t.now ∷ (t.now ++ self.new)) × All (λ w. w < limit) t.now) }
+    {
+        let table = self.take_table()?;
+        if table.iter().all(|w| *w < limit) {
+            Some(table)
+        } else {
+            None
+        }
+    }
+
+    pub fn take_floats(&mut self) -> Option<Store<f64>>
+        ensures { IfSome result (λ s. (t : List ℕ) × (self.old ≡ length t ∷ (t ++ self.new)) × (s ≡ stored (λ w. from_bits binary64 w) t)) }
+    {
+        Some(Store::new(self.take_table()?))
+    }
+
+    pub fn take_words(&mut self) -> Option<Store<u64>>
+        ensures { IfSome result (λ s. (t : List ℕ) × (self.old ≡ length t ∷ (t ++ self.new)) × (s ≡ stored (λ w. w) t)) }
+    {
+        Some(Store::new(self.take_table()?))
+    }
+
+    pub fn take_u32s(&mut self) -> Option<Store<u32>>
+        ensures { IfSome result (λ s. (t : List ℕ) × (self.old ≡ length t ∷ (t ++ self.new)) × All (λ w. w < 4294967296) t × (s ≡ stored (λ w. w % 4294967296) t)) }
+    {
+        Some(Store::new(self.take_below(4294967296)?))
+    }
+
+    // A byte a word.
+    pub fn take_bytes(&mut self) -> Option<Store<u8>>
+        ensures { IfSome result (λ s. (t : List ℕ) × (self.old ≡ length t ∷ (t ++ self.new)) × All (λ w. w < 256) t × (s ≡ stored (λ w. w % 256) t)) }
+    {
+        Some(Store::new(self.take_below(256)?))
+    }
+
+    // A case has no word over.
+    pub fn end(self) -> Option<()>
+        ensures { IsSome result ↔ (self.entry ≡ []) }
+    {
+        if self.rest.is_empty() { Some(()) } else { None }
+    }
 }

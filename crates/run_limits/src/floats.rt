@@ -3,7 +3,7 @@ use crate::frames;
 
 // Cells eight wide.
 fn spot(k: usize) -> f64 {
-    (frames::cell_of(k) % 32 * 8 + frames::offset_of(k) % 8) as u32 as f64
+    f64::from((frames::cell_of(k) % 32 * 8 + frames::offset_of(k) % 8) as u32)
 }
 
 pub(crate) fn spread(xs: &mut [f64]) {
@@ -22,9 +22,5 @@ fn step(h: u64, x: f64) -> u64 {
 }
 
 pub(crate) fn digest(xs: &[f64]) -> u64 {
-    let mut h: u64 = 7;
-    for x in xs {
-        h = step(h, *x);
-    }
-    h
+    xs.iter().fold(7, |h, x| step(h, *x))
 }

@@ -1,8 +1,9 @@
 // The limits of the whole-number frame. A line a build: the refusal's number and place, then the pairs, the checks, the fallback where it is answered, and a
 // digest of each lent memory, which holds MARK before.
-use crate::{rooms, show};
+use crate::show;
 use answer::Refusal;
 use frame::{Built, Frame, Side};
+use replay_words::filled;
 
 // A number that a build is not to leave where it writes.
 pub(crate) const MARK: u32 = 4242424242;
@@ -43,36 +44,24 @@ fn spread(xs: &mut [u32]) {
 }
 
 pub(crate) fn step(h: u64, x: u32) -> u64 {
-    (h % 4294967291 * 31 + x as u64) % 4294967291
+    (h % 4294967291 * 31 + u64::from(x)) % 4294967291
 }
 
 pub(crate) fn digest(xs: &[u32]) -> u64 {
-    let mut h: u64 = 7;
-    for x in xs {
-        h = step(h, *x);
-    }
-    h
+    xs.iter().fold(7, |h, x| step(h, *x))
 }
 
-pub(crate) fn put_built(b: Result<Built, Refusal>) {
-    match b {
-        Ok(b) => {
-            show::put(0);
-            show::put(0);
-            show::put(b.pairs as u64);
-            show::put(b.checks as u64);
-            show::put_flag(b.fallback);
-        }
-        Err(why) => {
-            show::put(why.number());
-            show::put(why.place());
-        }
+pub(crate) fn put_built(answer: Result<Built, Refusal>) {
+    if let Some(built) = show::put_head(answer) {
+        show::put(u64::from(built.pairs));
+        show::put(u64::from(built.checks));
+        show::put_flag(built.fallback);
     }
 }
 
 fn build(f: Frame, xs: &[u32], starts: &mut [u32]) {
-    let mut pairs = rooms::pairs();
-    let mut items = rooms::items();
+    let mut pairs: [u32; 200000] = filled(MARK);
+    let mut items: [u32; 16390] = filled(MARK);
     put_built(frame::build(f, xs, &[], &mut pairs, starts, &mut items));
     show::put(digest(&pairs));
     show::put(digest(starts));
@@ -102,14 +91,14 @@ fn cube() -> Frame {
 }
 
 fn build_roomy(f: Frame, xs: &[u32]) {
-    let mut starts = rooms::starts();
+    let mut starts: [u32; 32769] = filled(MARK);
     build(f, xs, &mut starts);
 }
 
 // 16,384 atoms in 32,768 cells, with just the starts that they need, and with one start fewer.
 fn most() {
-    let mut xs = rooms::most_wholes();
-    let mut fewer = rooms::fewer();
+    let mut xs: [u32; 49152] = filled(0);
+    let mut fewer: [u32; 32768] = filled(MARK);
     spread(&mut xs);
     build_roomy(cube(), &xs);
     build(cube(), &xs, &mut fewer);
@@ -117,7 +106,7 @@ fn most() {
 
 // One atom more.
 fn over() {
-    let mut xs = rooms::over_wholes();
+    let mut xs: [u32; 49155] = filled(0);
     spread(&mut xs);
     build_roomy(cube(), &xs);
 }

@@ -9,7 +9,6 @@ mod half;
 mod pair_lists;
 mod parts;
 mod refused;
-mod rooms;
 mod show;
 mod speeds;
 

@@ -1,24 +1,23 @@
 // The same limits of the pair list of a float frame. Places are whole, edges and radius powers of two, so that no operation rounds.
 // A line a build: number, place, rebuilt, the state's counts, a digest of each lent memory; a line a question: number, place and the answer.
 use crate::frames::MARK;
-use crate::{floats, frames, rooms, show};
-use cell::{Lattice, Vec3};
+use crate::{floats, frames, show};
+use cell::Lattice;
 use neighbor::{State, Updated};
+use replay_words::filled;
 
 fn put_state(s: State) {
-    show::put(s.pairs as u64);
-    show::put(s.references as u64);
-    show::put(s.checks as u64);
+    show::put(u64::from(s.pairs));
+    show::put(u64::from(s.references));
+    show::put(u64::from(s.checks));
     show::put_flag(s.fallback);
-    show::put(s.builds as u64);
+    show::put(u64::from(s.builds));
 }
 
 fn put_updated(r: Updated) {
-    let done = r.done;
-    let state = r.state;
-    show::put_done(done);
+    show::put_head(r.done);
     show::put_flag(r.rebuilt);
-    put_state(state);
+    put_state(r.state);
 }
 
 fn put_rooms(pairs: &[u32], refs: &[f64], starts: &[u32], items: &[u32]) {
@@ -26,6 +25,20 @@ fn put_rooms(pairs: &[u32], refs: &[f64], starts: &[u32], items: &[u32]) {
     show::put(floats::digest(refs));
     show::put(frames::digest(starts));
     show::end(frames::digest(items));
+}
+
+// A list with nothing in it yet.
+pub(crate) fn list(cutoff: f64, skin: f64) -> State {
+    State {
+        cutoff,
+        skin,
+        pairs: 0,
+        references: 0,
+        checks: 0,
+        fallback: false,
+        builds: 0,
+        built_in: None,
+    }
 }
 
 // A build, and the state after it.
@@ -46,30 +59,14 @@ fn build(
 }
 
 fn ask(s: State, cell: Option<Lattice>, xs: &[f64], refs: &[f64]) {
-    let a = neighbor::needs_rebuild(s, cell, xs, refs);
-    match a {
-        Ok(b) => {
-            show::put(0);
-            show::put(0);
-            show::put_flag(b);
-        }
-        Err(why) => {
-            show::put(why.number());
-            show::put(why.place());
-        }
+    if let Some(needed) = show::put_head(neighbor::needs_rebuild(s, cell, xs, refs)) {
+        show::put_flag(needed);
     }
     show::end_line();
 }
 
 fn boxed(x: f64, y: f64, z: f64) -> Option<Lattice> {
-    Some(Lattice {
-        a: Vec3 { x, y: 0.0, z: 0.0 },
-        b: Vec3 { x: 0.0, y, z: 0.0 },
-        c: Vec3 { x: 0.0, y: 0.0, z },
-        px: true,
-        py: true,
-        pz: true,
-    })
+    Some(cell::kernel::orthorhombic(x, y, z))
 }
 
 fn cube() -> Option<Lattice> {
@@ -77,14 +74,14 @@ fn cube() -> Option<Lattice> {
 }
 
 fn build_cube(s: State, xs: &[f64], refs: &mut [f64], starts: &mut [u32]) -> State {
-    let mut pairs = rooms::pairs();
-    let mut items = rooms::items();
+    let mut pairs: [u32; 200000] = filled(MARK);
+    let mut items: [u32; 16390] = filled(MARK);
     build(s, cube(), xs, &mut pairs, refs, starts, &mut items)
 }
 
 // A build with just the starts that it needs, and what it leaves is asked about.
 fn fill(s: State, xs: &[f64], refs: &mut [f64]) -> State {
-    let mut starts = rooms::starts();
+    let mut starts: [u32; 32769] = filled(MARK);
     let after = build_cube(s, xs, refs, &mut starts);
     ask(after, cube(), xs, refs);
     after
@@ -92,8 +89,8 @@ fn fill(s: State, xs: &[f64], refs: &mut [f64]) -> State {
 
 // 16,384 atoms in 32,768 cells; with one start fewer.
 fn most(s: State, refs: &mut [f64]) -> State {
-    let mut xs = rooms::most_floats();
-    let mut fewer = rooms::fewer();
+    let mut xs: [f64; 49152] = filled(0.0);
+    let mut fewer: [u32; 32768] = filled(MARK);
     floats::spread(&mut xs);
     let after = fill(s, &xs, refs);
     build_cube(after, &xs, refs, &mut fewer);
@@ -102,13 +99,13 @@ fn most(s: State, refs: &mut [f64]) -> State {
 
 // One atom more.
 fn over(s: State, refs: &mut [f64]) {
-    let mut xs = rooms::over_floats();
+    let mut xs: [f64; 49155] = filled(0.0);
     floats::spread(&mut xs);
     fill(s, &xs, refs);
 }
 
 fn cubes(s: State) {
-    let mut refs = rooms::over_floats();
+    let mut refs: [f64; 49155] = filled(0.0);
     let after = most(s, &mut refs);
     over(after, &mut refs);
 }

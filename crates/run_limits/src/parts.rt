@@ -1,6 +1,6 @@
 // Calls that no line of the replay asks for: `of_bits`, a line of the bits of each float made; `argon`, its numbers; `listed` and `atoms_in`, for each part
 // the number and place of its `.._asked`, its length and a digest.
-use crate::{frames, show};
+use crate::{frames, pair_lists, show};
 use answer::Refusal;
 use neighbor::State;
 
@@ -30,28 +30,18 @@ fn argon() {
 }
 
 fn put_part(asked: Result<(), Refusal>, part: &[u32]) {
-    show::put_done(asked);
+    show::put_head(asked);
     show::put(part.len() as u64);
     show::end(frames::digest(part));
-}
-
-fn claiming(pairs: u32) -> State {
-    State {
-        cutoff: 1.0,
-        skin: 0.0,
-        pairs,
-        references: 0,
-        checks: 0,
-        fallback: false,
-        builds: 0,
-        built_in: None,
-    }
 }
 
 // Of three rows and half a row: two, all, one more than are there.
 fn listed(count: u32) {
     let pairs = [0u32, 1, 0, 2, 1, 2, 7];
-    let s = claiming(count);
+    let s = State {
+        pairs: count,
+        ..pair_lists::list(1.0, 0.0)
+    };
     put_part(
         neighbor::listed_asked(s, &pairs),
         neighbor::listed(s, &pairs),

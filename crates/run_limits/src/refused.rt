@@ -1,12 +1,13 @@
 // 16,385 atoms of each other call that takes atoms. A line a call: number, place, and a digest of the forces, or velocities, that were lent.
-use crate::{floats, rooms, show, speeds};
+use crate::{floats, pair_lists, show, speeds};
 use answer::Refusal;
 use cell::Vec3;
-use evaluate::Setting;
-use neighbor::State;
-use potentials::Bond;
+use evaluate::{Molecule, Setting};
 use potentials::coulomb::Coulomb;
-use potentials_pair::{Lj, Mixing};
+use potentials::{Bond, BondRows};
+use potentials_angle::AngleRows;
+use potentials_pair::{Lj, Mixing, SpeciesTables};
+use replay_words::filled;
 use virial::Sum;
 
 fn put_refused(r: Result<Sum, Refusal>, forces: &[f64]) {
@@ -49,8 +50,7 @@ fn add_pair_force(forces: &mut [f64]) {
 
 fn pressure_tensor(velocities: &[f64], masses: &[f64]) {
     let none = [[0.0; 3]; 3];
-    let r = virial::pressure_tensor(speeds::ones(), 1.0, none, velocities, masses);
-    show::put_done(r.and(Ok(())));
+    show::put_head(virial::pressure_tensor(speeds::ones(), 1.0, none, velocities, masses));
     show::end(floats::digest(velocities));
 }
 
@@ -68,13 +68,30 @@ fn bond() -> Bond {
     Bond { k: 1.0, r0: 1.0 }
 }
 
+fn no_tables() -> SpeciesTables<'static> {
+    SpeciesTables {
+        own_ids: &[],
+        own_params: &[],
+        ids: &[],
+        params: &[],
+    }
+}
+
+fn no_bonds() -> BondRows<'static> {
+    BondRows {
+        ends: &[],
+        lengths: &[],
+        ks: &[],
+    }
+}
+
 fn lj_pairs(species: &[u32], xs: &[f64], forces: &mut [f64]) {
-    let r = potentials_calls::lj_pairs(lj(), None, &[], &[], &[], &[], species, xs, &[], forces);
+    let r = potentials_calls::lj_pairs(lj(), None, &no_tables(), species, xs, &[], forces);
     put_refused(r, forces);
 }
 
 fn lj_all(species: &[u32], xs: &[f64], forces: &mut [f64]) {
-    let r = potentials_calls::lj_all(lj(), None, &[], &[], &[], &[], species, xs, forces);
+    let r = potentials_calls::lj_all(lj(), None, &no_tables(), species, xs, forces);
     put_refused(r, forces);
 }
 
@@ -89,59 +106,40 @@ fn coulomb_all(charges: &[f64], xs: &[f64], forces: &mut [f64]) {
 }
 
 fn bonds_all(xs: &[f64], forces: &mut [f64]) {
-    let r = potentials_calls::bonds_all(bond(), None, &[], &[], &[], xs, forces);
+    let r = potentials_calls::bonds_all(bond(), None, &no_bonds(), xs, forces);
     put_refused(r, forces);
 }
 
 fn setting() -> Setting {
-    let lj = Some(lj());
-    let coulomb = Some(Coulomb { cutoff: 1.0 });
-    let bond = Some(bond());
-    let angle = None;
-    let units = speeds::ones();
-    let cell = None;
     Setting {
-        lj,
-        coulomb,
-        bond,
-        angle,
-        units,
-        cell,
+        lj: Some(lj()),
+        coulomb: Some(Coulomb { cutoff: 1.0 }),
+        bond: Some(bond()),
+        angle: None,
+        units: speeds::ones(),
+        cell: None,
     }
 }
 
-fn list() -> State {
-    State {
-        cutoff: 1.0,
-        skin: 0.5,
-        pairs: 0,
-        references: 0,
-        checks: 0,
-        fallback: false,
-        builds: 0,
-        built_in: None,
-    }
-}
-
-fn evaluated(species: &[u32], charges: &[f64], xs: &[f64], forces: &mut [f64]) {
+fn evaluated<'a>(species: &'a [u32], charges: &'a [f64], xs: &[f64], forces: &mut [f64]) {
     let mut pairs = [0u32; 2];
-    let mut refs = rooms::over_floats();
+    let mut refs: [f64; 49155] = filled(0.0);
     let mut starts = [0u32; 2];
     let mut items = [0u32; 16385];
-    let e = evaluate::evaluate(
-        setting(),
-        list(),
-        &[],
-        &[],
-        &[],
-        &[],
+    let molecule = Molecule {
+        tables: no_tables(),
         species,
         charges,
-        &[],
-        &[],
-        &[],
-        &[],
-        &[],
+        bonds: no_bonds(),
+        angles: AngleRows {
+            corners: &[],
+            per_angle: &[],
+        },
+    };
+    let e = evaluate::evaluate(
+        setting(),
+        pair_lists::list(1.0, 0.5),
+        &molecule,
         xs,
         &[],
         &mut pairs,
@@ -150,13 +148,12 @@ fn evaluated(species: &[u32], charges: &[f64], xs: &[f64], forces: &mut [f64]) {
         &mut items,
         forces,
     );
-    let done = e.done;
-    show::put_done(done);
+    show::put_head(e.done);
     show::end(floats::digest(forces));
 }
 
 fn sums(xs: &[f64], ones: &[f64]) {
-    let mut forces = rooms::over_halves();
+    let mut forces: [f64; 49155] = filled(0.5);
     zeros(&mut forces);
     merge(xs, &mut forces);
     add_pair_force(&mut forces);
@@ -164,7 +161,7 @@ fn sums(xs: &[f64], ones: &[f64]) {
 }
 
 fn terms(species: &[u32], ones: &[f64], xs: &[f64]) {
-    let mut forces = rooms::over_halves();
+    let mut forces: [f64; 49155] = filled(0.5);
     lj_pairs(species, xs, &mut forces);
     coulomb_pairs(ones, xs, &mut forces);
     bonds_all(xs, &mut forces);
@@ -173,14 +170,14 @@ fn terms(species: &[u32], ones: &[f64], xs: &[f64]) {
 }
 
 fn whole(species: &[u32], ones: &[f64], xs: &[f64]) {
-    let mut forces = rooms::over_halves();
+    let mut forces: [f64; 49155] = filled(0.5);
     evaluated(species, ones, xs, &mut forces);
 }
 
 pub(crate) fn all() {
     let species = [1u32; 16385];
     let ones = [1.0; 16385];
-    let xs = rooms::over_quarters();
+    let xs: [f64; 49155] = filled(0.25);
     sums(&xs, &ones);
     terms(&species, &ones, &xs);
     whole(&species, &ones, &xs);

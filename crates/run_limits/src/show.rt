@@ -1,4 +1,5 @@
 // A line's words on standard output, a blank after each. (No contract speaks of what is written: the program's output is compared.)
+// run_limits and run_melts have these few functions each: a public one, for both, would have nothing to ensure.
 
 // The number of standard output.
 const STDOUT: i32 = 1;
@@ -11,19 +12,21 @@ pub(crate) fn put(n: u64) {
 }
 
 pub(crate) fn put_flag(b: bool) {
-    put(if b { 1 } else { 0 });
+    put(u64::from(b));
 }
 
-// Refusal and place, 0 0 where answered.
-pub(crate) fn put_done(done: Result<(), Refusal>) {
-    match done {
-        Ok(()) => {
+// Refusal and place, 0 0 where answered. The value comes back where there is one.
+pub(crate) fn put_head<T>(answer: Result<T, Refusal>) -> Option<T> {
+    match answer {
+        Ok(value) => {
             put(0);
             put(0);
+            Some(value)
         }
         Err(why) => {
             put(why.number());
             put(why.place());
+            None
         }
     }
 }

@@ -1,40 +1,26 @@
 // Builds of the float frame at 1,000, 4,000 and 16,000 atoms, in a cubic cell, a tilted one and none, with and without exclusions, and one without a grid.
 // A line a build: refusal and place, the pairs, the checks, the fallback, and a digest of the pairs in their order. `tools/digests.rs` is the same over the Rust.
 use crate::liquid::{Form, Table};
-use crate::{liquid, rooms, show};
+use crate::{liquid, show, terms};
 use cell::Lattice;
-use neighbor::{State, Updated};
+use neighbor::Updated;
+use replay_words::filled;
 
 fn put_built(u: Updated, pairs: &[u32]) {
-    let done = u.done;
-    let s = u.state;
-    show::put_done(done);
-    show::put(s.pairs as u64);
-    show::put(s.checks as u64);
-    show::put_flag(s.fallback);
-    show::end(liquid::digest(neighbor::listed(s, pairs)));
-}
-
-fn list(cutoff: f64) -> State {
-    State {
-        cutoff: cutoff,
-        skin: 0.5,
-        pairs: 0,
-        references: 0,
-        checks: 0,
-        fallback: false,
-        builds: 0,
-        built_in: None,
-    }
+    show::put_done(u.done);
+    show::put(u64::from(u.state.pairs));
+    show::put(u64::from(u.state.checks));
+    show::put_flag(u.state.fallback);
+    show::end(liquid::digest(neighbor::listed(u.state, pairs)));
 }
 
 fn build(cell: Option<Lattice>, cutoff: f64, xs: &[f64], table: &[u32]) {
-    let mut pairs = rooms::pairs();
-    let mut refs = rooms::floats();
-    let mut starts = rooms::starts();
+    let mut pairs: [u32; 600000] = filled(0);
+    let mut refs: [f64; 49155] = filled(0.0);
+    let mut starts: [u32; 32769] = filled(0);
     let mut items = [0u32; 16000];
     let u = neighbor::build(
-        list(cutoff),
+        terms::list(cutoff, 0.5),
         cell,
         xs,
         table,

@@ -17,7 +17,7 @@ pub(crate) enum Form {
 }
 
 // A number of chance, and the last three of a list: `c` is the last.
-#[derive(Drop)]
+#[derive(Clone, Copy)]
 struct Row {
     seed: u64,
     a: f64,
@@ -27,7 +27,7 @@ struct Row {
 
 // Below 2^52, a whole number's low bits beside 2^52 are itself: so the square is taken in floats, where nothing can wrap.
 fn square(h: u32) -> u64 {
-    let x = h as f64;
+    let x = f64::from(h);
     float::to_bits(4503599627370496.0 + x * x) % 4503599627370496
 }
 
@@ -42,7 +42,7 @@ fn scattered(low: f64, width: f64, k: usize) -> f64 {
 }
 
 fn site(last: u8, k: usize) -> u32 {
-    let side = last as usize + 1;
+    let side = usize::from(last) + 1;
     let a = k / 3;
     if k % 3 == 0 {
         return (a % side % 256) as u32;
@@ -85,17 +85,11 @@ fn number(form: Form, row: Row, k: usize, x: f64) -> f64 {
     }
 }
 
-fn drawn_anew(row: Row) -> Row {
-    Row {
-        seed: row.seed % 2147483647 * 48271 % 2147483647,
-        a: row.a,
-        b: row.b,
-        c: row.c,
-    }
-}
-
 fn next(form: Form, before: Row, k: usize, x: f64) -> Row {
-    let row = drawn_anew(before);
+    let row = Row {
+        seed: before.seed % 2147483647 * 48271 % 2147483647,
+        ..before
+    };
     Row {
         seed: row.seed,
         a: row.b,
@@ -179,15 +173,11 @@ pub(crate) fn boxed(is_cubic: bool, edge: f64) -> Option<Lattice> {
 }
 
 fn step(h: u64, x: u32) -> u64 {
-    (h % 4294967291 * 1000003 + x as u64) % 4294967291
+    (h % 4294967291 * 1000003 + u64::from(x)) % 4294967291
 }
 
 pub(crate) fn digest(xs: &[u32]) -> u64 {
-    let mut h: u64 = 7;
-    for x in xs {
-        h = step(h, *x);
-    }
-    h
+    xs.iter().fold(7, |h, x| step(h, *x))
 }
 
 fn step_float(h: u64, x: f64) -> u64 {
@@ -196,9 +186,5 @@ fn step_float(h: u64, x: f64) -> u64 {
 }
 
 pub(crate) fn digest_floats(xs: &[f64]) -> u64 {
-    let mut h: u64 = 7;
-    for x in xs {
-        h = step_float(h, *x);
-    }
-    h
+    xs.iter().fold(7, |h, x| step_float(h, *x))
 }

@@ -4,7 +4,7 @@
 
 mod builds;
 mod liquid;
-mod rooms;
+mod parts;
 mod runs;
 mod show;
 mod terms;

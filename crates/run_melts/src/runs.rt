@@ -9,15 +9,20 @@
 // forces; and one at each stop: the step, refusal and place, the builds, a digest of the drifted positions. Then a step of 16,384 atoms, and a step and its
 // finish refused for one more: refusal and place, stopped, the potential's bits. `tools/steps.rs` is the same over the Rust, which never stops.
 //
-// All by one loop, over arrays of its own, with the call that the replay answers by: what comes back stands in words, as in an answer of the replay.
+// All by one loop, over arrays of its own, with the call that the replay answers by.
 use crate::liquid::Form;
-use crate::{liquid, rooms, show, terms};
+use crate::parts::{front, front_mut};
+use crate::{liquid, show, terms};
 use answer::Refusal;
+use evaluate::Evaluated;
 use neighbor::State;
 use replay_melts::works;
-use replay_melts::works::{Given, Work};
+use replay_melts::works::{Came, Given, Work};
+use replay_words::filled;
+use verlet_step::Stepped;
 
-// What a run does: evaluations; a first evaluation and steps; a step and its finish, refused.
+// What a run does: evaluations; a first evaluation and steps; a step and its finish, refused. One loop does all three,
+// since its arrays take some four million bytes of the stack.
 #[derive(Clone, Copy)]
 pub(crate) enum Kind {
     Evaluations,
@@ -51,11 +56,15 @@ struct Reached {
     goes: bool,
 }
 
+// The list of every run before its first build.
+fn list() -> State {
+    terms::list(6.0, 1.0)
+}
+
 fn begun(room: usize) -> Reached {
-    let state = terms::list();
     Reached {
         turn: 0,
-        state,
+        state: list(),
         potential: 0.5,
         stopped: false,
         room,
@@ -89,8 +98,7 @@ fn is_placed(kind: Kind, k: usize, stopped: bool) -> bool {
 }
 
 fn place(run: Run, r: Reached, xs: &mut [f64]) {
-    let kind = run.kind;
-    if is_placed(kind, r.turn, r.stopped) {
+    if is_placed(run.kind, r.turn, r.stopped) {
         liquid::fill(form(run.last, r.turn), xs);
     }
 }
@@ -100,18 +108,18 @@ fn work_of(kind: Kind, k: usize, stopped: bool) -> Work {
         Kind::Evaluations => Work::Evaluate,
         Kind::Steps => {
             if stopped {
-                return Work::Finish;
+                return Work::Finish(terms::pace());
             }
             if k == 0 {
                 return Work::Evaluate;
             }
-            Work::Step
+            Work::Step(terms::pace())
         }
         Kind::Over => {
             if k == 0 {
-                return Work::Step;
+                return Work::Step(terms::pace());
             }
-            Work::Finish
+            Work::Finish(terms::pace())
         }
     }
 }
@@ -121,7 +129,7 @@ fn state_before(kind: Kind, k: usize, s: State) -> State {
     match kind {
         Kind::Evaluations => {
             if k % 3 == 0 {
-                return terms::list();
+                return list();
             }
             s
         }
@@ -137,91 +145,64 @@ fn is_cubic(kind: Kind, shift: bool, k: usize) -> bool {
     }
 }
 
-fn given(run: Run, r: Reached) -> Given {
-    let kind = run.kind;
-    let s = r.state;
-    let k = r.turn;
+fn given<'a>(run: Run, r: Reached, us: &'a [u32; 38231], fs: &'a [f64; 33274]) -> Given<'a> {
     terms::given(
-        work_of(kind, k, r.stopped),
-        is_cubic(kind, run.shift, k),
-        run.edge,
-        state_before(kind, k, s),
+        work_of(run.kind, r.turn, r.stopped),
+        terms::setting(is_cubic(run.kind, run.shift, r.turn), run.edge),
+        state_before(run.kind, r.turn, r.state),
+        r.potential,
         run.atoms,
         run.bonds,
+        us,
+        fs,
     )
-}
-
-fn is_evaluation(work: Work) -> bool {
-    match work {
-        Work::Evaluate => true,
-        _ => false,
-    }
-}
-
-// The words of an answer before the state: refusal and place, stopped but of an evaluation, rebuilt.
-fn state_at(evaluation: bool) -> usize {
-    if evaluation {
-        return 3;
-    }
-    4
-}
-
-// Whether a turn stopped: an evaluation does not.
-fn is_stopped(evaluation: bool, ws: &[u64]) -> bool {
-    if evaluation {
-        return false;
-    }
-    show::word_at(ws, 2) == 1
 }
 
 fn after(k: usize) -> usize {
     if k < 1000000 { k + 1 } else { k }
 }
 
-// A stopped turn is finished with all the room.
-fn after_turn(run: Run, r: Reached, told: &[u64; 8208]) -> Reached {
-    let ws = &told[..];
-    let kind = run.kind;
-    let evaluation = is_evaluation(work_of(kind, r.turn, r.stopped));
-    let s = replay_lists::records::take_state_and(true, ws, state_at(evaluation));
-    let potential = replay_words::take_float(ws, s.next);
-    let state = s.value;
-    if is_stopped(evaluation, ws) {
-        return Reached {
-            turn: r.turn,
-            state,
-            potential: potential.value,
-            stopped: true,
-            room: 600000,
-            goes: true,
-        };
-    }
+// A turn that is over, and what it left.
+fn advanced(run: Run, r: Reached, state: State, potential: f64) -> Reached {
     let turn = after(r.turn);
     Reached {
         turn,
         state,
-        potential: potential.value,
+        potential,
         stopped: false,
         room: r.room,
         goes: turn < run.turns,
     }
 }
 
-// Refusal and place.
-fn put_done(ws: &[u64]) {
-    show::put(show::word_at(ws, 0));
-    show::put(show::word_at(ws, 1));
+// A stopped turn is finished with all the room. No run settles.
+fn after_turn(run: Run, r: Reached, came: &Came) -> Reached {
+    match came {
+        Came::Evaluated(e) => advanced(run, r, e.state, e.sum.energy),
+        Came::Stepped(s) => {
+            if s.stopped {
+                return Reached {
+                    turn: r.turn,
+                    state: s.state,
+                    potential: s.potential,
+                    stopped: true,
+                    room: 600000,
+                    goes: true,
+                };
+            }
+            advanced(run, r, s.state, s.potential)
+        }
+        Came::Settled(_) => r,
+    }
 }
 
-fn put_evaluated(ws: &[u64], forces: &[f64]) {
-    let r = replay_lists::records::take_state_and(true, ws, 3);
-    let s = r.value;
-    put_done(ws);
-    show::put(show::word_at(ws, 2));
-    show::put(s.pairs as u64);
-    show::put(s.checks as u64);
-    show::put_flag(s.fallback);
-    show::put_ten(rooms::rest(ws, r.next));
+fn put_evaluated(e: &Evaluated, forces: &[f64]) {
+    show::put_done(e.done);
+    show::put_flag(e.rebuilt);
+    show::put(u64::from(e.state.pairs));
+    show::put(u64::from(e.state.checks));
+    show::put_flag(e.state.fallback);
+    show::put_sum(e.sum);
     show::end(liquid::digest_floats(forces));
 }
 
@@ -236,16 +217,23 @@ fn put_number(n: Result<f64, Refusal>) {
     }
 }
 
-fn put_stepped(k: usize, s: State, potential: f64, ws: &[u64]) {
+fn put_step(
+    run: Run,
+    k: usize,
+    done: Result<(), Refusal>,
+    s: State,
+    potential: f64,
+    fs: &[f64; 33274],
+    xs: &[f64],
+    vs: &[f64],
+    forces: &[f64],
+) {
     show::put(k as u64);
-    put_done(ws);
-    show::put(s.builds as u64);
-    show::put(s.pairs as u64);
+    show::put_done(done);
+    show::put(u64::from(s.builds));
+    show::put(u64::from(s.pairs));
     show::put_float(potential);
-}
-
-fn put_atoms(dof: f64, masses: &[f64], xs: &[f64], vs: &[f64], forces: &[f64]) {
-    put_number(verlet::temperature(terms::units(), dof, vs, masses));
+    put_number(verlet::temperature(terms::units(), run.dof, vs, terms::masses(fs, run.atoms)));
     show::put(liquid::digest_floats(xs));
     show::put(liquid::digest_floats(vs));
     show::end(liquid::digest_floats(forces));
@@ -255,92 +243,87 @@ fn is_shown(k: usize, turns: usize) -> bool {
     (k == 0) | (k == 1) | (k == 10) | (k == 100) | (after(k) == turns)
 }
 
-fn put_stop(k: usize, s: State, ws: &[u64], xs: &[f64]) {
+fn put_stop(k: usize, s: &Stepped, xs: &[f64]) {
     show::put(k as u64);
-    put_done(ws);
-    show::put(s.builds as u64);
+    show::put_done(s.done);
+    show::put(u64::from(s.state.builds));
     show::end(liquid::digest_floats(xs));
 }
 
-fn put_refused(potential: f64, ws: &[u64]) {
-    put_done(ws);
-    show::put(show::word_at(ws, 2));
-    show::end(float::to_bits(potential));
+fn put_refused(s: &Stepped) {
+    show::put_done(s.done);
+    show::put_flag(s.stopped);
+    show::end(float::to_bits(s.potential));
 }
 
 // A turn's line, where it has one.
 fn put_turn(
     run: Run,
     k: usize,
-    r: Reached,
-    told: &[u64; 8208],
+    came: &Came,
     fs: &[f64; 33274],
-    xs: &[f64; 49155],
-    vs: &[f64; 49155],
-    forces: &[f64; 49155],
+    xs: &[f64],
+    vs: &[f64],
+    forces: &[f64],
 ) {
-    let kind = run.kind;
-    let s = r.state;
-    let n = run.places;
-    match kind {
-        Kind::Evaluations => put_evaluated(told, rooms::part(forces, n)),
-        Kind::Over => put_refused(r.potential, told),
-        Kind::Steps => {
-            if r.stopped {
-                put_stop(k, s, told, rooms::part(xs, n));
-                return;
+    match came {
+        Came::Evaluated(e) => match run.kind {
+            Kind::Evaluations => put_evaluated(e, forces),
+            _ => put_step(run, k, e.done, e.state, e.sum.energy, fs, xs, vs, forces),
+        },
+        Came::Stepped(s) => match run.kind {
+            Kind::Over => put_refused(s),
+            _ => {
+                if s.stopped {
+                    put_stop(k, s, xs);
+                } else if is_shown(k, run.turns) {
+                    put_step(run, k, s.done, s.state, s.potential, fs, xs, vs, forces);
+                }
             }
-            if is_shown(k, run.turns) {
-                put_stepped(k, s, r.potential, told);
-                put_atoms(
-                    run.dof,
-                    terms::masses(fs, run.atoms),
-                    rooms::part(xs, n),
-                    rooms::part(vs, n),
-                    rooms::part(forces, n),
-                );
-            }
-        }
+        },
+        Came::Settled(_) => {}
     }
 }
 
-// Velocities near 300 K. The arrays are lent whole, to functions that cut them, so that the loop counts no part of one.
+// Velocities near 300 K.
 fn ran(run: Run) {
     let us = terms::wholes();
     let fs = terms::reals();
-    let mut xs = rooms::floats();
+    let mut xs: [f64; 49155] = filled(0.0);
     let mut vs = terms::speeds();
-    let mut forces = rooms::floats();
-    let mut pairs = rooms::pairs();
-    let mut refs = rooms::floats();
-    let mut starts = rooms::bins();
-    let mut items = rooms::items();
-    let mut out = rooms::words();
+    let mut forces: [f64; 49155] = filled(0.0);
+    let mut pairs: [u32; 600000] = filled(0);
+    let mut refs: [f64; 49155] = filled(0.0);
+    let mut starts: [u32; 4096] = filled(0);
+    let mut items: [u32; 16385] = filled(0);
     let n = run.places;
     let mut r = begun(run.few);
-    let mut i: usize = 0;
-    while i < 1000000 && r.goes {
-        i += 1;
+    for _ in 0..1000000 {
+        if !r.goes {
+            break;
+        }
         let k = r.turn;
-        place(run, r, rooms::front(&mut xs, n));
-        let mut at = 0;
-        works::worked(
-            given(run, r),
-            r.potential,
-            terms::all_wholes(&us),
-            terms::all_reals(&fs),
-            rooms::front(&mut xs, n),
-            rooms::front(&mut vs, n),
-            rooms::front_u32(&mut pairs, r.room),
+        place(run, r, front_mut(&mut xs, n));
+        let came = works::worked(
+            given(run, r, &us, &fs),
+            front_mut(&mut xs, n),
+            front_mut(&mut vs, n),
+            front_mut(&mut pairs, r.room),
             &mut refs,
             &mut starts,
             &mut items,
-            rooms::front(&mut forces, n),
-            &mut at,
-            &mut out,
+            front_mut(&mut forces, n),
         );
-        r = after_turn(run, r, &out);
-        put_turn(run, k, r, &out, &fs, &xs, &vs, &forces);
+        r = after_turn(run, r, &came);
+        put_turn(
+            run,
+            k,
+            &came,
+            &fs,
+            front(&xs, n),
+            front(&vs, n),
+            front(&forces, n),
+        );
     }
 }
 

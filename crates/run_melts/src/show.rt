@@ -1,9 +1,11 @@
 // A line's words on standard output, a blank after each. (No contract speaks of what is written: the programs' output is compared.)
+// run_limits and run_melts have these few functions each: a public one, for both, would have nothing to ensure.
 
 // The number of standard output.
 const STDOUT: i32 = 1;
 
 use answer::Refusal;
+use virial::Sum;
 
 pub(crate) fn put(n: u64) {
     io::print_decimal(STDOUT, n);
@@ -11,7 +13,7 @@ pub(crate) fn put(n: u64) {
 }
 
 pub(crate) fn put_flag(b: bool) {
-    put(if b { 1 } else { 0 });
+    put(u64::from(b));
 }
 
 // A float's bits, 16 hexadecimal digits.
@@ -20,30 +22,13 @@ pub(crate) fn put_float(x: f64) {
     io::write_all(STDOUT, b" ");
 }
 
-pub(crate) fn word_at(ws: &[u64], k: usize) -> u64 {
-    if k < ws.len() {
-        return ws[k];
-    }
-    0
-}
-
-fn put_bits(ws: &[u64], k: usize) {
-    io::print_hex(STDOUT, word_at(ws, k), 16);
-    io::write_all(STDOUT, b" ");
-}
-
 // The bits of a sum: its energy and the virial's nine.
-pub(crate) fn put_ten(ws: &[u64]) {
-    put_bits(ws, 0);
-    put_bits(ws, 1);
-    put_bits(ws, 2);
-    put_bits(ws, 3);
-    put_bits(ws, 4);
-    put_bits(ws, 5);
-    put_bits(ws, 6);
-    put_bits(ws, 7);
-    put_bits(ws, 8);
-    put_bits(ws, 9);
+pub(crate) fn put_sum(s: Sum) {
+    for x in [
+        s.energy, s.xx, s.xy, s.xz, s.yx, s.yy, s.yz, s.zx, s.zy, s.zz,
+    ] {
+        put_float(x);
+    }
 }
 
 // Refusal and place, 0 0 where answered.

@@ -1,16 +1,15 @@
 // The numbers of the terms and of the list.
+use crate::liquid;
 use crate::liquid::{Form, Table};
-use crate::{liquid, rooms};
-use evaluate::Setting;
-use fire::FireOptions;
+use crate::parts::{front, part_mut};
+use evaluate::{Molecule, Setting};
 use neighbor::State;
-use potentials::Bond;
 use potentials::coulomb::Coulomb;
-use potentials_pair::{Lj, Mixing};
-use replay_melts::masks::Parts;
-use replay_melts::records::SettingsArg;
-use replay_melts::works::{Front, Given, Work};
-use replay_words::tables;
+use potentials::{Bond, BondRows};
+use potentials_angle::AngleRows;
+use potentials_pair::{Lj, Mixing, SpeciesTables};
+use replay_melts::works::{Given, Work};
+use replay_words::filled;
 use verlet::Thermostat;
 use verlet_step::Pace;
 use virial::Units;
@@ -46,39 +45,29 @@ pub(crate) fn bond() -> Option<Bond> {
 
 // The cubic cell goes with the shift, the tilted one with none.
 pub(crate) fn setting(shift: bool, edge: f64) -> Setting {
-    let lj = lj(shift);
-    let coulomb = coulomb();
-    let bond = bond();
-    let angle = None;
-    let units = units();
-    let cell = liquid::boxed(shift, edge);
     Setting {
-        lj,
-        coulomb,
-        bond,
-        angle,
-        units,
-        cell,
+        lj: lj(shift),
+        coulomb: coulomb(),
+        bond: bond(),
+        angle: None,
+        units: units(),
+        cell: liquid::boxed(shift, edge),
     }
 }
 
 // The u32s of every run: two ids (of the three species the second is not there), the species of 16,385 atoms, bonds.
 pub(crate) fn wholes() -> [u32; 38231] {
-    let mut us = blank_wholes();
+    let mut us = filled(0);
     us[0] = 1;
     us[1] = 3;
-    liquid::tabulate(Table::Species, tables::room_u32(&mut us, cut(2, 16385)));
-    liquid::tabulate(Table::Bonds, tables::room_u32(&mut us, cut(16387, 21844)));
+    liquid::tabulate(Table::Species, part_mut(&mut us, 2, 16387));
+    liquid::tabulate(Table::Bonds, part_mut(&mut us, 16387, 38231));
     us
-}
-
-fn blank_wholes() -> [u32; 38231] {
-    [0; 38231]
 }
 
 // The floats: the two ids' parameters, the first 300 bonds' own lengths and the first 200's own strengths, charges and masses of 16,385 atoms.
 pub(crate) fn reals() -> [f64; 33274] {
-    let mut fs = blank_reals();
+    let mut fs = filled(0.0);
     fs[0] = 0.01;
     fs[1] = 3.0;
     fs[2] = 0.004;
@@ -88,14 +77,14 @@ pub(crate) fn reals() -> [f64; 33274] {
             low: 3.0,
             width: 1.0,
         },
-        tables::room(&mut fs, cut(4, 300)),
+        part_mut(&mut fs, 4, 304),
     );
     liquid::fill(
         Form::Spread {
             low: 1.0,
             width: 0.5,
         },
-        tables::room(&mut fs, cut(304, 200)),
+        part_mut(&mut fs, 304, 504),
     );
     liquid::fill(
         Form::Thirds {
@@ -103,7 +92,7 @@ pub(crate) fn reals() -> [f64; 33274] {
             b: 0.25,
             c: 0.25,
         },
-        tables::room(&mut fs, cut(504, 16385)),
+        part_mut(&mut fs, 504, 16889),
     );
     liquid::fill(
         Form::Thirds {
@@ -111,38 +100,14 @@ pub(crate) fn reals() -> [f64; 33274] {
             b: 12.0,
             c: 14.0,
         },
-        tables::room(&mut fs, cut(16889, 16385)),
+        part_mut(&mut fs, 16889, 33274),
     );
     fs
 }
 
-fn blank_reals() -> [f64; 33274] {
-    [0.0; 33274]
-}
-
-fn cut(from: usize, n: usize) -> replay_words::Table {
-    if n < 50000 {
-        if from < 50000 {
-            return replay_words::Table {
-                from,
-                next: from + n,
-            };
-        }
-    }
-    replay_words::Table { from, next: from }
-}
-
-pub(crate) fn all_wholes(us: &[u32; 38231]) -> &[u32] {
-    &us[..]
-}
-
-pub(crate) fn all_reals(fs: &[f64; 33274]) -> &[f64] {
-    &fs[..]
-}
-
 // Near 300 K.
 pub(crate) fn speeds() -> [f64; 49155] {
-    let mut vs = rooms::floats();
+    let mut vs = filled(0.0);
     liquid::fill(
         Form::Spread {
             low: -0.0078125,
@@ -153,11 +118,11 @@ pub(crate) fn speeds() -> [f64; 49155] {
     vs
 }
 
-pub(crate) fn masses(fs: &[f64], atoms: usize) -> &[f64] {
-    tables::part(fs, cut(16889, atoms))
+pub(crate) fn masses(fs: &[f64; 33274], atoms: usize) -> &[f64] {
+    front(&fs[16889..], atoms)
 }
 
-fn pace() -> Pace {
+pub(crate) fn pace() -> Pace {
     let thermostat = Some(Thermostat {
         target_k: 300.0,
         tau_fs: 100.0,
@@ -168,79 +133,51 @@ fn pace() -> Pace {
     }
 }
 
-fn front() -> Front {
-    Front {
-        options: FireOptions {
-            max_iters: 0,
-            force_tol: 0.0,
-            dt: 0.0,
-            dt_max: 0.0,
-        },
-        pace: pace(),
-        next: 0,
-    }
-}
-
-fn settings(cubic: bool, edge: f64, state: State) -> SettingsArg {
-    let setting = setting(cubic, edge);
-    SettingsArg {
-        setting,
-        state,
-        parts: Parts {
-            angles: false,
-            cell: true,
-            own: false,
-            rule: false,
-        },
-        next: 0,
-    }
-}
-
-// A call's arguments. The cubic cell goes with the shift, the tilted one with none. The bonds are the exclusions.
-pub(crate) fn given(
+// A call's arguments. The bonds are the exclusions.
+pub(crate) fn given<'a>(
     work: Work,
-    cubic: bool,
-    edge: f64,
+    setting: Setting,
     state: State,
+    potential: f64,
     atoms: usize,
     bonded: usize,
-) -> Given {
-    let front = front();
-    let settings = settings(cubic, edge, state);
-    let none = cut(0, 0);
-    let bonds = cut(16387, bonded);
-    let ids = cut(0, 2);
-    let params = cut(0, 4);
-    let species = cut(2, atoms);
-    let charges = cut(504, atoms);
-    let lengths = cut(4, 300);
-    let ks = cut(304, 200);
-    let masses = cut(16889, atoms);
+    us: &'a [u32; 38231],
+    fs: &'a [f64; 33274],
+) -> Given<'a> {
+    let bonds = front(&us[16387..], bonded);
     Given {
         work,
-        front,
-        settings,
-        own_ids: none,
-        own_params: none,
-        ids,
-        params,
-        species,
-        charges,
-        bonds,
-        lengths,
-        ks,
-        angles: none,
-        per_angle: none,
-        masses,
+        setting,
+        state,
+        potential,
+        molecule: Molecule {
+            tables: SpeciesTables {
+                own_ids: &[],
+                own_params: &[],
+                ids: &us[..2],
+                params: &fs[..4],
+            },
+            species: front(&us[2..16387], atoms),
+            charges: front(&fs[504..16889], atoms),
+            bonds: BondRows {
+                ends: bonds,
+                lengths: &fs[4..304],
+                ks: &fs[304..504],
+            },
+            angles: AngleRows {
+                corners: &[],
+                per_angle: &[],
+            },
+        },
+        masses: masses(fs, atoms),
         exclusions: bonds,
-        next: 0,
     }
 }
 
-pub(crate) fn list() -> State {
+pub(crate) fn list(cutoff: f64, skin: f64) -> State {
     State {
-        cutoff: 6.0,
-        skin: 1.0,
+        cutoff,
+        skin,
         pairs: 0,
         references: 0,
         checks: 0,

@@ -1,4 +1,5 @@
 -- What each arm of `keep` shows is what the line does to the meaning. Assumes nothing.
+use Rattle.std.specs.Prelude.{None, Some}
 use Prim.Native.Nat.{ℕ}
 use mathlib.Core.Path.{◌≡◌}
 use mathlib.Core.Bool.{true, false, cond}
@@ -12,7 +13,7 @@ use Rattle.sheet_lines.specs.declared.Line.{Line}
 use Rattle.sheet_lines.specs.declared.Line.TheVariants.{Header, Atom, Exclusion, Malformed, End}
 use Rattle.sheet.specs.Meaning.{Meaning, acted, act_of, headed, seated, excluding, fresh, placed}
 use Rattle.sheet.specs.Reading.{refusal_for, onward}
-use Rattle.sheet.specs.Desk.{meaning_for}
+use Rattle.sheet.specs.Desk.{header_in, meaning_for}
 use Rattle.sheet.specs.declared.desk.Desk.{Desk}
 
 -- what the line, the n-th, comes to on the desk
@@ -20,11 +21,11 @@ abbrev pub stepped : Line → ℕ → Desk → List ℕ → List ℕ → List �
 stepped l n d co se ta = onward (acted (act_of l) (meaning_for d co se ta)) (refusal_for l n) (λ m. answered m)
 
 module _ (l : Line) (n : ℕ) (d : Desk) (co se ta : List ℕ) where
-  pub header_again : (h : Head) → l ≡ Header h → d.has ≡ true → refused_by (refusal_for (Header h) n) ≡ stepped l n d co se ta
+  pub header_again : (h k : Head) → l ≡ Header h → d.head ≡ Some k → refused_by (refusal_for (Header h) n) ≡ stepped l n d co se ta
   unfolding headed
-  header_again h e t = rw e (simp t)
+  header_again h k e t = rw e (simp t)
 
-  pub header_kept : (h : Head) → l ≡ Header h → d.has ≡ false → answered (record { header = some h; atoms = record { coords = co; marks = se }; rows = take d.count (rows ta) }) ≡ stepped l n d co se ta
+  pub header_kept : (h : Head) → l ≡ Header h → d.head ≡ None → answered (record { header = some h; atoms = record { coords = co; marks = se }; rows = take d.count (rows ta) }) ≡ stepped l n d co se ta
   unfolding headed
   header_kept h e t = rw e (simp t)
 
@@ -41,7 +42,7 @@ module _ (l : Line) (n : ℕ) (d : Desk) (co se ta : List ℕ) where
     pub exclusion_over : none ≡ excluding a b (take d.count (rows ta)) → refused_by (refusal_for (Exclusion a b) n) ≡ stepped l n d co se ta
     exclusion_over t = rw (e, ← t)
 
-    pub exclusion_kept : (m : List (ℕ × ℕ)) → some m ≡ excluding a b (take d.count (rows ta)) → answered (record { header = cond d.has (some d.head) none; atoms = record { coords = co; marks = se }; rows = m }) ≡ stepped l n d co se ta
+    pub exclusion_kept : (m : List (ℕ × ℕ)) → some m ≡ excluding a b (take d.count (rows ta)) → answered (record { header = header_in d.head; atoms = record { coords = co; marks = se }; rows = m }) ≡ stepped l n d co se ta
     exclusion_kept m t = rw (e, ← t)
 
   pub malformed_line : l ≡ Malformed → refused_by (refusal_for Malformed n) ≡ stepped l n d co se ta

@@ -1,11 +1,10 @@
 -- Laws of the lines of any form in turn: one turn of a reader's loop, its ends, and how far a line goes. A form is its lines from a place on, each told in the
 -- first form. Assumes nothing.
-use Rattle.std.specs.Prelude.{Err, Ok, Result}
+use Rattle.std.specs.Prelude.{Err, None, Ok, Result}
 use Prim.Native.Nat.{ℕ, suc, ◌+◌, ◌-◌, ◌≤◌, ◌<◌}
 use mathlib.Core.Path.{◌≡◌, sym, ap, ◌∙◌}
-use mathlib.Core.Bool.{false}
 use mathlib.Core.Option.{Option, none, some}
-use mathlib.Core.List.{List, [], ◌∷◌}
+use mathlib.Core.List.{List, []}
 use native.Mathlib.Nat.{sub-zero}
 use native.Mathlib.Omega.{arith}
 use lib.ListN.{length}
@@ -18,7 +17,7 @@ use Rattle.sheet_lines.specs.declared.Line.{Line}
 use Rattle.sheet_lines.specs.declared.Line.TheVariants.{Header, Atom, Exclusion, Malformed, End}
 use Rattle.sheet.specs.Meaning.{Meaning, acted, act_of}
 use Rattle.sheet.specs.Reading.{refusal_for, onward, run}
-use Rattle.sheet.specs.Desk.{meaning_for, shown_kept, Fit, FitKept}
+use Rattle.sheet.specs.Desk.{meaning_for, shown_kept, Fit, FitKept, LineTold, LinesBy}
 use Rattle.sheet.specs.declared.desk.Desk.{Desk}
 
 -- ---- what one line came to, and the rest
@@ -48,57 +47,50 @@ unfolding is_table
 fit_start ta count h k = record { size = h; few = omega arith; table = rw k }
 
 -- ---- the loop: what is left from here on comes to what all came to from the start
-pub record Half (lines : ℕ → List ℕ → ℕ → List Line) (s co₀ se₀ co se ta : List ℕ) (d : Desk) (at n : ℕ) : Type 0 where
+pub record Half (told : ℕ → Line × ℕ → Type 0) (bytes : ℕ) (co₀ se₀ co se ta : List ℕ) (d : Desk) (at n : ℕ) : Type 0 where
   pub within : n ≤ at
   pub fit : Fit d.count ta
-  pub size : length co ≡ 3072
-  pub marked : length se ≡ 1024
-  pub same : run (lines (length s - n) s at) n (meaning_for d co se ta) ≡ run (lines (length s) s 0) 0 (start co₀ se₀)
+  pub same : (lines : ℕ → ℕ → List Line) → LinesBy told bytes lines → run (lines (bytes - n) at) n (meaning_for d co se ta) ≡ run (lines bytes 0) 0 (start co₀ se₀)
 
-module _ (lines : ℕ → List ℕ → ℕ → List Line) where
-  pub half_start : (s co se ta : List ℕ) (d : Desk) → length co ≡ 3072 → length se ≡ 1024 → length ta ≡ 2048 → (d.has ≡ false) × (d.count ≡ 0) → Half lines s co se co se ta d 0 0
-  half_start s co se ta d a b c h =
-      record { within = omega arith; fit = fit_start ta d.count c h.1; size = a; marked = b; same = rw (sub-zero (length s)) (simp (h.0, h.1)) }
+module _ (told : ℕ → Line × ℕ → Type 0) (bytes : ℕ) where
+  pub half_start : (co se ta : List ℕ) (d : Desk) → length ta ≡ 2048 → (d.head ≡ None) × (d.count ≡ 0) → Half told bytes co se co se ta d 0 0
+  half_start co se ta d c h = record { within = omega arith; fit = fit_start ta d.count c h.1; same = λ lines by. rw (sub-zero bytes) (simp (h.0, h.1)) }
 
-  pub half_end : (s co₀ se₀ co se ta : List ℕ) (d : Desk) (at n : ℕ) → Half lines s co₀ se₀ co se ta d at n → lines (length s - n) s at ≡ [] → answered (meaning_for d co se ta) ≡ run (lines (length s) s 0) 0 (start co₀ se₀)
-  half_end s co₀ se₀ co se ta d at n v e = sym (ap (λ (ls : List Line). run ls n (meaning_for d co se ta)) e) ∙ v.same
+  module _ {co₀ se₀ co se ta : List ℕ} {d : Desk} {at n : ℕ} (v : Half told bytes co₀ se₀ co se ta d at n) where
+    pub half_end : bytes ≤ at → (lines : ℕ → ℕ → List Line) → LinesBy told bytes lines → answered (meaning_for d co se ta) ≡ run (lines bytes 0) 0 (start co₀ se₀)
+    half_end h lines by = sym (ap (λ (ls : List Line). run ls n (meaning_for d co se ta)) (by.past (bytes - n) at h)) ∙ v.same lines by
 
-  -- One line more: it stands at the front of what is left, and takes w bytes where it is one of the three.
-  pub record OneMore (s : List ℕ) (at n : ℕ) (l : Line) (w : ℕ) : Type 0 where
-    pub here : at < length s
-    pub first : (f : ℕ) → lines (suc f) s at ≡ l ∷ lines f s (at + w)
-    pub least : WellFormed l → 11 ≤ w
-    pub most : w ≤ 43
+    -- one line more: it stands at the front of what is left, and takes w bytes
+    module _ (l : Line) (w : ℕ) (here : at < bytes) (t : told at (l, w)) (k : Result Desk Refusal) (co' se' ta' : List ℕ)
+        (says : shown_kept k co' se' ta' ≡ onward (acted (act_of l) (meaning_for d co se ta)) (refusal_for l (n + 1)) answered) where
+      -- a turn: the lines from here on come to what the lines after this one come to
+      turn : (lines : ℕ → ℕ → List Line) → LinesBy told bytes lines
+          → run (lines (bytes - n) at) n (meaning_for d co se ta) ≡ onward (acted (act_of l) (meaning_for d co se ta)) (refusal_for l (n + 1)) (λ m'. run (lines (bytes - (n + 1)) (at + w)) (n + 1) m')
+      turn lines by =
+          let e : bytes - n ≡ suc (bytes - (n + 1)) = omega (arith, here, v.within) in
+          ap (λ (f : ℕ). run (lines f at) n (meaning_for d co se ta)) e
+          ∙ ap (λ (ls : List Line). run ls n (meaning_for d co se ta)) (by.first (bytes - (n + 1)) at l w here t)
 
-  module _ {s co₀ se₀ co se ta : List ℕ} {d : Desk} {at n : ℕ} (v : Half lines s co₀ se₀ co se ta d at n) (l : Line) (w : ℕ) (x : OneMore s at n l w)
-      (k : Result Desk Refusal) (co' se' ta' : List ℕ) (says : shown_kept k co' se' ta' ≡ onward (acted (act_of l) (meaning_for d co se ta)) (refusal_for l (n + 1)) answered) where
-    -- a turn: the lines from here on come to what the lines after this one come to
-    turn : run (lines (length s - n) s at) n (meaning_for d co se ta) ≡ onward (acted (act_of l) (meaning_for d co se ta)) (refusal_for l (n + 1)) (λ m'. run (lines (length s - (n + 1)) s (at + w)) (n + 1) m')
-    turn =
-        let e : length s - n ≡ suc (length s - (n + 1)) = omega (arith, x.here, v.within) in
-        ap (λ (f : ℕ). run (lines f s at) n (meaning_for d co se ta)) e
-        ∙ ap (λ (ls : List Line). run ls n (meaning_for d co se ta)) (x.first (length s - (n + 1)))
+      pub half_wide : (d' : Desk) → k ≡ Ok d' → LineTold l w → (11 ≤ w) × (w ≤ 43)
+      half_wide d' p x =
+          let q : answered (meaning_for d' co' se' ta') ≡ onward (acted (act_of l) (meaning_for d co se ta)) (refusal_for l (n + 1)) answered = rw p at says in
+          (x.least (next_well l (meaning_for d co se ta) (meaning_for d' co' se' ta') (n + 1) q), x.most)
 
-    pub half_wide : (d' : Desk) → k ≡ Ok d' → (11 ≤ w) × (w ≤ 43)
-    half_wide d' p =
-        let q : answered (meaning_for d' co' se' ta') ≡ onward (acted (act_of l) (meaning_for d co se ta)) (refusal_for l (n + 1)) answered = rw p at says in
-        (x.least (next_well l (meaning_for d co se ta) (meaning_for d' co' se' ta') (n + 1) q), x.most)
+      pub half_next : (d' : Desk) → k ≡ Ok d' → LineTold l w → FitKept k ta' → Half told bytes co₀ se₀ co' se' ta' d' (at + w) (n + 1)
+      half_next d' p x g =
+          let q : answered (meaning_for d' co' se' ta') ≡ onward (acted (act_of l) (meaning_for d co se ta)) (refusal_for l (n + 1)) answered = rw p at says in
+          record {
+            within = omega (arith, v.within, (half_wide d' p x).0);
+            fit = rw p at g;
+            same =
+                λ lines by.
+                let on : onward (acted (act_of l) (meaning_for d co se ta)) (refusal_for l (n + 1)) (λ m'. run (lines (bytes - (n + 1)) (at + w)) (n + 1) m') ≡ run (lines (bytes - (n + 1)) (at + w)) (n + 1) (meaning_for d' co' se' ta') =
+                next_on (refusal_for l (n + 1)) (λ m'. run (lines (bytes - (n + 1)) (at + w)) (n + 1) m') (acted (act_of l) (meaning_for d co se ta)) (meaning_for d' co' se' ta') q in
+                sym on ∙ (sym (turn lines by) ∙ v.same lines by);
+          }
 
-    pub half_next : (d' : Desk) → k ≡ Ok d' → FitKept k ta' → length co' ≡ length co → length se' ≡ length se → Half lines s co₀ se₀ co' se' ta' d' (at + w) (n + 1)
-    half_next d' p g a b =
-        let q : answered (meaning_for d' co' se' ta') ≡ onward (acted (act_of l) (meaning_for d co se ta)) (refusal_for l (n + 1)) answered = rw p at says in
-        let on : onward (acted (act_of l) (meaning_for d co se ta)) (refusal_for l (n + 1)) (λ m'. run (lines (length s - (n + 1)) s (at + w)) (n + 1) m') ≡ run (lines (length s - (n + 1)) s (at + w)) (n + 1) (meaning_for d' co' se' ta') =
-        next_on (refusal_for l (n + 1)) (λ m'. run (lines (length s - (n + 1)) s (at + w)) (n + 1) m') (acted (act_of l) (meaning_for d co se ta)) (meaning_for d' co' se' ta') q in
-        record {
-          within = omega (arith, v.within, (half_wide d' p).0);
-          fit = rw p at g;
-          size = a ∙ v.size;
-          marked = b ∙ v.marked;
-          same = sym on ∙ (sym turn ∙ v.same);
-        }
-
-    pub half_stop : (r : Refusal) → k ≡ Err r → refused_by r ≡ run (lines (length s) s 0) 0 (start co₀ se₀)
-    half_stop r p =
-        let q : refused_by r ≡ onward (acted (act_of l) (meaning_for d co se ta)) (refusal_for l (n + 1)) answered = rw p at says in
-        sym (stop_here (refusal_for l (n + 1)) (λ m'. run (lines (length s - (n + 1)) s (at + w)) (n + 1) m') (acted (act_of l) (meaning_for d co se ta)) (number_of r) (place_of r) q)
-        ∙ (sym turn ∙ v.same)
+      pub half_stop : (r : Refusal) → k ≡ Err r → (lines : ℕ → ℕ → List Line) → LinesBy told bytes lines → refused_by r ≡ run (lines bytes 0) 0 (start co₀ se₀)
+      half_stop r p lines by =
+          let q : refused_by r ≡ onward (acted (act_of l) (meaning_for d co se ta)) (refusal_for l (n + 1)) answered = rw p at says in
+          sym (stop_here (refusal_for l (n + 1)) (λ m'. run (lines (bytes - (n + 1)) (at + w)) (n + 1) m') (acted (act_of l) (meaning_for d co se ta)) (number_of r) (place_of r) q)
+          ∙ (sym (turn lines by) ∙ v.same lines by)

@@ -1,6 +1,6 @@
--- The lines of the second form in turn (Turning), told in the first form; an atom's number is below 1,024; the species of one atom more. Assumes nothing.
+-- What `read_twos` tells of each line of the second form, in the first form; an atom's number is below 1,024; the species of one atom more. Assumes nothing.
 use Rattle.std.specs.Prelude.{None, Option, Some}
-use Prim.Native.Nat.{ℕ, zero, suc, ◌+◌, ◌*◌, ◌≤◌, ◌<◌, ◌^◌}
+use Prim.Native.Nat.{ℕ, zero, suc, ◌+◌, ◌*◌, ◌≤◌, ◌^◌}
 use mathlib.Core.Path.{◌≡◌, refl, sym, ap, ◌∙◌}
 use mathlib.Core.Bool.{Bool, true, false, cond}
 use mathlib.Core.List.{List, [], ◌∷◌, ◌++◌, map}
@@ -19,10 +19,9 @@ use Rattle.sheet_lines.specs.Reading.{three_at, header_of, atom_of, exclusion_of
 use Rattle.sheet_lines.specs.declared.Line.{Line}
 use Rattle.sheet_lines.specs.declared.Line.TheVariants.{Header, Atom, Exclusion, Malformed, End}
 use Rattle.sheet_lines_two.specs.declared.TwoLine.{TwoLine}
-use Rattle.sheet_lines_two.specs.Twos.{plain_two, typed_two, ruled_two, end_two, header_two, two_at, wide_two, width_two, twos_from, twos_of, kind_of, told_of}
-use Rattle.sheet.specs.Desk.{NumberBelow}
+use Rattle.sheet_lines_two.specs.Twos.{plain_two, typed_two, ruled_two, end_two, header_two, two_at, wide_two, width_two, twos_from, kind_of, told_of}
+use Rattle.sheet.specs.Desk.{LineTold, LinesBy, NumberBelow}
 use Rattle.sheet.specs.ReadTwo.{species_in}
-use Rattle.sheet.proofs.Turning.{OneMore}
 
 abbrev pub told_from : Bool → ℕ → List ℕ → ℕ → List Line
 told_from b f s at = map (told_of b) (twos_from f s at)
@@ -45,22 +44,9 @@ most_two (Exclusion a b) t = omega arith
 most_two Malformed t = omega arith
 most_two End t = omega arith
 
-pub one_two : (b : Bool) (s : List ℕ) (at n : ℕ) (t : TwoLine) (l : Line) (w : ℕ) → at < length s → t ≡ two_at s at → l ≡ told_of b t → w ≡ width_two t → OneMore (told_from b) s at n l w
-one_two b s at n t l w h e g f =
-    record {
-      here = h;
-      first = λ k. rw (f, g, e) (simp (lt-ltb at (length s) h));
-      least = λ q. rw f (least_two b t.core t.extra (rw g at q));
-      most = rw f (most_two t.core t.extra);
-    }
-
-pub told_end : (b : Bool) (f : ℕ) (s : List ℕ) (at : ℕ) → length s ≤ at → told_from b f s at ≡ []
+told_end : (b : Bool) (f : ℕ) (s : List ℕ) (at : ℕ) → length s ≤ at → told_from b f s at ≡ []
 told_end b zero s at h = refl
 told_end b (suc f) s at h = simp (le-ltb at (length s) h)
-
-pub told_all : (b : Bool) (s : List ℕ) → map (told_of b) (twos_of s) ≡ told_from b (length s) s 0
-unfolding twos_of
-told_all b s = refl
 
 -- ---- an atom line's number is below 1,024
 
@@ -120,6 +106,24 @@ below_kind End t b = tt
 pub below_two : (b : Bool) (s : List ℕ) (at : ℕ) → NumberBelow (told_of b (two_at s at))
 below_two true s at = below_kind (two_at s at).core (two_at s at).extra (below_core s at)
 below_two false s at = below_core s at
+
+-- ---- what `read_twos` tells of each line
+
+abbrev pub TwoAt : Bool → List ℕ → ℕ → Line → ℕ → Type 0
+TwoAt b s at l w = ◌≡◌ {A = Line × ℕ} (l, w) (told_of b (two_at s at), width_two (two_at s at))
+
+pub two_told : (b : Bool) (s : List ℕ) (at : ℕ) (l : Line) (w : ℕ) → TwoAt b s at l w → LineTold l w
+two_told b s at l w e =
+    let here : l ≡ told_of b (two_at s at) = ap (λ (x : Line × ℕ). x.0) e in
+    let wide : w ≡ width_two (two_at s at) = ap (λ (x : Line × ℕ). x.1) e in
+    record { below = rw here (below_two b s at); least = λ g. rw wide (least_two b (two_at s at).core (two_at s at).extra (rw here at g)); most = rw wide (most_two (two_at s at).core (two_at s at).extra) }
+
+pub twos_by : (b : Bool) (s : List ℕ) (told : ℕ → Line × ℕ → Type 0) → ((at : ℕ) (l : Line) (w : ℕ) → told at (l, w) → TwoAt b s at l w) → LinesBy told (length s) (λ f at. told_from b f s at)
+twos_by b s told by =
+    record {
+      past = λ f at h. told_end b f s at h;
+      first = λ f at l w h t. rw (ap (λ (x : Line × ℕ). x.1) (by at l w t), ap (λ (x : Line × ℕ). x.0) (by at l w t)) (simp (lt-ltb at (length s) h));
+    }
 
 -- ---- the species
 

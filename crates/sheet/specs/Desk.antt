@@ -1,11 +1,12 @@
 -- How the desk and its three tables stand for a meaning while the lines are read. Definitions only.
 use Rattle.std.specs.Prelude.{Err, None, Ok, Option as RustOption, Result, Some}
 use Rattle.answer.specs.declared.Refusal.{Refusal}
-use Rattle.std.specs.Prelude.{ℕ, ◌≤◌, ◌<◌, ◌≡◌, true, cond, List, length, take}
+use Rattle.std.specs.Prelude.{ℕ, suc, ◌+◌, ◌≤◌, ◌<◌, ◌≡◌, true, List, [], ◌∷◌, length, take}
 use Rattle.std.proofs.Math.Option.{Option, none, some}
 use Rattle.answer.specs.Seen.{Seen, answered, refused_by}
 use Rattle.lists.specs.Lists.{rows}
 use Rattle.exclusions.specs.Table.{is_table}
+use Rattle.sheet_lines.specs.Grammar.{WellFormed}
 use Rattle.sheet_lines.specs.declared.Head.{Head}
 use Rattle.sheet_lines.specs.declared.Line.{Line}
 use Rattle.sheet_lines.specs.declared.Line.TheVariants.{Header, Atom, Exclusion, Malformed, End}
@@ -13,8 +14,12 @@ use Rattle.sheet.specs.Meaning.{Meaning}
 use Rattle.sheet.specs.ReadTwo.{rule_in}
 use Rattle.sheet.specs.declared.desk.Desk.{Desk}
 
+abbrev pub header_in : RustOption Head → Option Head
+header_in (Some h) = some h
+header_in None = none
+
 abbrev pub header_for : Desk → Option Head
-header_for d = cond d.has (some d.head) none
+header_for d = header_in d.head
 
 abbrev pub meaning_for : Desk → List ℕ → List ℕ → List ℕ → Meaning
 meaning_for d co se ta =
@@ -58,3 +63,14 @@ NumberBelow (Atom n x y z) = n < 1024
 NumberBelow (Exclusion a b) = Unit {0}
 NumberBelow Malformed = Unit {0}
 NumberBelow End = Unit {0}
+
+-- what the reader of a line tells: the line, and how many bytes it takes
+pub record LineTold (l : Line) (w : ℕ) : Type 0 where
+  pub below : NumberBelow l
+  pub least : WellFormed l → 11 ≤ w
+  pub most : w ≤ 43
+
+-- the lines of n bytes from a place on, at most as many as the first argument says, by what is told at each place
+pub record LinesBy (told : ℕ → Line × ℕ → Type 0) (n : ℕ) (lines : ℕ → ℕ → List Line) : Type 0 where
+  pub past : (f at : ℕ) → n ≤ at → lines f at ≡ []
+  pub first : (f at : ℕ) (l : Line) (w : ℕ) → at < n → told at (l, w) → lines (suc f) at ≡ l ∷ lines f (at + w)

@@ -21,8 +21,7 @@ fn lead(seen: &[u8], from: usize, v: u8) -> usize
     seen.len()
 }
 
-fn count_of(head: Head, seen: &[u8]) -> Result<Head, Refusal>
-    requires { length seen.now ≡ 1024 }
+fn count_of(head: Head, seen: &[u8; 1024]) -> Result<Head, Refusal>
     ensures { shown_judged result ≡ counted head seen.now }
 {
     let atoms = head.atoms as usize;
@@ -40,13 +39,11 @@ fn count_of(head: Head, seen: &[u8]) -> Result<Head, Refusal>
     Ok(head)
 }
 
-pub(crate) fn judge(desk: Desk, seen: &[u8]) -> Result<Head, Refusal>
-    requires { length seen.now ≡ 1024 }
+pub(crate) fn judge(desk: Desk, seen: &[u8; 1024]) -> Result<Head, Refusal>
     ensures { shown_judged result ≡ tested (header_for desk) seen.now }
 {
-    if desk.has {
-        let head = desk.head;
-        return count_of(head, seen);
-    }
-    Err(Refusal::Absent { place: NO_HEADER })
+    let Some(head) = desk.head else {
+        return Err(Refusal::Absent { place: NO_HEADER });
+    };
+    count_of(head, seen)
 }

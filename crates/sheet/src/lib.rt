@@ -63,13 +63,13 @@ fn copy_in(from: &[u32], to: &mut [u32], n: usize)
 // The tests after the lines, and what is written where they pass.
 fn settle(
     desk: Desk,
-    coords: &[u32],
-    marks: &[u8],
-    table: &[u32],
+    coords: &[u32; 3072],
+    marks: &[u8; 1024],
+    table: &[u32; 2048],
     coordinates: &mut [u32],
     exclusions: &mut [u32],
 ) -> Result<Job, Refusal>
-    requires { Fit desk.count table.now × (length coords.now ≡ 3072) × (length marks.now ≡ 1024) × (3072 ≤ length coordinates.old) × (2048 ≤ length exclusions.old) }
+    requires { Fit desk.count table.now × (3072 ≤ length coordinates.old) × (2048 ≤ length exclusions.old) }
     ensures { record { shown = seen result; coordinates = coordinates.new; exclusions = exclusions.new } ≡ handed (then_tested (answered (meaning_for desk coords.now marks.now table.now))) coordinates.old exclusions.old }
 {
     let head = judge(desk, marks)?;

@@ -4,14 +4,15 @@ ghost use Rattle.std.specs.Prelude.{◌≡◌, [], map, ◌≤◌, ◌*◌, leng
 ghost use Rattle.std.proofs.Math.Option.{none};
 ghost use Rattle.std.proofs.lemmas.List.Edits.{sets};
 ghost use Rattle.answer.specs.Seen.{answered, seen};
-ghost use Rattle.sheet_lines_two.specs.Twos.{told_of, twos_of};
+ghost use Rattle.sheet_lines_two.specs.Twos.{told_of, two_at, twos_of, width_two};
 ghost use Rattle.sheet.specs.Reading.{run, then_tested};
 ghost use Rattle.sheet.specs.Desk.{Fit, FitKept, shown_kept, meaning_for, rule_kept};
 ghost use Rattle.sheet.specs.ReadTwo.{species_in, with_species, handed_two, ReadTwoSays};
 
-use crate::desk::{Desk, blank, keep};
+use crate::desk::{Desk, read_by};
 use crate::{Job, settle};
 use answer::Refusal;
+use sheet_lines::Line;
 use sheet_lines_two::{told, two_at, width_two};
 
 // What a sheet says, and its rule, 1 or 2.
@@ -21,30 +22,24 @@ pub struct RuledJob {
     pub rule: u32,
 }
 
-// The lines in turn, as `read_lines` has them, and a `while` as there.
+// The lines of the second form, told in the first: with their species and rule where `kinds`.
 fn read_twos(
     s: &[u8],
     kinds: bool,
-    coords: &mut [u32],
-    seen: &mut [u8],
-    table: &mut [u32],
+    coords: &mut [u32; 3072],
+    seen: &mut [u8; 1024],
+    table: &mut [u32; 2048],
 ) -> Result<Desk, Refusal>
-    requires { (length coords.old ≡ 3072) × (length seen.old ≡ 1024) × (length table.old ≡ 2048) }
     ensures table_after { shown_kept result coords.exit.now seen.new table.new ≡ run (map (told_of kinds) (twos_of s.now)) 0 (record { header = none; atoms = record { coords = coords.entry.now; marks = seen.old }; rows = [] }) }
     ensures fit_kept { FitKept result table.new }
 {
-    let mut desk = blank();
-    let mut at: usize = 0;
-    let mut n: usize = 0;
-    while at < s.len() {
+    let line_from = |at: usize| -> (Line, usize)
+        ensures { result ≡ (told_of kinds (two_at s.entry.now at), width_two (two_at s.entry.now at)) }
+    {
         let two = two_at(s, at);
-        let wide = width_two(two);
-        let line = told(two, kinds);
-        n += 1;
-        desk = keep(line, n, desk, coords, seen, table)?;
-        at += wide;
-    }
-    Ok(desk)
+        (told(two, kinds), width_two(two))
+    };
+    read_by(s, line_from, coords, seen, table)
 }
 
 // The rule that was read with the species.
@@ -54,10 +49,10 @@ fn rule_kept(kinds: Result<Desk, Refusal>) -> u32
     let Ok(desk) = kinds else {
         return 1;
     };
-    if desk.has {
-        return desk.head.radius;
-    }
-    1
+    let Some(head) = desk.head else {
+        return 1;
+    };
+    head.radius
 }
 
 // The species of the first n atoms, into another table.
@@ -73,16 +68,16 @@ fn copy_species(from: &[u32], to: &mut [u32], n: usize)
 // The tests after the lines, and what is written where they pass.
 fn settle_two(
     desk: Desk,
-    coords: &[u32],
-    marks: &[u8],
-    table: &[u32],
+    coords: &[u32; 3072],
+    marks: &[u8; 1024],
+    table: &[u32; 2048],
     rule: u32,
-    kinds: &[u32],
+    kinds: &[u32; 3072],
     coordinates: &mut [u32],
     species: &mut [u32],
     exclusions: &mut [u32],
 ) -> Result<RuledJob, Refusal>
-    requires { Fit desk.count table.now × (length coords.now ≡ 3072) × (length marks.now ≡ 1024) × (length kinds.now ≡ 3072) × (3072 ≤ length coordinates.old) × (1024 ≤ length species.old) × (2048 ≤ length exclusions.old) }
+    requires { Fit desk.count table.now × (3072 ≤ length coordinates.old) × (1024 ≤ length species.old) × (2048 ≤ length exclusions.old) }
     ensures { record { shown = seen result; coordinates = coordinates.new; species = species.new; exclusions = exclusions.new } ≡ handed_two (with_species (then_tested (answered (meaning_for desk coords.now marks.now table.now))) rule kinds.now) coordinates.old species.old exclusions.old }
 {
     let job = settle(desk, coords, marks, table, coordinates, exclusions)?;

@@ -1,6 +1,9 @@
-// The list of a sheet: the sheet is read and its pair list built into lent pairs. Total, for the crates above; no public call.
-ghost use Rattle.answer.specs.Seen.{seen};
+// The list of a sheet: the sheet is read and its pair list built into lent pairs; and the line of a refusal. Total, for the crates above; no public
+// call.
+ghost use Rattle.answer.specs.Seen.{number_of, place_of, seen};
 ghost use Rattle.std.specs.Prelude.{◌≡◌, ◌*◌, ◌≤◌, length, take};
+ghost use Rattle.std.proofs.lemmas.List.Edits.{sets};
+ghost use Rattle.sheet_printed.specs.Printed.{refusal_line};
 ghost use Rattle.sheet_answer.specs.Solve.{frame_for};
 ghost use Rattle.sheet_answer.specs.List.{job_list, ListSays, ListFits};
 
@@ -8,8 +11,10 @@ use crate::SheetList;
 use answer::Refusal;
 use frame::{Frame, Side, build};
 use sheet::{Job, read};
+use sheet_printed::put_refusal;
 
-fn frame_of(job: Job) -> Frame
+// The box of a sheet.
+pub fn frame_of(job: Job) -> Frame
     ensures { result ≡ frame_for job }
 {
     Frame {
@@ -27,6 +32,14 @@ fn frame_of(job: Job) -> Frame
         },
         radius: job.radius,
     }
+}
+
+// The line of a refusal at the front of `out`; how many bytes it is.
+pub fn refuse(r: Refusal, out: &mut [u8]) -> usize
+    ensures value { result ≡ length (refusal_line (number_of r) (place_of r)) }
+    ensures out_after { out.new ≡ sets out.old 0 (refusal_line (number_of r) (place_of r)) }
+{
+    put_refusal(out, r.number(), r.place())
 }
 
 // The list of what was read, with 16,384 starts of the call's own.

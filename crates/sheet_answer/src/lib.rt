@@ -6,27 +6,20 @@ pub mod kernel;
 
 ghost use Rattle.std.specs.Prelude.{◌≡◌, length};
 ghost use Rattle.std.proofs.lemmas.List.Edits.{sets};
-ghost use Rattle.answer.specs.Seen.{number_of, place_of, seen};
-ghost use Rattle.sheet_printed.specs.Printed.{refusal_line};
+ghost use Rattle.answer.specs.Seen.{seen};
 ghost use Rattle.sheet_answer.specs.Solve.{SolveSays, SolveFits};
 ghost use Rattle.sheet_answer.specs.Steps.{list_text};
 
+use crate::kernel::refuse;
 use answer::Refusal;
 use frame::Built;
-use sheet_printed::{put_built, put_refusal};
+use sheet_printed::put_built;
 
 // The list of a sheet: its atoms, and the numbers of its build.
 #[derive(Drop)]
 pub struct SheetList {
     pub atoms: u32,
     pub built: Built,
-}
-
-fn refuse(r: Refusal, out: &mut [u8]) -> usize
-    ensures value { result ≡ length (refusal_line (number_of r) (place_of r)) }
-    ensures out_after { out.new ≡ sets out.old 0 (refusal_line (number_of r) (place_of r)) }
-{
-    put_refusal(out, r.number(), r.place())
 }
 
 // The text of a list; how many bytes that is.

@@ -2,6 +2,7 @@
 #![tactic(auto)]
 
 ghost use Rattle.std.specs.Prelude.{◌≡◌, ◌+◌, ◌<◌, ◌^◌};
+ghost use Rattle.hexadecimal.specs.Digits.{number_or};
 ghost use Rattle.sheet_lines.specs.Reading.{three_of, three_at, header_of, atom_of, exclusion_of, line_at, line_width};
 
 use hexadecimal::{byte_at, hex2, hex4, hex8};
@@ -29,17 +30,10 @@ pub enum Line {
 }
 
 // Three numbers of eight digits, where all are numbers.
-pub fn three_of(x: u64, y: u64, z: u64) -> Option<(u32, u32, u32)>
-    ensures { result ≡ three_of x y z }
+pub fn three_of(x: Option<u32>, y: Option<u32>, z: Option<u32>) -> Option<(u32, u32, u32)>
+    ensures { result ≡ three_of (number_or (2 ^ 32) x) (number_or (2 ^ 32) y) (number_or (2 ^ 32) z) }
 {
-    if x < 4294967296 {
-        if y < 4294967296 {
-            if z < 4294967296 {
-                return Some((x as u32, y as u32, z as u32));
-            }
-        }
-    }
-    None
+    Some((x?, y?, z?))
 }
 
 // Three numbers of eight digits each.
@@ -54,26 +48,29 @@ fn three_at(s: &[u8], at: usize) -> Option<(u32, u32, u32)>
 }
 
 pub fn header_of(
-    atoms: u64,
+    atoms: Option<u16>,
     edges: Option<(u32, u32, u32)>,
-    mask: u64,
-    radius: u64,
+    mask: Option<u8>,
+    radius: Option<u32>,
     end: u8,
 ) -> Line
-    ensures { result ≡ header_of atoms edges mask radius end }
+    ensures { result ≡ header_of (number_or (2 ^ 16) atoms) edges (number_or (2 ^ 8) mask) (number_or (2 ^ 32) radius) end }
 {
     let Some((x, y, z)) = edges else {
         return Line::Malformed;
     };
-    if 65536 <= atoms {
+    let Some(atoms) = atoms else {
         return Line::Malformed;
-    }
+    };
+    let Some(mask) = mask else {
+        return Line::Malformed;
+    };
     if 8 <= mask {
         return Line::Malformed;
     }
-    if 4294967296 <= radius {
+    let Some(radius) = radius else {
         return Line::Malformed;
-    }
+    };
     if end != 10 {
         return Line::Malformed;
     }
@@ -83,14 +80,17 @@ pub fn header_of(
         ey: y,
         ez: z,
         mask: mask as u32,
-        radius: radius as u32,
+        radius,
     })
 }
 
-pub fn atom_of(number: u64, place: Option<(u32, u32, u32)>, end: u8) -> Line
-    ensures { result ≡ atom_of number place end }
+pub fn atom_of(number: Option<u16>, place: Option<(u32, u32, u32)>, end: u8) -> Line
+    ensures { result ≡ atom_of (number_or (2 ^ 16) number) place end }
 {
     let Some((x, y, z)) = place else {
+        return Line::Malformed;
+    };
+    let Some(number) = number else {
         return Line::Malformed;
     };
     if number < 1024 {
@@ -106,20 +106,22 @@ pub fn atom_of(number: u64, place: Option<(u32, u32, u32)>, end: u8) -> Line
     Line::Malformed
 }
 
-pub fn exclusion_of(a: u64, b: u64, end: u8) -> Line
-    ensures { result ≡ exclusion_of a b end }
+pub fn exclusion_of(a: Option<u16>, b: Option<u16>, end: u8) -> Line
+    ensures { result ≡ exclusion_of (number_or (2 ^ 16) a) (number_or (2 ^ 16) b) end }
 {
-    if a < 65536 {
-        if b < 65536 {
-            if end == 10 {
-                return Line::Exclusion {
-                    first: a as u32,
-                    second: b as u32,
-                };
-            }
-        }
+    let Some(first) = a else {
+        return Line::Malformed;
+    };
+    let Some(second) = b else {
+        return Line::Malformed;
+    };
+    if end != 10 {
+        return Line::Malformed;
     }
-    Line::Malformed
+    Line::Exclusion {
+        first: first as u32,
+        second: second as u32,
+    }
 }
 
 // The line that starts at a place.
@@ -129,7 +131,9 @@ pub fn line_at(s: &[u8], at: usize) -> Line
     if s.len() <= at {
         return Line::End;
     }
-    let kind = hex2(s, at);
+    let Some(kind) = hex2(s, at) else {
+        return Line::Malformed;
+    };
     if kind == 1 {
         let atoms = hex4(s, at + 2);
         let edges = three_at(s, at + 6);

@@ -4,6 +4,7 @@
 #![tactic(auto)]
 
 ghost use Rattle.std.specs.Prelude.{◌≡◌, ◌+◌, ◌<◌, ◌^◌};
+ghost use Rattle.hexadecimal.specs.Digits.{number_or};
 ghost use Rattle.sheet_lines_two.specs.Twos.{plain_two, typed_two, ruled_two, header_two, two_at, head_wide, wide_two, width_two, rule_of, ruled_head, kind_of, told_of};
 
 use hexadecimal::{byte_at, hex2, hex4, hex8};
@@ -22,34 +23,28 @@ fn plain(core: Line) -> TwoLine
     TwoLine { core, extra: 0 }
 }
 
-fn typed(core: Line, species: u64) -> TwoLine
-    ensures { result ≡ typed_two core species }
+fn typed(core: Line, species: Option<u32>) -> TwoLine
+    ensures { result ≡ typed_two core (number_or (2 ^ 32) species) }
 {
-    if species < 4294967296 {
-        return TwoLine {
-            core,
-            extra: species as u32,
-        };
-    }
-    TwoLine {
-        core: Line::Malformed,
-        extra: 0,
-    }
+    let Some(extra) = species else {
+        return plain(Line::Malformed);
+    };
+    TwoLine { core, extra }
 }
 
-fn with_rule(core: Line, rule: u64) -> TwoLine
-    ensures { result ≡ ruled_two core rule }
+fn with_rule(core: Line, rule: Option<u8>) -> TwoLine
+    ensures { result ≡ ruled_two core (number_or (2 ^ 8) rule) }
 {
+    let Some(rule) = rule else {
+        return plain(Line::Malformed);
+    };
     if rule == 1 {
         return TwoLine { core, extra: 1 };
     }
     if rule == 2 {
         return TwoLine { core, extra: 2 };
     }
-    TwoLine {
-        core: Line::Malformed,
-        extra: 0,
-    }
+    plain(Line::Malformed)
 }
 
 // The header that starts at a place: after its 40 digits a newline, or two digits more, the rule, and a newline.
@@ -82,7 +77,9 @@ pub fn two_at(s: &[u8], at: usize) -> TwoLine
     if s.len() <= at {
         return plain(Line::End);
     }
-    let kind = hex2(s, at);
+    let Some(kind) = hex2(s, at) else {
+        return plain(Line::Malformed);
+    };
     if kind == 17 {
         return header_at(s, at);
     }

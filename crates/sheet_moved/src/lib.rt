@@ -9,7 +9,7 @@ ghost use Rattle.sheet_moved.specs.Moved.{ToOneSays, ToTwoSays};
 use answer::Refusal;
 use sheet::read;
 use sheet::two::read_two;
-use sheet_rewritten::frame_of;
+use sheet_answer::kernel::frame_of;
 use sheet_written::two::write_two;
 use sheet_written::write;
 

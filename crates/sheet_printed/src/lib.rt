@@ -1,10 +1,11 @@
 // What the program prints for a sheet, written into a lent buffer. What lies past the buffer's end is not written.
 #![tactic(auto)]
 
-ghost use Rattle.std.specs.Prelude.{◌≡◌, ◌*◌, ◌≤◌, length, take};
+ghost use Rattle.std.specs.Prelude.{◌≡◌, [], ◌∷◌, ◌++◌, ◌*◌, ◌≤◌, length, take};
 ghost use Rattle.std.proofs.lemmas.List.Edits.{sets};
 ghost use Rattle.lists.specs.Lists.{rows};
-ghost use Rattle.sheet_printed.specs.Printed.{count_line, pair_line, refusal_line, flag_of, pair_lines, built_text};
+ghost use Rattle.hexadecimal.specs.Glyphs.{text2, text4};
+ghost use Rattle.sheet_printed.specs.Printed.{count_line, refusal_line, flag_of, pair_lines, built_text};
 
 use hexadecimal::{put_byte, put2, put4, put8};
 
@@ -20,14 +21,16 @@ pub fn put_refusal(out: &mut [u8], number: u64, place: u64) -> usize
     13
 }
 
-// 82, a pair's two numbers.
-fn put_pair(out: &mut [u8], at: usize, low: u32, high: u32)
-    requires { at ≤ 18446744073709551605 }
-    ensures { out.new ≡ sets out.old at (pair_line low high) }
+// A line of two numbers after its kind: a pair's is of kind 82.
+pub fn put_two(out: &mut [u8], at: usize, kind: u64, first: u64, second: u64)
+    ensures { out.new ≡ sets out.old at (text2 kind ++ text4 first ++ text4 second ++ (10 ∷ [])) }
 {
-    put2(out, at, 130);
-    put4(out, at + 2, low as u64);
-    put4(out, at + 6, high as u64);
+    if out.len() <= at {
+        return;
+    }
+    put2(out, at, kind);
+    put4(out, at + 2, first);
+    put4(out, at + 6, second);
     put_byte(out, at + 10, 10);
 }
 
@@ -54,7 +57,9 @@ fn put_pairs(out: &mut [u8], pairs: &[u32], count: usize)
     ensures { out.new ≡ sets out.old 21 (pair_lines (take count (rows pairs.now))) }
 {
     for i in 0..count {
-        put_pair(out, 21 + 11 * i, pairs[2 * i], pairs[2 * i + 1]);
+        let low = pairs[2 * i] as u64;
+        let high = pairs[2 * i + 1] as u64;
+        put_two(out, 21 + 11 * i, 130, low, high);
     }
 }
 

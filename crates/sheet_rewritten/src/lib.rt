@@ -4,44 +4,14 @@
 
 ghost use Rattle.std.specs.Prelude.{◌≡◌, ◌*◌, ◌≤◌, length, take};
 ghost use Rattle.std.proofs.lemmas.List.Edits.{sets};
-ghost use Rattle.answer.specs.Seen.{number_of, place_of};
-ghost use Rattle.sheet_printed.specs.Printed.{refusal_line};
-ghost use Rattle.sheet_answer.specs.Solve.{frame_for};
 ghost use Rattle.sheet_rewritten.specs.Rewrite.{RewriteSays};
 ghost use Rattle.sheet_rewritten.specs.Steps.{frame_text};
 
 use answer::Refusal;
-use frame::{Frame, Side};
-use sheet::{Job, read};
-use sheet_printed::put_refusal;
+use frame::Frame;
+use sheet::read;
+use sheet_answer::kernel::{frame_of, refuse};
 use sheet_written::write;
-
-pub fn frame_of(job: Job) -> Frame
-    ensures { result ≡ frame_for job }
-{
-    Frame {
-        x: Side {
-            edge: job.ex,
-            round: job.px,
-        },
-        y: Side {
-            edge: job.ey,
-            round: job.py,
-        },
-        z: Side {
-            edge: job.ez,
-            round: job.pz,
-        },
-        radius: job.radius,
-    }
-}
-
-fn refuse(r: Refusal, out: &mut [u8]) -> usize
-    ensures value { result ≡ length (refusal_line (number_of r) (place_of r)) }
-    ensures out_after { out.new ≡ sets out.old 0 (refusal_line (number_of r) (place_of r)) }
-{
-    put_refusal(out, r.number(), r.place())
-}
 
 // The text of a frame that was read, or its refusal's line. (The longest written form fits, so there is no 8.)
 fn put_frame(f: Frame, coordinates: &[u32], exclusions: &[u32], out: &mut [u8]) -> usize

@@ -49,9 +49,25 @@ head_put k h l m₁ m₂ m₃ m₄ m₅ p q r s t =
     let four : m₄ ≡ sets l 0 d = put_put 30 b (text2 h.mask) l m₃ m₄ 0 (simp (length-append, length2, length4, long888)) three s in
     put_put 32 d (text8 h.radius) l m₄ m₅ 0 (simp (length-append, length2, length4, long888)) four t
 
-pub header_put : (h : Head) (l m₁ m₂ m₃ m₄ m₅ m₆ : List ℕ) → m₁ ≡ sets l 0 (text2 1) → m₂ ≡ sets m₁ 2 (text4 h.atoms) → m₃ ≡ sets m₂ 6 (text888 h.ex h.ey h.ez) → m₄ ≡ sets m₃ 30 (text2 h.mask) → m₅ ≡ sets m₄ 32 (text8 h.radius) → m₆ ≡ set m₅ 40 10 → m₆ ≡ sets l 0 (line_text (Header h))
+pub header_put : (h : Head) (l m₁ m₂ : List ℕ) → m₁ ≡ sets l 0 (head_digits 1 h) → m₂ ≡ set m₁ 40 10 → m₂ ≡ sets l 0 (line_text (Header h))
 unfolding line_text
-header_put h l m₁ m₂ m₃ m₄ m₅ m₆ p q r s t u = put_put 40 (head_digits 1 h) (10 ∷ []) l m₅ m₆ 0 (head_long 1 h) (head_put 1 h l m₁ m₂ m₃ m₄ m₅ p q r s t) u
+header_put h l m₁ m₂ p q = put_put 40 (head_digits 1 h) (10 ∷ []) l m₁ m₂ 0 (head_long 1 h) p q
+
+-- an atom's 30 digits, those of its kind first
+abbrev pub place_digits : ℕ → ℕ → ℕ → ℕ → ℕ → List ℕ
+place_digits k n x y z = text2 k ++ text4 n ++ text888 x y z
+
+pub place_long : (k n x y z : ℕ) → length (place_digits k n x y z) ≡ 30
+place_long k n x y z = simp (length-append, length2, length4, long888)
+
+pub place_put : (at k n x y z : ℕ) (l m₁ m₂ m₃ : List ℕ) → m₁ ≡ sets l at (text2 k) → m₂ ≡ sets m₁ (at + 2) (text4 n) → m₃ ≡ sets m₂ (at + 6) (text888 x y z) → m₃ ≡ sets l at (place_digits k n x y z)
+place_put at k n x y z l m₁ m₂ m₃ p q r =
+    let two : m₂ ≡ sets l at (text2 k ++ text4 n) = put_put 2 (text2 k) (text4 n) l m₁ m₂ at (length2 k) p q in
+    put_put 6 (text2 k ++ text4 n) (text888 x y z) l m₂ m₃ at (simp (length-append, length2, length4)) two r
+
+pub atom_put : (at n x y z : ℕ) (l m₁ m₂ : List ℕ) → m₁ ≡ sets l at (place_digits 2 n x y z) → m₂ ≡ set m₁ (at + 30) 10 → m₂ ≡ sets l at (line_text (Atom n x y z))
+unfolding line_text
+atom_put at n x y z l m₁ m₂ p q = put_put 30 (place_digits 2 n x y z) (10 ∷ []) l m₁ m₂ at (place_long 2 n x y z) p q
 
 -- ---- a line, and those that are left after it
 

@@ -15,9 +15,9 @@ use Rattle.lists.proofs.Exactness.{length_up_to}
 use Rattle.lists.proofs.Walks.{numbers_next, numbers_end}
 use Rattle.lists.proofs.Rows.{length_rows}
 use Rattle.frame.specs.declared.Frame.{Frame}
-use Rattle.hexadecimal.specs.Glyphs.{text2, text4, text8}
+use Rattle.hexadecimal.specs.Glyphs.{text2, text8}
 use Rattle.hexadecimal.proofs.Writing.{length2, length4, length8, put_put}
-use Rattle.sheet_lines.specs.Grammar.{text888, line_text, sheet_text}
+use Rattle.sheet_lines.specs.Grammar.{line_text, sheet_text}
 use Rattle.sheet_lines.specs.declared.Head.{Head}
 use Rattle.sheet_lines.specs.declared.Line.{Line}
 use Rattle.sheet_lines.specs.declared.Line.TheVariants.{Header, Atom}
@@ -26,26 +26,22 @@ use Rattle.sheet_lines_two.proofs.GrammarTwo.{length_two}
 use Rattle.sheet_written.specs.Written.{head_of, atom_line, atom_lines, row_line}
 use Rattle.sheet_written.specs.Write.{write_asked, laid_in}
 use Rattle.sheet_written.specs.WrittenTwo.{plain_text, two_lines, written_two, write_two_of}
-use Rattle.sheet_written.proofs.OneAfterAnother.{long888, head_digits, head_long, head_put, turn_of, append_of, long_of, long_rows}
+use Rattle.sheet_written.proofs.OneAfterAnother.{long888, head_digits, head_long, place_digits, place_long, turn_of, append_of, long_of, long_rows}
 
 -- ---- the numbers of a line
 
-pub header_put_two : (h : Head) (l m₁ m₂ m₃ m₄ m₅ m₆ m₇ : List ℕ) → m₁ ≡ sets l 0 (text2 17) → m₂ ≡ sets m₁ 2 (text4 h.atoms) → m₃ ≡ sets m₂ 6 (text888 h.ex h.ey h.ez) → m₄ ≡ sets m₃ 30 (text2 h.mask) → m₅ ≡ sets m₄ 32 (text8 h.radius) → m₆ ≡ sets m₅ 40 (text2 1) → m₇ ≡ set m₆ 42 10 → m₇ ≡ sets l 0 (text_with (Header h) 1)
+pub header_put_two : (h : Head) (l m₁ m₂ m₃ : List ℕ) → m₁ ≡ sets l 0 (head_digits 17 h) → m₂ ≡ sets m₁ 40 (text2 1) → m₃ ≡ set m₂ 42 10 → m₃ ≡ sets l 0 (text_with (Header h) 1)
 unfolding text_with head_text rule_text
-header_put_two h l m₁ m₂ m₃ m₄ m₅ m₆ m₇ p q r s t u v =
-    let end : m₇ ≡ sets m₅ 40 (text2 1 ++ (10 ∷ [])) = put_put 2 (text2 1) (10 ∷ []) m₅ m₆ m₇ 40 (length2 1) u v in
-    put_put 40 (head_digits 17 h) (text2 1 ++ (10 ∷ [])) l m₅ m₇ 0 (head_long 17 h) (head_put 17 h l m₁ m₂ m₃ m₄ m₅ p q r s t) end
+header_put_two h l m₁ m₂ m₃ p q r =
+    let end : m₃ ≡ sets m₁ 40 (text2 1 ++ (10 ∷ [])) = put_put 2 (text2 1) (10 ∷ []) m₁ m₂ m₃ 40 (length2 1) q r in
+    put_put 40 (head_digits 17 h) (text2 1 ++ (10 ∷ [])) l m₁ m₃ 0 (head_long 17 h) p end
 
-pub atom_put_two : (at n x y z t : ℕ) (l m₁ m₂ m₃ m₄ m₅ : List ℕ) → m₁ ≡ sets l at (text2 18) → m₂ ≡ sets m₁ (at + 2) (text4 n) → m₃ ≡ sets m₂ (at + 6) (text888 x y z) → m₄ ≡ sets m₃ (at + 30) (text8 t) → m₅ ≡ set m₄ (at + 38) 10 → m₅ ≡ sets l at (text_with (Atom n x y z) t)
+pub atom_put_two : (at n x y z t : ℕ) (l m₁ m₂ m₃ : List ℕ) → m₁ ≡ sets l at (place_digits 18 n x y z) → m₂ ≡ sets m₁ (at + 30) (text8 t) → m₃ ≡ set m₂ (at + 38) 10 → m₃ ≡ sets l at (text_with (Atom n x y z) t)
 unfolding text_with
-atom_put_two at n x y z t l m₁ m₂ m₃ m₄ m₅ p q r s u =
-    let a = text2 18 ++ text4 n in
-    let b = text2 18 ++ text4 n ++ text888 x y z in
-    let d = text2 18 ++ text4 n ++ text888 x y z ++ text8 t in
-    let two : m₂ ≡ sets l at a = put_put 2 (text2 18) (text4 n) l m₁ m₂ at (length2 18) p q in
-    let three : m₃ ≡ sets l at b = put_put 6 a (text888 x y z) l m₂ m₃ at (simp (length-append, length2, length4)) two r in
-    let four : m₄ ≡ sets l at d = put_put 30 b (text8 t) l m₃ m₄ at (simp (length-append, length2, length4, long888)) three s in
-    put_put 38 d (10 ∷ []) l m₄ m₅ at (simp (length-append, length2, length4, length8, long888)) four u
+atom_put_two at n x y z t l m₁ m₂ m₃ p q r =
+    let d = place_digits 18 n x y z ++ text8 t in
+    let two : m₂ ≡ sets l at d = put_put 30 (place_digits 18 n x y z) (text8 t) l m₁ m₂ at (place_long 18 n x y z) p q in
+    put_put 38 d (10 ∷ []) l m₂ m₃ at (simp (length-append, length2, length4, length8, long888)) two r
 
 -- ---- the atoms by number
 abbrev text_one : Line → List ℕ

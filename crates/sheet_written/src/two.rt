@@ -9,20 +9,16 @@ ghost use Rattle.sheet_written.specs.WrittenTwo.{plain_text, WriteTwoSays};
 
 use crate::asked::asked;
 use crate::head_of;
-use crate::lines::{put_rows, put888};
+use crate::lines::{put_head, put_place, put_rows};
 use answer::Refusal;
 use frame::Frame;
-use hexadecimal::{put_byte, put2, put4, put8};
+use hexadecimal::{put_byte, put2, put8};
 use sheet_lines::Head;
 
 fn put_header_two(out: &mut [u8], h: Head)
     ensures { out.new ≡ sets out.old 0 (text_with (Header h) 1) }
 {
-    put2(out, 0, 17);
-    put4(out, 2, h.atoms as u64);
-    put888(out, 6, h.ex, h.ey, h.ez);
-    put2(out, 30, h.mask as u64);
-    put8(out, 32, h.radius as u64);
+    put_head(out, 17, h);
     put2(out, 40, 1);
     put_byte(out, 42, 10);
 }
@@ -31,9 +27,7 @@ fn put_atom_two(out: &mut [u8], at: usize, number: u32, x: u32, y: u32, z: u32)
     requires { at ≤ 65400 }
     ensures { out.new ≡ sets out.old at (text_with (Atom number x y z) 0) }
 {
-    put2(out, at, 18);
-    put4(out, at + 2, number as u64);
-    put888(out, at + 6, x, y, z);
+    put_place(out, at, 18, number, x, y, z);
     put8(out, at + 30, 0);
     put_byte(out, at + 38, 10);
 }

@@ -11,28 +11,22 @@ use sheet_console::rewriting::print_form;
 const STDIN: i32 = 0;
 
 fn print_by(letter: u8, sheet: &[u8], out: &mut [u8]) {
-    if letter == 112 {
-        print(sheet, out);
-        return;
+    match letter {
+        b'p' => {
+            print(sheet, out);
+        }
+        b'r' => {
+            print_form(sheet, out);
+        }
+        b'c' => {
+            clumps_console::print(sheet, out);
+        }
+        _ => {
+            print_either(sheet, out);
+            print_two(sheet, out);
+            print_one(sheet, out);
+        }
     }
-    if letter == 114 {
-        print_form(sheet, out);
-        return;
-    }
-    if letter == 99 {
-        clumps_console::print(sheet, out);
-        return;
-    }
-    print_either(sheet, out);
-    print_two(sheet, out);
-    print_one(sheet, out);
-}
-
-fn letter_of(head: &[u8]) -> u8 {
-    if head.len() == 0 {
-        return 0;
-    }
-    head[0]
 }
 
 fn read_and_print(letter: u8, sheet: &mut [u8], out: &mut [u8]) {
@@ -41,22 +35,23 @@ fn read_and_print(letter: u8, sheet: &mut [u8], out: &mut [u8]) {
 }
 
 // One sheet, as long as its head says.
-fn print_next(head: &[u8], sheet: &mut [u8], out: &mut [u8]) {
-    let letter = letter_of(head);
-    let size = hex8(head, 1) as usize;
+fn print_next(head: &[u8; 10], sheet: &mut [u8], out: &mut [u8]) {
+    let Some(digits) = hex8(head, 1) else {
+        return;
+    };
+    let size = digits as usize;
     if size <= sheet.len() {
-        read_and_print(letter, &mut sheet[..size], out);
+        read_and_print(head[0], &mut sheet[..size], out);
     }
 }
 
-// A proved loop has to end, and nothing says that the input does: the turns count down, from a number that no run uses up.
-fn print_all(head: &mut [u8], sheet: &mut [u8], out: &mut [u8]) {
-    let mut turns = u64::MAX;
-    let mut got = io::read_full(STDIN, head);
-    while turns > 0 && got == 10 {
+// A proved loop has to end, and nothing says that the input does: the turns are as many as no run uses up.
+fn print_all(head: &mut [u8; 10], sheet: &mut [u8], out: &mut [u8]) {
+    for _ in 0..u64::MAX {
+        if io::read_full(STDIN, head) != 10 {
+            break;
+        }
         print_next(head, sheet, out);
-        got = io::read_full(STDIN, head);
-        turns -= 1;
     }
 }
 

@@ -80,8 +80,8 @@ fn lambda(dt: f64, target: f64, tau: f64, t: f64) -> f64
 fn scale_all(vs: &mut [f64], s: f64)
     ensures { vs.new ≡ scaled_by s vs.old }
 {
-    for k in 0..vs.len() {
-        vs[k] = vs[k] * s;
+    for v in vs.iter_mut() {
+        *v = *v * s;
     }
 }
 

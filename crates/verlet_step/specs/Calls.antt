@@ -1,5 +1,5 @@
 -- What `step` and `finish` answer and leave in everything lent: one outcome each, made from the entry values alone. Definitions only.
-use Rattle.std.specs.Prelude.{Err, None, Ok, Option, Result, Some}
+use Rattle.std.specs.Prelude.{Err, Ok, Option, Result}
 use Rattle.verlet.specs.declared.Thermostat.{Thermostat}
 use Rattle.std.specs.Prelude.{ℕ, ◌≡◌, Bool, true, false, cond, List, Float, length}
 use Rattle.answer.specs.declared.Refusal.{Refusal}
@@ -13,8 +13,9 @@ use Rattle.neighbor.specs.Box.{SameBits}
 use Rattle.neighbor.specs.Update.{Given, given, stays}
 use Rattle.neighbor.specs.Update as Update
 use Rattle.potentials_pair.specs.Species.{Tables}
+use Rattle.evaluate.specs.declared.Molecule.{Molecule}
 use Rattle.evaluate.specs.declared.Setting.{Setting}
-use Rattle.evaluate.specs.Calls.{Job, job, job_of, asked_of, settled_of}
+use Rattle.evaluate.specs.Calls.{Job, job, job_of, job_on, asked_of, settled_of}
 use Rattle.evaluate.specs.Calls as Evaluation
 use Rattle.verlet_step.specs.declared.Stepped.{Stepped}
 use Rattle.verlet_step.specs.Asked.{step_limit, finish_limit, motion_fits, motion_ok}
@@ -34,6 +35,11 @@ motion dt j masses potential velocities = record { dt = dt; job = j; masses = ma
 abbrev pub motion_of : Setting → (dt : Float) → State → (potential : Float) → (tab : Tables) (species : List ℕ) (charges : List Float) (bonds : List ℕ) (lengths ks : List Float) (angles : List ℕ) (per_angle masses : List Float) (exclusions : List ℕ) (positions velocities : List Float) (pairs : List ℕ) (references : List Float) (starts items : List ℕ) (forces : List Float) → Motion
 motion_of setting dt s potential tab species charges bonds lengths ks angles per_angle masses exclusions positions velocities pairs references starts items forces =
     motion dt (job_of setting s tab species charges bonds lengths ks angles per_angle positions exclusions pairs references starts items forces) masses potential velocities
+
+-- .. from what it is handed with a molecule
+abbrev pub motion_on : Setting → (dt : Float) → State → (potential : Float) → Molecule → (masses : List Float) (exclusions : List ℕ) (positions velocities : List Float) (pairs : List ℕ) (references : List Float) (starts items : List ℕ) (forces : List Float) → Motion
+motion_on setting dt s potential m masses exclusions positions velocities pairs references starts items forces =
+    motion dt (job_on setting s m positions exclusions pairs references starts items forces) masses potential velocities
 
 abbrev pub units_of : Motion → Units
 units_of m = m.job.terms.units

@@ -1,12 +1,11 @@
 // A step without tests and without the thermostat: total on every number and length. No public call.
 ghost use Rattle.std.specs.Prelude.{◌≡◌};
-ghost use Rattle.potentials_pair.specs.Species.{tables};
-ghost use Rattle.verlet_step.specs.Calls.{motion_of};
+ghost use Rattle.verlet_step.specs.Calls.{motion_on};
 ghost use Rattle.verlet_step.specs.Steps.{LandSays, AdvanceSays, kicked, kicked_after, stepped_from};
 
 use crate::{Stepped, ends};
 use answer::Refusal;
-use evaluate::{Evaluated, Setting};
+use evaluate::{Evaluated, Molecule, Setting};
 use neighbor::State;
 use verlet::moves;
 use virial::Units;
@@ -52,17 +51,7 @@ pub fn land(
     dt: f64,
     s: State,
     potential: f64,
-    own_ids: &[u32],
-    own_params: &[f64],
-    ids: &[u32],
-    params: &[f64],
-    species: &[u32],
-    charges: &[f64],
-    bonds: &[u32],
-    lengths: &[f64],
-    ks: &[f64],
-    angles: &[u32],
-    per_angle: &[f64],
+    molecule: &Molecule,
     masses: &[f64],
     exclusions: &[u32],
     positions: &[f64],
@@ -73,12 +62,11 @@ pub fn land(
     items: &mut [u32],
     forces: &mut [f64],
 ) -> Stepped
-    ensures { LandSays (motion_of setting dt s potential (tables own_ids.now own_params.now ids.now params.now) species.now charges.now bonds.now lengths.now ks.now angles.now per_angle.now masses.now exclusions.now positions.now velocities.old pairs.old references.old starts.old items.old forces.old) result velocities.new pairs.new references.new starts.new items.new forces.new }
+    ensures { LandSays (motion_on setting dt s potential molecule.now masses.now exclusions.now positions.now velocities.old pairs.old references.old starts.old items.old forces.old) result velocities.new pairs.new references.new starts.new items.new forces.new }
 {
     let units = setting.units;
     let e = evaluate::kernel::settle(
-        setting, s, own_ids, own_params, ids, params, species, charges, bonds, lengths, ks, angles,
-        per_angle, positions, exclusions, pairs, references, starts, items, forces,
+        setting, s, molecule, positions, exclusions, pairs, references, starts, items, forces,
     );
     second_kick(e, potential, units, dt, forces, masses, velocities)
 }
@@ -89,17 +77,7 @@ pub fn advance(
     dt: f64,
     s: State,
     potential: f64,
-    own_ids: &[u32],
-    own_params: &[f64],
-    ids: &[u32],
-    params: &[f64],
-    species: &[u32],
-    charges: &[f64],
-    bonds: &[u32],
-    lengths: &[f64],
-    ks: &[f64],
-    angles: &[u32],
-    per_angle: &[f64],
+    molecule: &Molecule,
     masses: &[f64],
     exclusions: &[u32],
     positions: &mut [f64],
@@ -110,7 +88,7 @@ pub fn advance(
     items: &mut [u32],
     forces: &mut [f64],
 ) -> Stepped
-    ensures { AdvanceSays (motion_of setting dt s potential (tables own_ids.now own_params.now ids.now params.now) species.now charges.now bonds.now lengths.now ks.now angles.now per_angle.now masses.now exclusions.now positions.old velocities.old pairs.old references.old starts.old items.old forces.old) result positions.new velocities.new pairs.new references.new starts.new items.new forces.new }
+    ensures { AdvanceSays (motion_on setting dt s potential molecule.now masses.now exclusions.now positions.old velocities.old pairs.old references.old starts.old items.old forces.old) result positions.new velocities.new pairs.new references.new starts.new items.new forces.new }
 {
     let units = setting.units;
     if !moves::drifts(units, dt, forces, masses, positions, velocities) {
@@ -118,8 +96,7 @@ pub fn advance(
     }
     moves::kick_and_drift(units, dt, forces, masses, positions, velocities);
     land(
-        setting, dt, s, potential, own_ids, own_params, ids, params, species, charges, bonds,
-        lengths, ks, angles, per_angle, masses, exclusions, positions, velocities, pairs,
+        setting, dt, s, potential, molecule, masses, exclusions, positions, velocities, pairs,
         references, starts, items, forces,
     )
 }

@@ -3,7 +3,7 @@
 #![tactic(auto)]
 
 use answer::Refusal;
-use evaluate::Setting;
+use evaluate::{Molecule, Setting};
 use neighbor::State;
 use verlet::Thermostat;
 
@@ -11,8 +11,7 @@ mod asked;
 mod ends;
 pub mod kernel;
 
-ghost use Rattle.potentials_pair.specs.Species.{tables};
-ghost use Rattle.verlet_step.specs.Calls.{motion_of, StepSays, FinishSays, StepLists};
+ghost use Rattle.verlet_step.specs.Calls.{motion_on, StepSays, FinishSays, StepLists};
 
 // How a step goes on in time.
 #[derive(Clone, Copy)]
@@ -32,23 +31,13 @@ pub struct Stepped {
     pub potential: f64,
 }
 
-// One step; refusals 1, 2, 6, 3, 4, 5, the drift, 7, 8. `forces` and `potential` are those at the positions, `params`, `lengths` and `ks` as in `evaluate`.
+// One step; refusals 1, 2, 6, 3, 4, 5, the drift, 7, 8. `forces` and `potential` are those at the positions.
 pub fn step(
     setting: Setting,
     pace: Pace,
     s: State,
     potential: f64,
-    own_ids: &[u32],
-    own_params: &[f64],
-    ids: &[u32],
-    params: &[f64],
-    species: &[u32],
-    charges: &[f64],
-    bonds: &[u32],
-    lengths: &[f64],
-    ks: &[f64],
-    angles: &[u32],
-    per_angle: &[f64],
+    molecule: &Molecule,
     masses: &[f64],
     exclusions: &[u32],
     positions: &mut [f64],
@@ -59,8 +48,8 @@ pub fn step(
     items: &mut [u32],
     forces: &mut [f64],
 ) -> Stepped
-    ensures says { StepSays pace.thermostat (motion_of setting pace.dt s potential (tables own_ids.now own_params.now ids.now params.now) species.now charges.now bonds.now lengths.now ks.now angles.now per_angle.now masses.now exclusions.now positions.old velocities.old pairs.old references.old starts.old items.old forces.old) result positions.new velocities.new pairs.new references.new starts.new items.new forces.new }
-    ensures lists { StepLists (motion_of setting pace.dt s potential (tables own_ids.now own_params.now ids.now params.now) species.now charges.now bonds.now lengths.now ks.now angles.now per_angle.now masses.now exclusions.now positions.old velocities.old pairs.old references.old starts.old items.old forces.old) result positions.new pairs.new }
+    ensures says { StepSays pace.thermostat (motion_on setting pace.dt s potential molecule.now masses.now exclusions.now positions.old velocities.old pairs.old references.old starts.old items.old forces.old) result positions.new velocities.new pairs.new references.new starts.new items.new forces.new }
+    ensures lists { StepLists (motion_on setting pace.dt s potential molecule.now masses.now exclusions.now positions.old velocities.old pairs.old references.old starts.old items.old forces.old) result positions.new pairs.new }
 {
     let a = asked::asked(
         cell::ranged::ENTRY,
@@ -68,17 +57,7 @@ pub fn step(
         pace,
         s,
         potential,
-        own_ids,
-        own_params,
-        ids,
-        params,
-        species,
-        charges,
-        bonds,
-        lengths,
-        ks,
-        angles,
-        per_angle,
+        molecule,
         masses,
         exclusions,
         positions,
@@ -93,8 +72,7 @@ pub fn step(
         return ends::unmoved(s, potential, why);
     }
     let r = kernel::advance(
-        setting, pace.dt, s, potential, own_ids, own_params, ids, params, species, charges, bonds,
-        lengths, ks, angles, per_angle, masses, exclusions, positions, velocities, pairs,
+        setting, pace.dt, s, potential, molecule, masses, exclusions, positions, velocities, pairs,
         references, starts, items, forces,
     );
     let units = setting.units;
@@ -108,17 +86,7 @@ pub fn finish(
     pace: Pace,
     s: State,
     potential: f64,
-    own_ids: &[u32],
-    own_params: &[f64],
-    ids: &[u32],
-    params: &[f64],
-    species: &[u32],
-    charges: &[f64],
-    bonds: &[u32],
-    lengths: &[f64],
-    ks: &[f64],
-    angles: &[u32],
-    per_angle: &[f64],
+    molecule: &Molecule,
     masses: &[f64],
     exclusions: &[u32],
     positions: &[f64],
@@ -129,8 +97,8 @@ pub fn finish(
     items: &mut [u32],
     forces: &mut [f64],
 ) -> Stepped
-    ensures says { FinishSays pace.thermostat (motion_of setting pace.dt s potential (tables own_ids.now own_params.now ids.now params.now) species.now charges.now bonds.now lengths.now ks.now angles.now per_angle.now masses.now exclusions.now positions.now velocities.old pairs.old references.old starts.old items.old forces.old) result velocities.new pairs.new references.new starts.new items.new forces.new }
-    ensures lists { StepLists (motion_of setting pace.dt s potential (tables own_ids.now own_params.now ids.now params.now) species.now charges.now bonds.now lengths.now ks.now angles.now per_angle.now masses.now exclusions.now positions.now velocities.old pairs.old references.old starts.old items.old forces.old) result positions.now pairs.new }
+    ensures says { FinishSays pace.thermostat (motion_on setting pace.dt s potential molecule.now masses.now exclusions.now positions.now velocities.old pairs.old references.old starts.old items.old forces.old) result velocities.new pairs.new references.new starts.new items.new forces.new }
+    ensures lists { StepLists (motion_on setting pace.dt s potential molecule.now masses.now exclusions.now positions.now velocities.old pairs.old references.old starts.old items.old forces.old) result positions.now pairs.new }
 {
     let a = asked::asked(
         cell::ranged::OTHER,
@@ -138,17 +106,7 @@ pub fn finish(
         pace,
         s,
         potential,
-        own_ids,
-        own_params,
-        ids,
-        params,
-        species,
-        charges,
-        bonds,
-        lengths,
-        ks,
-        angles,
-        per_angle,
+        molecule,
         masses,
         exclusions,
         positions,
@@ -164,9 +122,8 @@ pub fn finish(
     }
     let r = kernel::land(
         setting, pace.dt, // as the stopped step had it
-        s, potential, own_ids, own_params, ids, params, species, charges, bonds, lengths, ks,
-        angles, per_angle, masses, exclusions, positions, velocities, pairs, references, starts,
-        items, forces,
+        s, potential, molecule, masses, exclusions, positions, velocities, pairs, references,
+        starts, items, forces,
     );
     let units = setting.units;
     ends::cool(r, units, pace, masses, velocities);

@@ -9,13 +9,10 @@ use Rattle.clumps_answer.proofs.members.Goals as goal
 
 pub loop-label-init : goal.loop-label-init
 unfolding members_of
-loop-label-init c = (omega arith, omega arith, omega arith)
-
-pub overflow_add-n : goal.overflow_add-n
-overflow_add-n c = omega (arith, one_at_most (eqb c.wide.result c.args.low) c.one-n.result c.one-n.ensures)
+loop-label-init c = (omega arith, omega arith)
 
 pub loop-label-preserved : goal.loop-label-preserved
-loop-label-preserved c = (omega arith, omega (arith, one_at_most (eqb c.wide.result c.args.low) c.one-n.result c.one-n.ensures), member_turn c.args.labels.now c.args.low c.loop-label.label-index c.loop-label.n c.one-n.result c.loop-label-test.true (c.one-n.ensures ∙ ap (λ k. cond (eqb k c.args.low) 1 0) c.wide.ensures) c.loop-label.invariant.2)
+loop-label-preserved c = (omega (arith, one_at_most (eqb c.wide.result c.args.low) c.one-n.result c.one-n.ensures), member_turn c.args.labels.now c.args.low c.loop-label.label-index c.loop-label.n c.one-n.result c.loop-label-test.true (c.one-n.ensures ∙ ap (λ k. cond (eqb k c.args.low) 1 0) c.wide.ensures) c.loop-label.invariant.1)
 
 pub returns : goal.returns
-returns c = omega (arith, c.loop-label.invariant.2, many_past 0 c.args.labels.now c.loop-label.label-index (λ l. eqb l c.args.low) c.loop-label-test.false)
+returns c = omega (arith, c.loop-label.invariant.1, many_past 0 c.args.labels.now c.loop-label.label-index (λ l. eqb l c.args.low) c.loop-label-test.false)

@@ -2,22 +2,22 @@ use Rattle.hexadecimal.specs.Digits.{digit_of}
 use borrow.Author.Tests.{lt-ltb, le-ltb}
 use Rattle.hexadecimal.proofs.digit.Goals as goal
 
-pub returns-then-b-lt48 : goal.returns-then-b-lt48
+pub returns-then-b-lt48-clause-value : goal.returns-then-b-lt48-clause-value
 unfolding digit_of
-returns-then-b-lt48 c = simp (lt-ltb _ _ c.if-b-lt48.true)
+returns-then-b-lt48-clause-value c = simp (lt-ltb _ _ c.if-b-lt48.true)
 
-pub returns-then-b-lt58 : goal.returns-then-b-lt58
+pub returns-then-b-lt58-clause-value : goal.returns-then-b-lt58-clause-value
 unfolding digit_of
-returns-then-b-lt58 c = simp (le-ltb _ _ c.if-b-lt48.false, lt-ltb _ _ c.if-b-lt58.true)
+returns-then-b-lt58-clause-value c = simp (le-ltb _ _ c.if-b-lt48.false, lt-ltb _ _ c.if-b-lt58.true)
 
-pub returns-then-b-lt97 : goal.returns-then-b-lt97
+pub returns-then-b-lt97-clause-value : goal.returns-then-b-lt97-clause-value
 unfolding digit_of
-returns-then-b-lt97 c = simp (le-ltb _ _ c.if-b-lt48.false, le-ltb _ _ c.if-b-lt58.false, lt-ltb _ _ c.if-b-lt97.true)
+returns-then-b-lt97-clause-value c = simp (le-ltb _ _ c.if-b-lt48.false, le-ltb _ _ c.if-b-lt58.false, lt-ltb _ _ c.if-b-lt97.true)
 
-pub returns-then-b-lt103 : goal.returns-then-b-lt103
+pub returns-then-b-lt103-clause-value : goal.returns-then-b-lt103-clause-value
 unfolding digit_of
-returns-then-b-lt103 c = simp (le-ltb _ _ c.if-b-lt48.false, le-ltb _ _ c.if-b-lt58.false, le-ltb _ _ c.if-b-lt97.false, lt-ltb _ _ c.if-b-lt103.true)
+returns-then-b-lt103-clause-value c = simp (le-ltb _ _ c.if-b-lt48.false, le-ltb _ _ c.if-b-lt58.false, le-ltb _ _ c.if-b-lt97.false, lt-ltb _ _ c.if-b-lt103.true)
 
-pub returns-else-b-lt103 : goal.returns-else-b-lt103
+pub returns-else-b-lt103-clause-value : goal.returns-else-b-lt103-clause-value
 unfolding digit_of
-returns-else-b-lt103 c = simp (le-ltb _ _ c.if-b-lt48.false, le-ltb _ _ c.if-b-lt58.false, le-ltb _ _ c.if-b-lt97.false, le-ltb _ _ c.if-b-lt103.false)
+returns-else-b-lt103-clause-value c = simp (le-ltb _ _ c.if-b-lt48.false, le-ltb _ _ c.if-b-lt58.false, le-ltb _ _ c.if-b-lt97.false, le-ltb _ _ c.if-b-lt103.false)

@@ -12,7 +12,7 @@ pub returns-then-exclusions-lt2048 : goal.returns-then-exclusions-lt2048
 returns-then-exclusions-lt2048 c = no_rows c.args.input.now c.args.coordinates.now c.args.exclusions.now c.if-input-gt65536.false c.if-coordinates-lt3072.false c.if-exclusions-lt2048.true
 
 pub settle-requires : goal.settle-requires
-settle-requires c = (rw c.in_ok-desk.was at c.read_lines.ensures.fit_kept, c.read_lines.auto.coords, c.read_lines.auto.seen, c.if-coordinates-lt3072.false, c.if-exclusions-lt2048.false)
+settle-requires c = (rw c.in_ok-desk.was at c.read_lines.ensures.fit_kept, c.if-coordinates-lt3072.false, c.if-exclusions-lt2048.false)
 
 pub returns : goal.returns
 returns c = read_whole c.args.input.now c.args.coordinates.now c.args.exclusions.now c.if-input-gt65536.false c.if-coordinates-lt3072.false c.if-exclusions-lt2048.false _ _ (rw c.in_ok-desk.was at c.read_lines.ensures.table_after) c.settle.ensures

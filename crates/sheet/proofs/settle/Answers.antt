@@ -5,7 +5,7 @@ use native.Mathlib.Omega.{arith}
 use Rattle.sheet.proofs.settle.Goals as goal
 
 pub copy_in-requires : goal.copy_in-requires
-copy_in-requires c = let f = sound_few (header_for c.args.desk) c.args.marks.now _ (rw c.in_ok-head.was at c.judge.ensures) in (omega (arith, f, c.requires.1), omega (arith, f, c.requires.3))
+copy_in-requires c = let f = sound_few (header_for c.args.desk) c.args.marks.now _ (rw c.in_ok-head.was at c.judge.ensures) in (omega (arith, f, c.well_formed), omega (arith, f, c.requires.1))
 
 pub returns : goal.returns
 returns c = settled c.args.desk c.args.coords.now c.args.marks.now c.args.table.now c.args.coordinates.now c.args.exclusions.now _ c.job_of.result c.copy_in.new.to c.copy_in-2.new.to c.requires.0 (rw c.in_ok-head.was at c.judge.ensures) c.job_of.ensures c.copy_in.ensures c.copy_in-2.ensures

@@ -1,19 +1,21 @@
 use Rattle.sheet_lines.specs.Reading.{exclusion_of}
-use borrow.Author.Tests.{lt-ltb, le-ltb, eq-eqb, ne_eqb}
+use Prim.Native.Nat.{◌^◌}
+use borrow.Author.Tests.{lt-ltb, eq-eqb, ne_eqb}
+use native.Mathlib.Omega.{arith}
 use Rattle.sheet_lines.proofs.exclusion_of.Goals as goal
 
-pub returns-then-end-eq10 : goal.returns-then-end-eq10
+pub returns-in_default : goal.returns-in_default
 unfolding exclusion_of
-returns-then-end-eq10 c = simp (lt-ltb _ _ c.if-a-lt65536.true, lt-ltb _ _ c.if-b-lt65536.true, eq-eqb _ _ c.if-end-eq10.true)
+returns-in_default c = simp c.in_default.is
 
-pub returns-else-end-eq10 : goal.returns-else-end-eq10
+pub returns-in_default-b : goal.returns-in_default-b
 unfolding exclusion_of
-returns-else-end-eq10 c = simp (lt-ltb _ _ c.if-a-lt65536.true, lt-ltb _ _ c.if-b-lt65536.true, ne_eqb _ _ c.if-end-eq10.false)
+returns-in_default-b c = simp (c.in-Some.is, c.in_default-b.is, lt-ltb c.in-Some.first (2 ^ 16) (omega arith))
 
-pub returns-else-b-lt65536 : goal.returns-else-b-lt65536
+pub returns-then-end-ne10 : goal.returns-then-end-ne10
 unfolding exclusion_of
-returns-else-b-lt65536 c = simp (lt-ltb _ _ c.if-a-lt65536.true, le-ltb _ _ c.if-b-lt65536.false)
+returns-then-end-ne10 c = simp (c.in-Some.is, c.in-Some-b.is, lt-ltb c.in-Some.first (2 ^ 16) (omega arith), lt-ltb c.in-Some-b.second (2 ^ 16) (omega arith), ne_eqb _ _ c.if-end-ne10.true)
 
-pub returns-else-a-lt65536 : goal.returns-else-a-lt65536
+pub returns : goal.returns
 unfolding exclusion_of
-returns-else-a-lt65536 c = simp (le-ltb _ _ c.if-a-lt65536.false)
+returns c = simp (c.in-Some.is, c.in-Some-b.is, lt-ltb c.in-Some.first (2 ^ 16) (omega arith), lt-ltb c.in-Some-b.second (2 ^ 16) (omega arith), eq-eqb _ _ c.if-end-ne10.false)

@@ -1,19 +1,21 @@
 use Rattle.sheet_lines.specs.Reading.{three_of}
-use borrow.Author.Tests.{lt-ltb, le-ltb}
+use Prim.Native.Nat.{◌^◌}
+use borrow.Author.Tests.{lt-ltb}
+use native.Mathlib.Omega.{arith}
 use Rattle.sheet_lines.proofs.three_of.Goals as goal
 
-pub returns-then-z-lt4294967296 : goal.returns-then-z-lt4294967296
+pub returns-in_err-x : goal.returns-in_err-x
 unfolding three_of
-returns-then-z-lt4294967296 c = simp (lt-ltb _ _ c.if-x-lt4294967296.true, lt-ltb _ _ c.if-y-lt4294967296.true, lt-ltb _ _ c.if-z-lt4294967296.true)
+returns-in_err-x c = rw c.from_residual.ensures (simp c.in_err-x.was)
 
-pub returns-else-z-lt4294967296 : goal.returns-else-z-lt4294967296
+pub returns-in_err-y : goal.returns-in_err-y
 unfolding three_of
-returns-else-z-lt4294967296 c = simp (lt-ltb _ _ c.if-x-lt4294967296.true, lt-ltb _ _ c.if-y-lt4294967296.true, le-ltb _ _ c.if-z-lt4294967296.false)
+returns-in_err-y c = rw c.from_residual-in_err-y.ensures (simp (c.in_ok-x.was, c.in_err-y.was, lt-ltb c.in_ok-x.field-0 (2 ^ 32) (omega arith)))
 
-pub returns-else-y-lt4294967296 : goal.returns-else-y-lt4294967296
+pub returns-in_err-z : goal.returns-in_err-z
 unfolding three_of
-returns-else-y-lt4294967296 c = simp (lt-ltb _ _ c.if-x-lt4294967296.true, le-ltb _ _ c.if-y-lt4294967296.false)
+returns-in_err-z c = rw c.from_residual-in_err-z.ensures (simp (c.in_ok-x.was, c.in_ok-y.was, c.in_err-z.was, lt-ltb c.in_ok-x.field-0 (2 ^ 32) (omega arith), lt-ltb c.in_ok-y.field-0 (2 ^ 32) (omega arith)))
 
-pub returns-else-x-lt4294967296 : goal.returns-else-x-lt4294967296
+pub returns : goal.returns
 unfolding three_of
-returns-else-x-lt4294967296 c = simp (le-ltb _ _ c.if-x-lt4294967296.false)
+returns c = simp (c.in_ok-x.was, c.in_ok-y.was, c.in_ok-z.was, lt-ltb c.in_ok-x.field-0 (2 ^ 32) (omega arith), lt-ltb c.in_ok-y.field-0 (2 ^ 32) (omega arith), lt-ltb c.in_ok-z.field-0 (2 ^ 32) (omega arith))

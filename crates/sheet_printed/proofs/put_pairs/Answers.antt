@@ -1,7 +1,7 @@
 use Prim.Native.Nat.{◌+◌, ◌*◌}
 use Rattle.lists.specs.Lists.{each}
 use Rattle.sheet_printed.proofs.Parts.{one_pair}
-use Rattle.sheet_printed.specs.Printed.{pair_lines}
+use Rattle.sheet_printed.specs.Printed.{pair_line, pair_lines}
 use lib.ListN.{get_or}
 use mathlib.Core.Path.{refl}
 use native.Mathlib.Omega.{arith}
@@ -12,4 +12,5 @@ unfolding pair_lines each
 loop-i-init c = refl
 
 pub loop-i-preserved : goal.loop-i-preserved
-loop-i-preserved c = one_pair c.args.pairs.now c.args.out.now c.loop-i.out c.put_pair.new.out 21 c.loop-i.i (get_or c.args.pairs.now (2 * c.loop-i.i) 0) (get_or c.args.pairs.now (2 * c.loop-i.i + 1) 0) (omega arith) refl refl c.loop-i.invariant c.put_pair.ensures
+unfolding pair_line
+loop-i-preserved c = one_pair c.args.pairs.now c.args.out.now c.loop-i.out c.put_two.new.out 21 c.loop-i.i (get_or c.args.pairs.now (2 * c.loop-i.i) 0) (get_or c.args.pairs.now (2 * c.loop-i.i + 1) 0) (omega arith) refl refl c.loop-i.invariant c.put_two.ensures

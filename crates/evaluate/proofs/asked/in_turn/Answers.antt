@@ -1,9 +1,8 @@
 use Rattle.evaluate.specs.Asked.{in_turn}
-use Rattle.neighbor_asked.proofs.Turns.{then_refused, then_on}
 use Rattle.neighbor_asked.specs.Asked.{first_refusal}
 use Rattle.std.proofs.lemmas.Result.{err_from_is_err_and}
 use borrow.Author.Tests.{not-true, not-false}
-use Rattle.std.proofs.Common.{ap, not, ◌∙◌}
+use Rattle.std.proofs.Common.{ap, not}
 use Rattle.evaluate.proofs.asked.in_turn.Goals as goal
 
 pub returns-then-not-fits : goal.returns-then-not-fits

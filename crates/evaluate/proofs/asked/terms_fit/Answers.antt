@@ -1,6 +1,5 @@
 use Rattle.evaluate.specs.Asked.{terms_fit}
-use mathlib.Core.Path.{refl}
 use Rattle.evaluate.proofs.asked.terms_fit.Goals as goal
 
 pub returns : goal.returns
-returns c = unfold terms_fit in refl
+returns c = unfold terms_fit in rw (← c.tables_fit.ensures)

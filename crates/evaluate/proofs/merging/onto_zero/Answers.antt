@@ -7,11 +7,11 @@ use mathlib.Core.Path.{refl, ◌∙◌}
 use native.Mathlib.Omega.{arith}
 use Rattle.evaluate.proofs.merging.onto_zero.Goals as goal
 
-pub loop-k-init : goal.loop-k-init
-loop-k-init c = (search rules, refl, part_none _ nan _)
+pub loop-force-init : goal.loop-force-init
+loop-force-init c = part_none _ nan _
 
-pub loop-k-preserved : goal.loop-k-preserved
-loop-k-preserved c = (search rules, simp length-set c.loop-k.invariant.1, part_turn onto_zero nan c.loop-k.k c.args.forces.now (search rules) c.loop-k.invariant.2 refl)
+pub loop-force-preserved : goal.loop-force-preserved
+loop-force-preserved c = part_turn onto_zero nan c.loop-force.force-index c.args.forces.now (omega arith) c.loop-force.invariant refl
 
 pub returns : goal.returns
-returns c = part_done onto_zero nan c.loop-k.k _ (omega arith) c.loop-k.invariant.2 ∙ onto_zeros 0 _
+returns c = part_done onto_zero nan c.loop-force.force-index _ (omega arith) c.loop-force.invariant ∙ onto_zeros 0 _

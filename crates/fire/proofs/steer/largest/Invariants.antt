@@ -1,4 +1,4 @@
-use Prim.Native.Nat.{◌≤◌, ◌-◌}
+use Prim.Native.Nat.{◌≤◌}
 use Rattle.fire.specs.Steer.{larger_at}
 use Rattle.float.specs.Literals.{f0}
 use Rattle.lists.specs.Loops.{fold_up_to}

@@ -1,4 +1,4 @@
-use Prim.Native.Nat.{◌≤◌, ◌-◌}
+use Prim.Native.Nat.{◌≤◌}
 use Rattle.fire.specs.Steer.{blend_at}
 use Rattle.lists.specs.Loops.{part_at}
 use lib.ListN.{length}

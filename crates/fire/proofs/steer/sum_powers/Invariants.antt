@@ -1,4 +1,4 @@
-use Prim.Native.Nat.{◌≤◌, ◌-◌, ◌/◌, min}
+use Prim.Native.Nat.{◌≤◌, ◌/◌, min}
 use Rattle.fire.specs.Steer.{powered_at, no_powers}
 use Rattle.lists.specs.Loops.{fold_up_to}
 use lib.ListN.{length}

@@ -31,7 +31,7 @@ pub loop-b-smaller : goal.loop-b-smaller
 loop-b-smaller c = omega (arith, c.loop-b-test.true, c.block_end-to.ensures.0, c.block_end-to.ensures.1)
 
 pub loop-b-preserved : goal.loop-b-preserved
-loop-b-preserved c = (c.block_end-to.ensures.1, c.sift-n.auto.atoms ∙ c.loop-b.invariant.1, c.sift-n.auto.apart ∙ c.loop-b.invariant.2, c.sift-n.auto.two ∙ c.loop-b.invariant.3, c.pull_all.auto.roots ∙ c.estimate_all.auto.roots ∙ c.loop-b.invariant.4, c.pull_all.auto.pulls ∙ c.loop-b.invariant.5, c.add_all-s.auto.forces ∙ c.loop-b.invariant.6, block_turn (up_to (length (rows c.args.table.now))) c.loop-b.invariant.7 c.sift-n.ensures (bonded_sum c.sift-n.new.apart c.sift-n.new.two c.sift-n.new.atoms c.pull_all.new.roots c.pull_all.new.pulls c.sift-n.result c.pull_all.ensures (held c.loop-b.s c.loop-b.forces) c.add_all-s.ensures))
+loop-b-preserved c = (c.block_end-to.ensures.1, c.sift-n.auto.atoms ∙ c.loop-b.invariant.1, c.sift-n.auto.apart ∙ c.loop-b.invariant.2, c.sift-n.auto.two ∙ c.loop-b.invariant.3, c.pull_all.auto.roots ∙ c.estimate_all.auto.roots ∙ c.loop-b.invariant.4, c.pull_all.auto.pulls ∙ c.loop-b.invariant.5, c.add_all-s.auto.forces ∙ c.loop-b.invariant.6, block_turn (up_to (length (rows c.args.bonds.now.ends.now))) c.loop-b.invariant.7 c.sift-n.ensures (bonded_sum c.sift-n.new.apart c.sift-n.new.two c.sift-n.new.atoms c.pull_all.new.roots c.pull_all.new.pulls c.sift-n.result c.pull_all.ensures (held c.loop-b.s c.loop-b.forces) c.add_all-s.ensures))
 
 pub shape_of-atoms : goal.shape_of-atoms
 shape_of-atoms c = c.loop-b.invariant.1
@@ -52,4 +52,4 @@ pub shape_of-forces : goal.shape_of-forces
 shape_of-forces c = c.loop-b.invariant.6
 
 pub returns : goal.returns
-returns c = numbers_over (length (rows c.args.table.now)) (omega (arith, length_rows c.args.table.now, c.loop-b-test.false)) c.loop-b.invariant.7
+returns c = numbers_over (length (rows c.args.bonds.now.ends.now)) (omega (arith, length_rows c.args.bonds.now.ends.now, c.loop-b-test.false)) c.loop-b.invariant.7

@@ -2,16 +2,10 @@ use Prim.Native.Nat.{◌<◌}
 use Rattle.sheet.proofs.Keeping.{get_d_any}
 use Rattle.sheet.specs.Meaning.{placed}
 use borrow.Author.Tests.{eq-eqb, ne_eqb}
-use lib.ListN.{length, length-set}
+use lib.ListN.{length}
 use mathlib.Core.Path.{refl, ◌∙◌}
 use native.Mathlib.Omega.{arith}
 use Rattle.sheet.proofs.desk.keep_atom.Goals as goal
-
-pub bounds-coords-number-then-mark-eq0 : goal.bounds-coords-number-then-mark-eq0
-bounds-coords-number-then-mark-eq0 c = simp length-set (omega arith)
-
-pub bounds-coords-number-then-mark-eq0-2 : goal.bounds-coords-number-then-mark-eq0-2
-bounds-coords-number-then-mark-eq0-2 c = simp length-set (omega arith)
 
 pub returns-then-mark-eq0 : goal.returns-then-mark-eq0
 unfolding placed

@@ -1,50 +1,10 @@
-use Rattle.answer.proofs.Passed.{passed_up}
-use Rattle.sheet.proofs.Keeping.{below_line}
-use Rattle.sheet.proofs.Turns.{halfway_start, kept_wide, halfway_next, halfway_stop, halfway_end}
-use mathlib.Core.Path.{sym, ◌∙◌}
-use native.Mathlib.Omega.{arith}
+use Rattle.sheet.proofs.Turns.{line_told, lines_by}
+use Rattle.sheet_lines.specs.Reading.{lines_from, lines_of}
 use Rattle.sheet.proofs.desk.read_lines.Goals as goal
 
-pub loop-at-init : goal.loop-at-init
-loop-at-init c = halfway_start c.args.s.now c.args.coords.now c.args.seen.now c.args.table.now c.blank-desk.result c.requires.0 c.requires.1 c.requires.2 c.blank-desk.ensures
+pub read_by-requires-clause-told : goal.read_by-requires-clause-told
+read_by-requires-clause-told c = λ at l w h e. line_told c.args.s.now at l w e
 
-pub overflow_add-n : goal.overflow_add-n
-overflow_add-n c = omega (arith, c.loop-at.invariant.within, c.loop-at-test.true, c.well_formed)
-
-pub keep-requires : goal.keep-requires
-keep-requires c = (rw c.line_at-line.ensures (below_line _ _), c.loop-at.invariant.fit, c.loop-at.invariant.size, c.loop-at.invariant.marked)
-
-pub overflow_add-at : goal.overflow_add-at
-overflow_add-at c = omega (arith, (kept_wide c.loop-at.invariant c.line_at-line.result c.width-wide.result c.loop-at-test.true c.line_at-line.ensures c.width-wide.ensures c.keep.result c.keep.new.coords c.keep.new.seen c.keep.new.table c.keep.ensures.table_after _ c.in_ok-desk.was).1, c.loop-at-test.true, c.well_formed)
-
-pub loop-at-smaller : goal.loop-at-smaller
-loop-at-smaller c = omega (arith, (kept_wide c.loop-at.invariant c.line_at-line.result c.width-wide.result c.loop-at-test.true c.line_at-line.ensures c.width-wide.ensures c.keep.result c.keep.new.coords c.keep.new.seen c.keep.new.table c.keep.ensures.table_after _ c.in_ok-desk.was).0, c.loop-at-test.true)
-
-pub loop-at-preserved : goal.loop-at-preserved
-loop-at-preserved c = halfway_next c.loop-at.invariant c.line_at-line.result c.width-wide.result c.loop-at-test.true c.line_at-line.ensures c.width-wide.ensures c.keep.result c.keep.new.coords c.keep.new.seen c.keep.new.table c.keep.ensures.table_after _ c.in_ok-desk.was c.keep.ensures.fit_kept c.keep.auto.coords c.keep.auto.seen
-
-pub shape_of-coords-in_err-desk : goal.shape_of-coords-in_err-desk
-shape_of-coords-in_err-desk c = c.keep.auto.coords ∙ (c.loop-at.invariant.size ∙ sym c.requires.0)
-
-pub shape_of-seen-in_err-desk : goal.shape_of-seen-in_err-desk
-shape_of-seen-in_err-desk c = c.keep.auto.seen ∙ (c.loop-at.invariant.marked ∙ sym c.requires.1)
-
-pub shape_of-table-in_err-desk : goal.shape_of-table-in_err-desk
-shape_of-table-in_err-desk c = c.keep.auto.table ∙ (c.loop-at.invariant.fit.size ∙ sym c.requires.2)
-
-pub returns-in_err-desk : goal.returns-in_err-desk
-returns-in_err-desk c =
-    let r = passed_up c.from_residual.result c.in_err-desk.field-0.0 c.from_residual.ensures.1 in
-    record { table_after = rw r (halfway_stop c.loop-at.invariant c.line_at-line.result c.width-wide.result c.loop-at-test.true c.line_at-line.ensures c.width-wide.ensures c.keep.result c.keep.new.coords c.keep.new.seen c.keep.new.table c.keep.ensures.table_after _ c.in_err-desk.was); fit_kept = rw r tt }
-
-pub shape_of-coords : goal.shape_of-coords
-shape_of-coords c = c.loop-at.invariant.size ∙ sym c.requires.0
-
-pub shape_of-seen : goal.shape_of-seen
-shape_of-seen c = c.loop-at.invariant.marked ∙ sym c.requires.1
-
-pub shape_of-table : goal.shape_of-table
-shape_of-table c = c.loop-at.invariant.fit.size ∙ sym c.requires.2
-
-pub returns : goal.returns
-returns c = record { table_after = halfway_end c.args.s.now c.args.coords.now c.args.seen.now c.loop-at.coords c.loop-at.seen c.loop-at.table c.loop-at.desk c.loop-at.at c.loop-at.n c.loop-at.invariant c.loop-at-test.false; fit_kept = c.loop-at.invariant.fit }
+pub returns-clause-table_after : goal.returns-clause-table_after
+unfolding lines_of
+returns-clause-table_after c = c.read_by.ensures.table_after (λ f at. lines_from f c.args.s.now at) (lines_by c.args.s.now _ (λ at l w e. e))

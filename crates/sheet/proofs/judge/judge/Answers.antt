@@ -1,7 +1,7 @@
 use Rattle.sheet.proofs.judge.judge.Goals as goal
 
-pub returns-then-desk : goal.returns-then-desk
-returns-then-desk c = rw c.if-desk.true c.count_of.ensures
-
 pub returns : goal.returns
-returns c = rw c.if-desk.false
+returns c = rw c.in-Some.is c.count_of.ensures
+
+pub returns-in_default : goal.returns-in_default
+returns-in_default c = rw c.in_default.is

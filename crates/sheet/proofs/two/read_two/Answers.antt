@@ -20,7 +20,7 @@ returns-in_err-first c =
     rw r (kinds_refused c.args.input.now c.args.coordinates.now c.args.species.now c.args.exclusions.now c.if-input-gt65536.false c.if-coordinates-lt3072.false c.if-species-lt1024.false c.if-exclusions-lt2048.false c.in_err-first.field-0.0 (rw c.in_err-first.was at c.read_twos-first.ensures.table_after))
 
 pub settle_two-requires : goal.settle_two-requires
-settle_two-requires c = (rw c.in_ok-desk.was at c.read_twos.ensures.fit_kept, c.read_twos.auto.coords, c.read_twos.auto.seen, c.read_twos-first.auto.coords, c.if-coordinates-lt3072.false, c.if-species-lt1024.false, c.if-exclusions-lt2048.false)
+settle_two-requires c = (rw c.in_ok-desk.was at c.read_twos.ensures.fit_kept, c.if-coordinates-lt3072.false, c.if-species-lt1024.false, c.if-exclusions-lt2048.false)
 
 pub returns : goal.returns
 returns c = two_whole c.args.input.now c.args.coordinates.now c.args.species.now c.args.exclusions.now c.if-input-gt65536.false c.if-coordinates-lt3072.false c.if-species-lt1024.false c.if-exclusions-lt2048.false _ (rw c.in_ok-first.was at c.read_twos-first.ensures.table_after) _ _ (rw c.in_ok-desk.was at c.read_twos.ensures.table_after) (rw (c.rule_kept.ensures, c.in_ok-first.was) at c.settle_two.ensures)

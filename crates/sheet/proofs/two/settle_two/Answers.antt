@@ -7,7 +7,7 @@ use native.Mathlib.Omega.{arith}
 use Rattle.sheet.proofs.two.settle_two.Goals as goal
 
 pub copy_species-requires : goal.copy_species-requires
-copy_species-requires c = let f = job_few (meaning_for c.args.desk c.args.coords.now c.args.marks.now c.args.table.now) c.in_ok-job.job c.settle.new.coordinates c.settle.new.exclusions c.args.coordinates.now c.args.exclusions.now (rw c.in_ok-job.was at c.settle.ensures) in (omega (arith, f, c.requires.3), omega (arith, f, c.requires.5))
+copy_species-requires c = let f = job_few (meaning_for c.args.desk c.args.coords.now c.args.marks.now c.args.table.now) c.in_ok-job.job c.settle.new.coordinates c.settle.new.exclusions c.args.coordinates.now c.args.exclusions.now (rw c.in_ok-job.was at c.settle.ensures) in (omega (arith, f, c.well_formed), omega (arith, f, c.requires.2))
 
 pub returns : goal.returns
 returns c = settled_two c.args.rule c.args.kinds.now c.args.coordinates.now c.args.species.now c.args.exclusions.now (then_tested (answered (meaning_for c.args.desk c.args.coords.now c.args.marks.now c.args.table.now))) c.in_ok-job.job c.settle.new.coordinates _ c.settle.new.exclusions (rw c.in_ok-job.was at c.settle.ensures) c.copy_species.ensures

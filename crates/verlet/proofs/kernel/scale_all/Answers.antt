@@ -7,12 +7,12 @@ use mathlib.Core.Path.{refl}
 use native.Mathlib.Omega.{arith}
 use Rattle.verlet.proofs.kernel.scale_all.Goals as goal
 
-pub loop-k-init : goal.loop-k-init
-loop-k-init c = (search rules, refl, part_none _ nan _)
+pub loop-v-init : goal.loop-v-init
+loop-v-init c = part_none _ nan _
 
-pub loop-k-preserved : goal.loop-k-preserved
-loop-k-preserved c = (search rules, simp length-set c.loop-k.invariant.1, part_turn (scale_at c.args.s) nan c.loop-k.k c.args.vs.now (search rules) c.loop-k.invariant.2 refl)
+pub loop-v-preserved : goal.loop-v-preserved
+loop-v-preserved c = part_turn (scale_at c.args.s) nan c.loop-v.v-index c.args.vs.now (omega arith) c.loop-v.invariant refl
 
 pub returns : goal.returns
 unfolding scaled_by
-returns c = part_done _ nan c.loop-k.k _ (omega arith) c.loop-k.invariant.2
+returns c = part_done _ nan c.loop-v.v-index _ (omega arith) c.loop-v.invariant

@@ -1,12 +1,11 @@
-use Rattle.potentials_pair.specs.Species.{tables}
 use Rattle.verlet_step.proofs.Landing.{advanced_refused, advanced_on}
-use Rattle.verlet_step.specs.Calls.{Motion, motion_of}
+use Rattle.verlet_step.specs.Calls.{Motion, motion_on}
 use borrow.Author.Tests.{not-true, not-false}
 use Rattle.std.proofs.Common.{ap, not}
 use Rattle.verlet_step.proofs.kernel.advance.Goals as goal
 
 pub returns-then-not-drifts : goal.returns-then-not-drifts
-returns-then-not-drifts c = let a = c.args in let m : Motion = motion_of a.setting a.dt a.s a.potential (tables a.own_ids.now a.own_params.now a.ids.now a.params.now) a.species.now a.charges.now a.bonds.now a.lengths.now a.ks.now a.angles.now a.per_angle.now a.masses.now a.exclusions.now a.positions.now a.velocities.now a.pairs.now a.references.now a.starts.now a.items.now a.forces.now in advanced_refused m c.drifts.ensures (not-true c.drifts.result (ap not c.if-not-drifts.true)) c.unmoved.ensures
+returns-then-not-drifts c = let a = c.args in let m : Motion = motion_on a.setting a.dt a.s a.potential a.molecule.now a.masses.now a.exclusions.now a.positions.now a.velocities.now a.pairs.now a.references.now a.starts.now a.items.now a.forces.now in advanced_refused m c.drifts.ensures (not-true c.drifts.result (ap not c.if-not-drifts.true)) c.unmoved.ensures
 
 pub returns : goal.returns
-returns c = let a = c.args in let m : Motion = motion_of a.setting a.dt a.s a.potential (tables a.own_ids.now a.own_params.now a.ids.now a.params.now) a.species.now a.charges.now a.bonds.now a.lengths.now a.ks.now a.angles.now a.per_angle.now a.masses.now a.exclusions.now a.positions.now a.velocities.now a.pairs.now a.references.now a.starts.now a.items.now a.forces.now in advanced_on m c.drifts.ensures (not-false c.drifts.result (ap not c.if-not-drifts.false)) c.kick_and_drift.ensures c.land.ensures
+returns c = let a = c.args in let m : Motion = motion_on a.setting a.dt a.s a.potential a.molecule.now a.masses.now a.exclusions.now a.positions.now a.velocities.now a.pairs.now a.references.now a.starts.now a.items.now a.forces.now in advanced_on m c.drifts.ensures (not-false c.drifts.result (ap not c.if-not-drifts.false)) c.kick_and_drift.ensures c.land.ensures

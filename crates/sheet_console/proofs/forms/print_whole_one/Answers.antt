@@ -1,7 +1,0 @@
-use Rattle.sheet_moved.proofs.Whole.{one_whole}
-use Rattle.sheet_written.specs.Write.{Outcome}
-use mathlib.Core.Path.{ap, ◌∙◌}
-use Rattle.sheet_console.proofs.forms.print_whole_one.Goals as goal
-
-pub returns : goal.returns
-returns c = c.print_one.ensures ∙ ap (λ (o : Outcome). o.out) (one_whole c.args.sheet.now c.args.out.now c.requires)
