@@ -31,7 +31,8 @@ pub struct Cell {
     pub z: u16,
 }
 
-// How the pairs are to be found: all of them tried, by a grid, or not at all where it has too many cells.
+// How the pairs are to be found: all of them tried, by a grid, or not at all where it has too many cells. No `Option`, since there are two ways to have no
+// grid, of which one is a failure.
 #[derive(Drop)]
 pub enum Plan {
     AllPairs,

@@ -197,7 +197,7 @@ pub fn skewed(l: Lattice) -> bool
     (off_diagonal(l) > 1e-9) | (l.a.x <= 0.0) | (l.b.y <= 0.0) | (l.c.z <= 0.0)
 }
 
-fn row_vec(r: [f64; 3]) -> Vec3
+pub fn row_vec(r: [f64; 3]) -> Vec3
     ensures { result ≡ row_vec r }
 {
     Vec3 {

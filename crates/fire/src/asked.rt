@@ -1,6 +1,5 @@
 // What is asked before the first evaluation, in 01's order: an evaluation's tests with those of the options and of the motion. Total.
 ghost use Rattle.std.specs.Prelude.{◌≡◌};
-ghost use Rattle.verlet_step.specs.Asked.{motion_fits};
 ghost use Rattle.fire.specs.Asked.{options_ok, settling_ok};
 ghost use Rattle.fire.specs.Calls.{settling_on, settling_asked};
 
@@ -8,12 +7,6 @@ use crate::FireOptions;
 use answer::Refusal;
 use evaluate::{Molecule, Setting};
 use neighbor::State;
-
-fn motion_fits(positions: usize, velocities: usize, masses: usize) -> bool
-    ensures { result ≡ motion_fits positions velocities masses }
-{
-    (velocities == positions) & (masses == positions / 3)
-}
 
 fn options_ok(o: FireOptions) -> bool
     ensures { result ≡ options_ok o }
@@ -50,7 +43,7 @@ pub(crate) fn asked(
 ) -> Result<(), Refusal>
     ensures { result ≡ settling_asked o (settling_on o setting s molecule.now masses.now exclusions.now positions.now velocities.now pairs.now references.now starts.now items.now forces.now) }
 {
-    let fits = motion_fits(positions.len(), velocities.len(), masses.len());
+    let fits = verlet_step::motion_fits(positions.len(), velocities.len(), masses.len());
     let inside = settling_ok(o, masses, velocities);
     evaluate::asked::asked(
         fits, inside, setting, s, molecule, positions, exclusions, pairs, references, starts,

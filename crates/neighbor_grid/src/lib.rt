@@ -16,7 +16,8 @@ use measuring::measure_of;
 use planning::plan_of;
 
 // How the pairs are to be found: by a grid whose tables are laid, by all pairs, or not at all where there are too many cells. `Unfit` where the
-// atoms are too many, or the items too few for them. `touching` counts the rows of the exclusion table whose two atoms' cells touch.
+// atoms are too many, or the items too few for them. `touching` counts the rows of the exclusion table whose two atoms' cells touch. No
+// `Result`, since two of the cases are no failures.
 #[derive(Drop)]
 pub enum Layout {
     Unfit,

@@ -1,7 +1,6 @@
 // What is asked of a cell and of the atoms once, before any atom is put into its bin.
 ghost use Rattle.std.specs.Prelude.{◌≡◌, ◌/◌, ◌<◌, length, None, Some};
 ghost use Rattle.cell.specs.Vec.{sub_of, dot_of, position_at};
-ghost use Rattle.cell.specs.General.{row_vec};
 ghost use Rattle.neighbor_grid.specs.Grid.{alike, lower_of, upper_of, folded_of, boxed_of, inside_of};
 ghost use Rattle.neighbor_grid.specs.Steps.{bounds_of, fraction_by, measure_of};
 
@@ -110,24 +109,14 @@ fn measure_box(xs: &[f64]) -> Measure
     }
 }
 
-fn row_vec(r: [f64; 3]) -> Vec3
-    ensures { result ≡ row_vec r }
-{
-    Vec3 {
-        x: r[0],
-        y: r[1],
-        z: r[2],
-    }
-}
-
 fn measure_lattice(l: Lattice, xs: &[f64]) -> Measure
     ensures { result ≡ measure_of (Some l) xs.now }
 {
     let m = cell::matrices::inverse(l);
     let ruler = Ruler::Folded {
-        x: row_vec(m[0]),
-        y: row_vec(m[1]),
-        z: row_vec(m[2]),
+        x: cell::kernel::row_vec(m[0]),
+        y: cell::kernel::row_vec(m[1]),
+        z: cell::kernel::row_vec(m[2]),
     };
     Measure {
         singular: cell::matrices::singular(l),

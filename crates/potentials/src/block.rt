@@ -1,13 +1,9 @@
 // A block of pairs in local arrays. What many pairs add is found before the sums, which go one after the other in the list's order: so no pair waits for
 // the one before it, and no branch depends on a distance.
 ghost use Rattle.std.specs.Prelude.{◌≡◌, cond, ◌+◌, ◌*◌, ◌≤◌, ◌<◌, length, set};
-ghost use mathlib.Core.List.{foldl};
-ghost use Rattle.lists.specs.Lists.{up_to};
-ghost use Rattle.potentials_pair.specs.Pull.{held};
-ghost use Rattle.potentials.specs.Blocks.{block_step, scaled_pull, set_vec, Block};
+ghost use Rattle.potentials.specs.Blocks.{set_vec, Block};
 
 use cell::Vec3;
-use virial::Sum;
 
 // Two atoms, three floats and two floats or one a place; in functions of their own, so that no proof writes out their numbers.
 pub(crate) fn blank_atoms() -> [usize; 256]
@@ -77,38 +73,4 @@ pub(crate) fn put(
     apart[3 * c + 2] = d.z;
     two[2 * c] = u;
     two[2 * c + 1] = v;
-}
-
-// What place m adds.
-fn add(m: usize, atoms: &[usize], apart: &[f64], pulls: &[f64], forces: &mut [f64], sum: Sum) -> Sum
-    requires { (m < 128) × Block atoms.now apart.now pulls.now }
-    ensures { held result forces.new ≡ block_step scaled_pull atoms.now apart.now pulls.now (held sum forces.old) m }
-{
-    let d = Vec3 {
-        x: apart[3 * m],
-        y: apart[3 * m + 1],
-        z: apart[3 * m + 2],
-    };
-    let f = cell::vectors::scale(d, pulls[2 * m + 1]);
-    let s = virial::kernel::with_energy(sum, pulls[2 * m]);
-    virial::kernel::add_pair_force(s, forces, atoms[2 * m], atoms[2 * m + 1], d, f)
-}
-
-// What the first n places add, one after the other.
-pub(crate) fn add_all(
-    n: usize,
-    atoms: &[usize],
-    apart: &[f64],
-    pulls: &[f64],
-    forces: &mut [f64],
-    sum: Sum,
-) -> Sum
-    requires { (n ≤ 128) × Block atoms.now apart.now pulls.now }
-    ensures { held result forces.new ≡ foldl (block_step scaled_pull atoms.now apart.now pulls.now) (held sum forces.old) (up_to n) }
-{
-    let mut s = sum;
-    for m in 0..n {
-        s = add(m, atoms, apart, pulls, forces, s);
-    }
-    s
 }

@@ -15,7 +15,7 @@ use answer::Refusal;
 use sheet_lines::Line;
 use sheet_lines_two::{told, two_at, width_two};
 
-// What a sheet says, and its rule, 1 or 2.
+// What a sheet says, and its rule, 1 or 2: a number, as it stands in the file and in the struct for C.
 #[derive(Drop)]
 pub struct RuledJob {
     pub job: Job,

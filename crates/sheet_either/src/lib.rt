@@ -13,7 +13,8 @@ use sheet::{Job, read};
 use sheet_lines::Line;
 use sheet_lines_two::two_at;
 
-// What a sheet says, which form its header has, 1 or 2, and its rule, 1 or 2; a sheet of the first form means rule 1.
+// What a sheet says, which form its header has, 1 or 2, and its rule, 1 or 2; a sheet of the first form means rule 1. Both are numbers, as
+// they stand in the struct for C.
 #[derive(Drop)]
 pub struct Formed {
     pub job: Job,

@@ -8,7 +8,7 @@ use answer::Refusal;
 use evaluate::{Molecule, Setting};
 use neighbor::State;
 
-fn motion_fits(positions: usize, velocities: usize, masses: usize) -> bool
+pub fn motion_fits(positions: usize, velocities: usize, masses: usize) -> bool
     ensures { result ≡ motion_fits positions velocities masses }
 {
     (velocities == positions) & (masses == positions / 3)

@@ -13,6 +13,8 @@ pub mod kernel;
 
 ghost use Rattle.verlet_step.specs.Calls.{motion_on, StepSays, FinishSays, StepLists};
 
+pub use asked::motion_fits;
+
 // How a step goes on in time.
 #[derive(Clone, Copy)]
 pub struct Pace {

@@ -1,7 +1,0 @@
-use Rattle.verlet_step.specs.Asked.{motion_fits}
-use mathlib.Core.Path.{refl}
-use Rattle.fire.proofs.asked.motion_fits.Goals as goal
-
-pub returns : goal.returns
-unfolding motion_fits
-returns c = refl
