@@ -41,7 +41,10 @@ WORDS = ("as break const continue else enum extern false fn for if impl in let l
 def sources(commit):
     """Each file of crates/*/src as (path, text)."""
     if commit:
-        packed = subprocess.run(["git", "archive", commit, "crates"], cwd=ROOT, check=True, capture_output=True).stdout
+        done = subprocess.run(["git", "archive", commit, "crates"], cwd=ROOT, capture_output=True)
+        if done.returncode:
+            sys.exit("forms.py: %s is no commit of this repository that has crates/" % commit)
+        packed = done.stdout
         with tarfile.open(fileobj=io.BytesIO(packed)) as tar:
             for member in sorted(tar.getmembers(), key=lambda m: m.name):
                 if member.isfile() and re.match(r"crates/\w+/src/.*\.rt$", member.name):
@@ -147,6 +150,8 @@ def find(files):
 
 def main():
     args = sys.argv[1:]
+    if args and args[-1] == "--at":
+        sys.exit("forms.py: --at wants a commit after it")
     commit = args[args.index("--at") + 1] if "--at" in args else None
     wanted = [a for a in args if a != "--at" and a != commit]
     found = find(sources(commit))

@@ -60,7 +60,7 @@ class YesNo(Structure):
 
 
 class Rows(Structure):
-    """Three rows of three floats, where they stand beside an answer: no enum holds an array."""
+    """Three rows of three floats."""
 
     _fields_ = [("x", c_double * 3), ("y", c_double * 3), ("z", c_double * 3)]
 
