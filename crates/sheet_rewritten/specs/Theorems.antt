@@ -47,7 +47,7 @@ WritesRead s co ex out =
     3072 ≤ length co → 2048 ≤ length ex → (j : Job) → (reading.read_of s co ex).shown ≡ answered j
     → writing.write_of (frame_for j) (take (3 * j.atoms) (reading.read_of s co ex).coordinates) (take (2 * j.count) (reading.read_of s co ex).exclusions) out ≡ cond (ranges_ok (frame_for j) (take (3 * j.atoms) (reading.read_of s co ex).coordinates)) (writing.laid_in (rewritten s) out) (record { shown = refused 3 0; out = out })
 
--- (Result ℕ Refusal) lines of a written sheet in another order are rewritten to the same bytes.
+-- Whole lines of a written sheet in another order are rewritten to the same bytes.
 abbrev pub AnyOrder : List ℕ → Type 0
 AnyOrder s = Written s → (cs ds : List (List ℕ)) → AllWhole cs → s ≡ join_all cs → Perm cs ds → rewritten (join_all ds) ≡ rewritten s
 
