@@ -33,7 +33,7 @@ pub struct Setting {
 // What an evaluation is computed over besides the positions, as it is lent: the species tables; the species and the charge of each atom; the bonds; the angles.
 #[derive(Clone, Copy)]
 pub struct Molecule<'a> {
-    pub tables: SpeciesTables<'a>,
+    pub tables: SpeciesTables<'a, 'a>,
     pub species: &'a [u32],
     pub charges: &'a [f64],
     pub bonds: BondRows<'a>,

@@ -95,7 +95,7 @@ pub fn lj_all(
 
 // The row of a species, two floats: a part of the desk's own table where it has the species, else of the house's, else empty. Nothing is copied. Empty where
 // `species_row_asked` refuses.
-pub fn species_row<'a>(tables: &SpeciesTables<'a>, species: u32) -> &'a [f64]
+pub fn species_row<'a>(tables: &SpeciesTables<'_, 'a>, species: u32) -> &'a [f64]
     ensures { SpeciesRowSays (tables_of tables.now) species result.now }
 {
     let a = asked::rows_asked(tables);

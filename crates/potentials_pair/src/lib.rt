@@ -39,11 +39,12 @@ pub struct Lj {
     pub rule: Mixing,
 }
 
-// The species tables, a desk's own before the house's, as they are lent: ids ascending, and epsilon and sigma for each id. The Rust's hash map.
+// The species tables, a desk's own before the house's, as they are lent: ids ascending, and epsilon and sigma for each id. The Rust's hash map. A row that is
+// handed out is a part of the numbers, so these may be lent for longer than the ids.
 #[derive(Clone, Copy)]
-pub struct SpeciesTables<'a> {
-    pub own_ids: &'a [u32],
+pub struct SpeciesTables<'i, 'a> {
+    pub own_ids: &'i [u32],
     pub own_params: &'a [f64],
-    pub ids: &'a [u32],
+    pub ids: &'i [u32],
     pub params: &'a [f64],
 }

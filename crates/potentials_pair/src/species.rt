@@ -81,7 +81,7 @@ fn row_in<'a>(ids: &[u32], params: &'a [f64], z: u32) -> &'a [f64]
 }
 
 // The row of species z: a part of the own table, else of the house's, else the empty part.
-pub fn row_of<'a>(tables: &SpeciesTables<'a>, z: u32) -> &'a [f64]
+pub fn row_of<'a>(tables: &SpeciesTables<'_, 'a>, z: u32) -> &'a [f64]
     ensures { result.now ≡ row_by (tables_of tables.now) z }
 {
     let own = row_in(tables.own_ids, tables.own_params, z);

@@ -68,7 +68,7 @@ fn bond() -> Bond {
     Bond { k: 1.0, r0: 1.0 }
 }
 
-fn no_tables() -> SpeciesTables<'static> {
+fn no_tables() -> SpeciesTables<'static, 'static> {
     SpeciesTables {
         own_ids: &[],
         own_params: &[],
