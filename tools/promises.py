@@ -308,7 +308,7 @@ SEEN = {"seen": "seen_only"}
 
 
 def seen_laws(said):
-    return [SEEN[n] for n in re.findall(r"seen\w+", said) if n in SEEN]
+    return [SEEN[n] for n in re.findall(r"\bseen\w*", said) if n in SEEN]
 
 
 def public():

@@ -8,7 +8,8 @@ use lib.ListN.{length, get_or-eq_default}
 use lib.Dec.{ltb}
 use borrow.Author.Tests.{lt-ltb, le-ltb, ltb-true, ltb-false}
 use Rattle.hexadecimal.proofs.Choice.{cases}
-use Rattle.hexadecimal.specs.Digits.{byte_at, digit_of, joined, hex2, hex4, hex8}
+use Rattle.std.specs.Prelude.{Option, Some, None}
+use Rattle.hexadecimal.specs.Digits.{byte_at, digit_of, joined, hex2, hex4, hex8, number_at, number_or}
 use Rattle.hexadecimal.specs.Glyphs.{glyph_of, text2, text4, text8, Stands}
 use Rattle.hexadecimal.proofs.Writing.{length2, length4}
 
@@ -69,6 +70,17 @@ no_high b x y e = rw (← e) (simp (le-ltb b b (omega arith)))
 pub no_low : (b hi x y : ℕ) → hi < b → hi ≡ x → b ≡ y → b * b ≡ joined b x y
 unfolding joined
 no_low b hi x y h e f = rw (← e, ← f) (simp (lt-ltb hi b h, le-ltb b b (omega arith)))
+
+-- ---- what a reader answers, told by the number
+
+pub none_at : (past n : ℕ) → past ≡ n → None ≡ number_at past n
+none_at past n e = rw (← e) (simp (le-ltb past past (omega arith)))
+
+pub handed_on : (past : ℕ) (r : Option ℕ) (n : ℕ) → r ≡ None → number_or past r ≡ n → r ≡ number_at past n
+handed_on past r n e h = rw e (none_at past n (rw e at h))
+
+pub some_at : (past m n : ℕ) → m < past → m ≡ n → Some m ≡ number_at past n
+some_at past m n h e = rw (← e) (simp (lt-ltb m past h))
 
 joined_back : (b hi lo : ℕ) → joined b hi lo < b * b → (hi < b) × (lo < b) × (joined b hi lo ≡ hi * b + lo)
 unfolding joined

@@ -27,3 +27,7 @@ hex8 s at = joined 65536 (hex4 s at) (hex4 s (at + 4))
 abbrev pub number_or : ℕ → Option ℕ → ℕ
 number_or past (Some n) = n
 number_or past None = past
+
+-- the same, told by the number: none for the one past those of its width, and past it
+abbrev pub number_at : ℕ → ℕ → Option ℕ
+number_at past n = cond (ltb n past) (Some n) None

@@ -4,7 +4,7 @@
 
 ghost use Rattle.std.specs.Prelude.{◌≡◌, ℕ, ◌≤◌, ◌<◌, Some, set};
 ghost use Rattle.std.proofs.lemmas.List.Edits.{sets};
-ghost use Rattle.hexadecimal.specs.Digits.{byte_at, digit_of, number_or, hex2 as digits_hex2, hex4 as digits_hex4, hex8 as digits_hex8};
+ghost use Rattle.hexadecimal.specs.Digits.{byte_at, digit_of, number_or, number_at, hex2 as digits_hex2, hex4 as digits_hex4, hex8 as digits_hex8};
 ghost use Rattle.hexadecimal.specs.Glyphs.{glyph_of, text2, text4, text8};
 
 // The byte at a place, and 0 past the end.
@@ -18,6 +18,7 @@ pub fn byte_at(s: &[u8], at: usize) -> u8
 pub fn digit(b: u8) -> Option<u8>
     ensures value { number_or 16 result ≡ digit_of b }
     ensures below { (d : ℕ) → result ≡ Some d → d < 16 }
+    ensures is { result ≡ number_at 16 (digit_of b) }
 {
     if b < 48 {
         None
@@ -34,7 +35,8 @@ pub fn digit(b: u8) -> Option<u8>
 
 // The number of two digits at a place; none where they are not two digits. (The first test keeps the places in range.)
 pub fn hex2(s: &[u8], at: usize) -> Option<u8>
-    ensures { number_or 256 result ≡ digits_hex2 s.now at }
+    ensures value { number_or 256 result ≡ digits_hex2 s.now at }
+    ensures is { result ≡ number_at 256 (digits_hex2 s.now at) }
 {
     if s.len() <= at {
         return None;
@@ -45,7 +47,8 @@ pub fn hex2(s: &[u8], at: usize) -> Option<u8>
 }
 
 pub fn hex4(s: &[u8], at: usize) -> Option<u16>
-    ensures { number_or 65536 result ≡ digits_hex4 s.now at }
+    ensures value { number_or 65536 result ≡ digits_hex4 s.now at }
+    ensures is { result ≡ number_at 65536 (digits_hex4 s.now at) }
 {
     if s.len() <= at {
         return None;
@@ -56,7 +59,8 @@ pub fn hex4(s: &[u8], at: usize) -> Option<u16>
 }
 
 pub fn hex8(s: &[u8], at: usize) -> Option<u32>
-    ensures { number_or 4294967296 result ≡ digits_hex8 s.now at }
+    ensures value { number_or 4294967296 result ≡ digits_hex8 s.now at }
+    ensures is { result ≡ number_at 4294967296 (digits_hex8 s.now at) }
 {
     if s.len() <= at {
         return None;

@@ -1,20 +1,32 @@
 use Prim.Native.Nat.{◌+◌}
-use Rattle.hexadecimal.proofs.Reading.{past4, both_halves, no_high, no_low}
+use Rattle.hexadecimal.proofs.Reading.{past4, both_halves, no_high, no_low, none_at, some_at, handed_on}
 use Rattle.hexadecimal.specs.Digits.{hex2, hex4}
 use native.Mathlib.Omega.{arith}
 use Rattle.hexadecimal.proofs.hex4.Goals as goal
 
-pub returns-then-s-at : goal.returns-then-s-at
-returns-then-s-at c = past4 c.args.s.now c.args.at c.if-s-at.true
+pub returns-then-s-at-clause-value : goal.returns-then-s-at-clause-value
+returns-then-s-at-clause-value c = past4 c.args.s.now c.args.at c.if-s-at.true
 
-pub returns-in_err-hi : goal.returns-in_err-hi
+pub returns-in_err-hi-clause-value : goal.returns-in_err-hi-clause-value
 unfolding hex4
-returns-in_err-hi c = rw c.from_residual.ensures (no_high 256 (hex2 c.args.s.now c.args.at) (hex2 c.args.s.now (c.args.at + 2)) c.in_err-hi.ensures)
+returns-in_err-hi-clause-value c = rw c.from_residual.ensures (no_high 256 (hex2 c.args.s.now c.args.at) (hex2 c.args.s.now (c.args.at + 2)) c.in_err-hi.ensures.value)
 
-pub returns-in_err-lo : goal.returns-in_err-lo
+pub returns-in_err-lo-clause-value : goal.returns-in_err-lo-clause-value
 unfolding hex4
-returns-in_err-lo c = rw c.from_residual-in_err-lo.ensures (no_low 256 _ (hex2 c.args.s.now c.args.at) (hex2 c.args.s.now (c.args.at + 2)) (omega arith) c.in_ok-hi.ensures c.in_err-lo.ensures)
+returns-in_err-lo-clause-value c = rw c.from_residual-in_err-lo.ensures (no_low 256 _ (hex2 c.args.s.now c.args.at) (hex2 c.args.s.now (c.args.at + 2)) (omega arith) c.in_ok-hi.ensures.value c.in_err-lo.ensures.value)
 
-pub returns : goal.returns
+pub returns-clause-value : goal.returns-clause-value
 unfolding hex4
-returns c = both_halves 256 _ _ (hex2 c.args.s.now c.args.at) (hex2 c.args.s.now (c.args.at + 2)) (omega arith) (omega arith) c.in_ok-hi.ensures c.in_ok-lo.ensures
+returns-clause-value c = both_halves 256 _ _ (hex2 c.args.s.now c.args.at) (hex2 c.args.s.now (c.args.at + 2)) (omega arith) (omega arith) c.in_ok-hi.ensures.value c.in_ok-lo.ensures.value
+
+pub returns-then-s-at-clause-is : goal.returns-then-s-at-clause-is
+returns-then-s-at-clause-is c = none_at 65536 _ (returns-then-s-at-clause-value c)
+
+pub returns-in_err-hi-clause-is : goal.returns-in_err-hi-clause-is
+returns-in_err-hi-clause-is c = handed_on 65536 _ _ c.from_residual.ensures (returns-in_err-hi-clause-value c)
+
+pub returns-in_err-lo-clause-is : goal.returns-in_err-lo-clause-is
+returns-in_err-lo-clause-is c = handed_on 65536 _ _ c.from_residual-in_err-lo.ensures (returns-in_err-lo-clause-value c)
+
+pub returns-clause-is : goal.returns-clause-is
+returns-clause-is c = some_at 65536 _ _ (omega arith) (returns-clause-value c)
