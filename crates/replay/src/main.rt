@@ -8,6 +8,7 @@ mod forces;
 mod session;
 mod velocities;
 
+use replay_words::Tables;
 use session::Session;
 use std::io::{Read, Stdin};
 
@@ -20,13 +21,13 @@ fn read_some<'a>(from: &mut Stdin, chunk: &'a mut [u8]) -> &'a [u8] {
 }
 
 // A proved loop has to end, and nothing says that the input does: the turns are as many as no run uses up.
-fn serve(from: &mut Stdin, chunk: &mut [u8], session: &mut Session) {
+fn serve(from: &mut Stdin, chunk: &mut [u8], tables: &mut Tables, session: &mut Session) {
     for _ in 0..u64::MAX {
         let bytes = read_some(from, chunk);
         if bytes.is_empty() {
             break;
         }
-        session.hear_all(bytes);
+        session.hear_all(bytes, tables);
     }
     session.finish();
 }
@@ -34,6 +35,7 @@ fn serve(from: &mut Stdin, chunk: &mut [u8], session: &mut Session) {
 fn main(rt: HostRuntime) {
     let mut from = rt.stdin();
     let mut chunk: [u8; 65536] = replay_words::filled(0);
+    let mut tables = Tables::new();
     let mut session = Session::new();
-    serve(&mut from, &mut chunk, &mut session);
+    serve(&mut from, &mut chunk, &mut tables, &mut session);
 }

@@ -2,7 +2,7 @@
 ghost use Rattle.std.specs.Prelude.{◌≤◌};
 
 use crate::calls;
-use replay_words::{Answer, filled};
+use replay_words::{Answer, Tables, filled};
 
 // The number of standard output.
 const STDOUT: i32 = 1;
@@ -50,12 +50,17 @@ impl Session {
     }
 
     // The answer to the line, which is whole and without its newline.
-    fn answer_line(&mut self) {
+    fn answer_line(&mut self, tables: &mut Tables) {
         let Some(line) = replay_words::parse(&self.line[..self.heard], &mut self.words) else {
             self.put_no_case();
             return;
         };
-        match calls::answer(line.call, &self.words[..line.count], &mut self.answer) {
+        match calls::answer(
+            line.call,
+            &self.words[..line.count],
+            tables,
+            &mut self.answer,
+        ) {
             Some(()) => {
                 self.pending = replay_words::print(
                     &mut self.out,
@@ -69,10 +74,10 @@ impl Session {
     }
 
     // One byte more: at a newline the line is answered, and the next begins.
-    fn hear(&mut self, b: u8) {
+    fn hear(&mut self, b: u8, tables: &mut Tables) {
         if b == 10 {
             self.make_room();
-            self.answer_line();
+            self.answer_line(tables);
             self.heard = 0;
         } else if self.heard < 139267 {
             self.line[self.heard] = b;
@@ -80,9 +85,9 @@ impl Session {
         }
     }
 
-    pub(crate) fn hear_all(&mut self, bytes: &[u8]) {
+    pub(crate) fn hear_all(&mut self, bytes: &[u8], tables: &mut Tables) {
         for b in bytes {
-            self.hear(*b);
+            self.hear(*b, tables);
         }
     }
 

@@ -1,7 +1,7 @@
 // The call of `shells`, 44.
 use crate::frames;
 use frame::Built;
-use replay_words::{Answer, Case};
+use replay_words::{Answer, Case, Tables};
 use shells::CountError;
 
 // 13 where a total finds no room: the one refusal that is not of all calls.
@@ -16,30 +16,30 @@ fn put_counted(out: &mut Answer, answer: Result<Built, CountError>) {
     }
 }
 
-pub(crate) fn add_shells_case(mut case: Case, out: &mut Answer) -> Option<()> {
+pub(crate) fn add_shells_case(mut case: Case, tables: &mut Tables, out: &mut Answer) -> Option<()> {
     let f = frames::take_frame(&mut case)?;
     let width = case.take_word()?;
-    let coordinates = case.take_u32s()?;
-    let exclusions = case.take_u32s()?;
-    let mut totals = case.take_words()?;
-    let mut pairs = case.take_u32s()?;
-    let mut starts = case.take_u32s()?;
-    let mut items = case.take_u32s()?;
+    case.take_u32s(&mut tables.coordinates)?;
+    case.take_u32s(&mut tables.exclusions)?;
+    case.take_words(&mut tables.totals)?;
+    case.take_u32s(&mut tables.pairs)?;
+    case.take_u32s(&mut tables.starts)?;
+    case.take_u32s(&mut tables.items)?;
     case.end()?;
     let answer = shells::add_shells(
         f,
-        coordinates.items(),
-        exclusions.items(),
+        tables.coordinates.items(),
+        tables.exclusions.items(),
         width,
-        totals.room(),
-        pairs.room(),
-        starts.room(),
-        items.room(),
+        tables.totals.room(),
+        tables.pairs.room(),
+        tables.starts.room(),
+        tables.items.room(),
     );
     put_counted(out, answer);
-    out.put_table(totals.items());
-    out.put_table(pairs.items());
-    out.put_table(starts.items());
-    out.put_table(items.items());
+    out.put_table(tables.totals.items());
+    out.put_table(tables.pairs.items());
+    out.put_table(tables.starts.items());
+    out.put_table(tables.items.items());
     Some(())
 }

@@ -1,6 +1,6 @@
 // The calls of `frame`, 40 and 41.
 use frame::{Built, Frame, Side, Spot};
-use replay_words::{Answer, Case};
+use replay_words::{Answer, Case, Tables};
 
 // Three edges, three flags, the radius.
 pub(crate) fn take_frame(case: &mut Case) -> Option<Frame> {
@@ -40,28 +40,28 @@ pub(crate) fn put_built(out: &mut Answer, built: Built) {
     out.put(built.fallback);
 }
 
-pub(crate) fn build_case(mut case: Case, out: &mut Answer) -> Option<()> {
+pub(crate) fn build_case(mut case: Case, tables: &mut Tables, out: &mut Answer) -> Option<()> {
     let f = take_frame(&mut case)?;
-    let coordinates = case.take_u32s()?;
-    let exclusions = case.take_u32s()?;
-    let mut pairs = case.take_u32s()?;
-    let mut starts = case.take_u32s()?;
-    let mut items = case.take_u32s()?;
+    case.take_u32s(&mut tables.coordinates)?;
+    case.take_u32s(&mut tables.exclusions)?;
+    case.take_u32s(&mut tables.pairs)?;
+    case.take_u32s(&mut tables.starts)?;
+    case.take_u32s(&mut tables.items)?;
     case.end()?;
     let answer = frame::build(
         f,
-        coordinates.items(),
-        exclusions.items(),
-        pairs.room(),
-        starts.room(),
-        items.room(),
+        tables.coordinates.items(),
+        tables.exclusions.items(),
+        tables.pairs.room(),
+        tables.starts.room(),
+        tables.items.room(),
     );
     if let Some(built) = out.put_head(answer) {
         put_built(out, built);
     }
-    out.put_table(pairs.items());
-    out.put_table(starts.items());
-    out.put_table(items.items());
+    out.put_table(tables.pairs.items());
+    out.put_table(tables.starts.items());
+    out.put_table(tables.items.items());
     Some(())
 }
 

@@ -12,10 +12,10 @@ mod virials;
 
 ghost use Rattle.std.specs.Prelude.{◌≡◌, [], IfNone};
 
-use replay_words::{Answer, Case};
+use replay_words::{Answer, Case, Tables};
 
 // Floats, cells, the virial.
-fn numbers(call: u64, case: Case, out: &mut Answer) -> Option<()> {
+fn numbers(call: u64, case: Case, tables: &mut Tables, out: &mut Answer) -> Option<()> {
     match call {
         0x01 => floats::one_case(float::root, case, out),
         0x02 => floats::one_case(float::floor, case, out),
@@ -40,46 +40,46 @@ fn numbers(call: u64, case: Case, out: &mut Answer) -> Option<()> {
         0x19 => cells::lattice_case(cell::perp_widths, answers::put_vec3, case, out),
         0x1a => cells::min_image_case(case, out),
         0x1b => cells::counted_image_case(case, out),
-        0x20 => virials::merge_case(case, out),
-        0x21 => virials::add_pair_force_case(case, out),
+        0x20 => virials::merge_case(case, tables, out),
+        0x21 => virials::add_pair_force_case(case, tables, out),
         0x22 => virials::virial_from_pair_case(case, out),
         0x23 => virials::scalar_virial_case(case, out),
         0x24 => virials::pressure_case(case, out),
-        0x25 => virials::pressure_tensor_case(case, out),
+        0x25 => virials::pressure_tensor_case(case, tables, out),
         0x26 => virials::to_gpa_case(case, out),
-        0x27 => virials::zeros_case(case, out),
+        0x27 => virials::zeros_case(case, tables, out),
         _ => None,
     }
 }
 
 // Exclusions and lists.
-fn lists(call: u64, case: Case, out: &mut Answer) -> Option<()> {
+fn lists(call: u64, case: Case, tables: &mut Tables, out: &mut Answer) -> Option<()> {
     match call {
         0x30 => neighbors::new_case(case, out),
         0x31 => neighbors::search_radius_case(case, out),
-        0x32 => excluded::exclude_case(case, out),
-        0x33 => excluded::set_exclusions_case(case, out),
-        0x34 => neighbors::question_case(neighbor::needs_rebuild, false, case, out),
-        0x35 => neighbors::build_case(false, false, case, out),
-        0x36 => neighbors::build_case(true, false, case, out),
+        0x32 => excluded::exclude_case(case, tables, out),
+        0x33 => excluded::set_exclusions_case(case, tables, out),
+        0x34 => neighbors::question_case(neighbor::needs_rebuild, false, case, tables, out),
+        0x35 => neighbors::build_case(false, false, case, tables, out),
+        0x36 => neighbors::build_case(true, false, case, tables, out),
         0x37 => neighbors::builds_since_case(case, out),
-        0x38 => neighbors::question_case(neighbor::outdated, true, case, out),
-        0x39 => neighbors::build_case(false, true, case, out),
-        0x3a => neighbors::build_case(true, true, case, out),
+        0x38 => neighbors::question_case(neighbor::outdated, true, case, tables, out),
+        0x39 => neighbors::build_case(false, true, case, tables, out),
+        0x3a => neighbors::build_case(true, true, case, tables, out),
         _ => None,
     }
 }
 
 // The answer to a case; None, and no word, where the call is none of these or the words are not its arguments.
-pub fn answer(call: u64, words: &[u64], out: &mut Answer) -> Option<()>
+pub fn answer(call: u64, words: &[u64], tables: &mut Tables, out: &mut Answer) -> Option<()>
     ensures { IfNone result (out.new ≡ []) }
 {
     out.clear();
     let case = Case::new(words);
     let answered = if call < 0x30 {
-        numbers(call, case, out)
+        numbers(call, case, tables, out)
     } else {
-        lists(call, case, out)
+        lists(call, case, tables, out)
     };
     if answered.is_none() {
         out.clear();

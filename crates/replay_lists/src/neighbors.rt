@@ -3,7 +3,7 @@ use crate::{answers, records};
 use answer::Refusal;
 use cell::Lattice;
 use neighbor::State;
-use replay_words::{Answer, Case};
+use replay_words::{Answer, Case, Tables};
 
 pub(crate) fn new_case(mut case: Case, out: &mut Answer) -> Option<()> {
     let cutoff = case.take_float()?;
@@ -34,15 +34,15 @@ pub(crate) fn builds_since_case(mut case: Case, out: &mut Answer) -> Option<()> 
 // The Rust's question, or the second one; `remembers` says whether the remembered cell stands in the line.
 pub(crate) fn question_case<
     F: FnOnce(State, Option<Lattice>, &[f64], &[f64]) -> Result<bool, Refusal> + Drop,
->(question: F, remembers: bool, mut case: Case, out: &mut Answer) -> Option<()>
+>(question: F, remembers: bool, mut case: Case, tables: &mut Tables, out: &mut Answer) -> Option<()>
     requires { F.IsAlwaysCallable question }
 {
     let s = records::take_state_and(remembers, &mut case)?;
     let cell = records::take_cell(&mut case)?;
-    let positions = case.take_floats()?;
-    let references = case.take_floats()?;
+    case.take_floats(&mut tables.positions)?;
+    case.take_floats(&mut tables.references)?;
     case.end()?;
-    out.put_answer(question(s, cell, positions.items(), references.items()));
+    out.put_answer(question(s, cell, tables.positions.items(), tables.references.items()));
     Some(())
 }
 
@@ -52,38 +52,39 @@ pub(crate) fn build_case(
     asks: bool,
     remembers: bool,
     mut case: Case,
+    tables: &mut Tables,
     out: &mut Answer,
 ) -> Option<()> {
     let s = records::take_state_and(remembers, &mut case)?;
     let cell = records::take_cell(&mut case)?;
-    let positions = case.take_floats()?;
-    let exclusions = case.take_u32s()?;
-    let mut pairs = case.take_u32s()?;
-    let mut references = case.take_floats()?;
-    let mut starts = case.take_u32s()?;
-    let mut items = case.take_u32s()?;
+    case.take_floats(&mut tables.positions)?;
+    case.take_u32s(&mut tables.exclusions)?;
+    case.take_u32s(&mut tables.pairs)?;
+    case.take_floats(&mut tables.references)?;
+    case.take_u32s(&mut tables.starts)?;
+    case.take_u32s(&mut tables.items)?;
     case.end()?;
     let updated = if asks {
         neighbor::maybe_build(
             s,
             cell,
-            positions.items(),
-            exclusions.items(),
-            pairs.room(),
-            references.room(),
-            starts.room(),
-            items.room(),
+            tables.positions.items(),
+            tables.exclusions.items(),
+            tables.pairs.room(),
+            tables.references.room(),
+            tables.starts.room(),
+            tables.items.room(),
         )
     } else {
         neighbor::build(
             s,
             cell,
-            positions.items(),
-            exclusions.items(),
-            pairs.room(),
-            references.room(),
-            starts.room(),
-            items.room(),
+            tables.positions.items(),
+            tables.exclusions.items(),
+            tables.pairs.room(),
+            tables.references.room(),
+            tables.starts.room(),
+            tables.items.room(),
         )
     };
     out.put_head(updated.done);
@@ -91,9 +92,9 @@ pub(crate) fn build_case(
         out.put(updated.rebuilt);
     }
     answers::put_state_and(remembers, out, updated.state);
-    out.put_table(pairs.items());
-    out.put_table(references.items());
-    out.put_table(starts.items());
-    out.put_table(items.items());
+    out.put_table(tables.pairs.items());
+    out.put_table(tables.references.items());
+    out.put_table(tables.starts.items());
+    out.put_table(tables.items.items());
     Some(())
 }

@@ -114,5 +114,15 @@ pub fn take_state_and(cell: bool, case: &mut Case) -> Option<State>
         return Some(s);
     }
     let built_in = take_cell(case)?;
-    Some(State { built_in, ..s })
+    Some(remembering(s, built_in))
+}
+
+// The state with another remembered cell, and all else as it was.
+pub fn remembering(s: State, cell: Option<Lattice>) -> State
+    ensures { result ≡ record { cutoff = s.cutoff; skin = s.skin; pairs = s.pairs; references = s.references; checks = s.checks; fallback = s.fallback; builds = s.builds; built_in = cell } }
+{
+    State {
+        built_in: cell,
+        ..s
+    }
 }

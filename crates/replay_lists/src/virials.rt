@@ -1,6 +1,6 @@
 // The calls of `virial`, 20 to 27.
 use crate::{answers, records};
-use replay_words::{Answer, Case};
+use replay_words::{Answer, Case, Tables};
 
 fn take_row(case: &mut Case) -> Option<[f64; 3]> {
     let x = case.take_float()?;
@@ -16,27 +16,31 @@ fn take_rows(case: &mut Case) -> Option<[[f64; 3]; 3]> {
     Some([x, y, z])
 }
 
-pub(crate) fn merge_case(mut case: Case, out: &mut Answer) -> Option<()> {
+pub(crate) fn merge_case(mut case: Case, tables: &mut Tables, out: &mut Answer) -> Option<()> {
     let sum = records::take_sum(&mut case)?;
     let other = records::take_sum(&mut case)?;
-    let added = case.take_floats()?;
-    let mut forces = case.take_floats()?;
+    case.take_floats(&mut tables.added)?;
+    case.take_floats(&mut tables.forces)?;
     case.end()?;
-    let merged = virial::merge(sum, forces.room(), other, added.items());
-    answers::put_summed_forces(out, merged, forces.items());
+    let merged = virial::merge(sum, tables.forces.room(), other, tables.added.items());
+    answers::put_summed_forces(out, merged, tables.forces.items());
     Some(())
 }
 
-pub(crate) fn add_pair_force_case(mut case: Case, out: &mut Answer) -> Option<()> {
+pub(crate) fn add_pair_force_case(
+    mut case: Case,
+    tables: &mut Tables,
+    out: &mut Answer,
+) -> Option<()> {
     let sum = records::take_sum(&mut case)?;
     let i = case.take_u32()?;
     let j = case.take_u32()?;
     let d = records::take_vec3(&mut case)?;
     let f = records::take_vec3(&mut case)?;
-    let mut forces = case.take_floats()?;
+    case.take_floats(&mut tables.forces)?;
     case.end()?;
-    let added = virial::add_pair_force(sum, forces.room(), i, j, d, f);
-    answers::put_summed_forces(out, added, forces.items());
+    let added = virial::add_pair_force(sum, tables.forces.room(), i, j, d, f);
+    answers::put_summed_forces(out, added, tables.forces.items());
     Some(())
 }
 
@@ -67,14 +71,24 @@ pub(crate) fn pressure_case(mut case: Case, out: &mut Answer) -> Option<()> {
     Some(())
 }
 
-pub(crate) fn pressure_tensor_case(mut case: Case, out: &mut Answer) -> Option<()> {
+pub(crate) fn pressure_tensor_case(
+    mut case: Case,
+    tables: &mut Tables,
+    out: &mut Answer,
+) -> Option<()> {
     let units = records::take_units(&mut case)?;
     let volume = case.take_float()?;
     let rows = take_rows(&mut case)?;
-    let velocities = case.take_floats()?;
-    let masses = case.take_floats()?;
+    case.take_floats(&mut tables.velocities)?;
+    case.take_floats(&mut tables.masses)?;
     case.end()?;
-    let answer = virial::pressure_tensor(units, volume, rows, velocities.items(), masses.items());
+    let answer = virial::pressure_tensor(
+        units,
+        volume,
+        rows,
+        tables.velocities.items(),
+        tables.masses.items(),
+    );
     if let Some(tensor) = out.put_head(answer) {
         answers::put_rows(out, tensor);
     }
@@ -89,10 +103,10 @@ pub(crate) fn to_gpa_case(mut case: Case, out: &mut Answer) -> Option<()> {
     Some(())
 }
 
-pub(crate) fn zeros_case(mut case: Case, out: &mut Answer) -> Option<()> {
-    let mut forces = case.take_floats()?;
+pub(crate) fn zeros_case(mut case: Case, tables: &mut Tables, out: &mut Answer) -> Option<()> {
+    case.take_floats(&mut tables.forces)?;
     case.end()?;
-    let zeros = virial::zeros(forces.room());
-    answers::put_summed_forces(out, zeros, forces.items());
+    let zeros = virial::zeros(tables.forces.room());
+    answers::put_summed_forces(out, zeros, tables.forces.items());
     Some(())
 }

@@ -1,6 +1,8 @@
 // The first word of 57, 67 to 69, and of 58, 59: which further parts stand in the line.
-ghost use Rattle.std.specs.Prelude.{◌≡◌, ◌+◌, ◌*◌, ◌∷◌, IfSome, false};
-ghost use Rattle.replay_words.specs.Told.{bit};
+ghost use Rattle.std.specs.Prelude.{ℕ, ◌≡◌, ◌+◌, ◌*◌, ◌<◌, ◌%◌, List, [], ◌∷◌, ◌++◌, IfSome, IsSome, length, true, false, from_bits};
+ghost use Rattle.std.specs.Float.Ieee.{binary64};
+ghost use Rattle.std.specs.List.{All};
+ghost use Rattle.replay_words.specs.Told.{bit, stored};
 
 use replay_words::{Case, Store};
 
@@ -30,22 +32,26 @@ pub fn take_mask(case: &mut Case) -> Option<Parts>
 }
 
 // A table, and an empty one where it does not stand in the line.
-pub fn take_u32s_if(there: bool, case: &mut Case) -> Option<Store<u32>>
-    ensures { there ≡ false → case.new ≡ case.old }
+pub fn take_u32s_if(there: bool, case: &mut Case, into: &mut Store<u32>) -> Option<()>
+    ensures stands { there ≡ true → IfSome result (λ _. (t : List ℕ) × (case.old ≡ length t ∷ (t ++ case.new)) × All (λ w. w < 4294967296) t × (into.new ≡ stored (λ w. w % 4294967296) t)) }
+    ensures empty { there ≡ false → IsSome result × (case.new ≡ case.old) × (into.new ≡ []) }
 {
     if there {
-        case.take_u32s()
+        case.take_u32s(into)
     } else {
-        Some(Store::new(&[]))
+        into.fill(&[]);
+        Some(())
     }
 }
 
-pub fn take_floats_if(there: bool, case: &mut Case) -> Option<Store<f64>>
-    ensures { there ≡ false → case.new ≡ case.old }
+pub fn take_floats_if(there: bool, case: &mut Case, into: &mut Store<f64>) -> Option<()>
+    ensures stands { there ≡ true → IfSome result (λ _. (t : List ℕ) × (case.old ≡ length t ∷ (t ++ case.new)) × (into.new ≡ stored (λ w. from_bits binary64 w) t)) }
+    ensures empty { there ≡ false → IsSome result × (case.new ≡ case.old) × (into.new ≡ []) }
 {
     if there {
-        case.take_floats()
+        case.take_floats(into)
     } else {
-        Some(Store::new(&[]))
+        into.fill(&[]);
+        Some(())
     }
 }

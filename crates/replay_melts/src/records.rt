@@ -1,5 +1,5 @@
 // The records of terms and evaluations taken out of a case's words.
-ghost use Rattle.std.specs.Prelude.{◌≡◌, ◌+◌, IfSome, length};
+ghost use Rattle.std.specs.Prelude.{◌≡◌, ◌+◌, ◌≤◌, IfSome, length};
 ghost use Rattle.replay_words.specs.Told.{bit};
 
 use crate::masks::Parts;
@@ -10,7 +10,7 @@ use potentials::Bond;
 use potentials::coulomb::Coulomb;
 use potentials_angle::Angle;
 use potentials_pair::{Lj, Mixing};
-use replay_lists::records::{take_cell, take_state_and, take_units};
+use replay_lists::records::{remembering, take_cell, take_state_and, take_units};
 use replay_words::Case;
 
 // The rule where it stands in the line, 1 or 2: another word is no case. Rule 1 where it doesn't.
@@ -45,16 +45,20 @@ pub fn take_lj(ruled: bool, case: &mut Case) -> Option<Lj>
     })
 }
 
-// ---- each term is 0, or 1 and its numbers
+// ---- each term is 0, or 1 and its numbers; no word is given back
 
-fn take_lj_term(ruled: bool, case: &mut Case) -> Option<Option<Lj>> {
+fn take_lj_term(ruled: bool, case: &mut Case) -> Option<Option<Lj>>
+    ensures { IfSome result (λ _. length case.new ≤ length case.old) }
+{
     if !case.take_bool()? {
         return Some(None);
     }
     Some(Some(take_lj(ruled, case)?))
 }
 
-fn take_coulomb_term(case: &mut Case) -> Option<Option<Coulomb>> {
+fn take_coulomb_term(case: &mut Case) -> Option<Option<Coulomb>>
+    ensures { IfSome result (λ _. length case.new ≤ length case.old) }
+{
     if !case.take_bool()? {
         return Some(None);
     }
@@ -62,7 +66,9 @@ fn take_coulomb_term(case: &mut Case) -> Option<Option<Coulomb>> {
     Some(Some(Coulomb { cutoff }))
 }
 
-fn take_bond_term(case: &mut Case) -> Option<Option<Bond>> {
+fn take_bond_term(case: &mut Case) -> Option<Option<Bond>>
+    ensures { IfSome result (λ _. length case.new ≤ length case.old) }
+{
     if !case.take_bool()? {
         return Some(None);
     }
@@ -72,7 +78,9 @@ fn take_bond_term(case: &mut Case) -> Option<Option<Bond>> {
 }
 
 // Absent too where the line has none.
-fn take_angle_term(there: bool, case: &mut Case) -> Option<Option<Angle>> {
+fn take_angle_term(there: bool, case: &mut Case) -> Option<Option<Angle>>
+    ensures { IfSome result (λ _. length case.new ≤ length case.old) }
+{
     if !there || !case.take_bool()? {
         return Some(None);
     }
@@ -84,17 +92,16 @@ fn take_angle_term(there: bool, case: &mut Case) -> Option<Option<Angle>> {
 // What a State without its cell stands for: built in the case's own cell, where that is in range.
 fn in_own(s: State, cell: Option<Lattice>) -> State {
     if cell::ranged::cell_in_range(cell) {
-        State {
-            built_in: cell,
-            ..s
-        }
+        remembering(s, cell)
     } else {
         s
     }
 }
 
 // All that an evaluation is given but its tables.
-pub(crate) fn take_settings(parts: Parts, case: &mut Case) -> Option<(Setting, State)> {
+pub fn take_settings(parts: Parts, case: &mut Case) -> Option<(Setting, State)>
+    ensures { IfSome result (λ _. length case.new ≤ length case.old) }
+{
     let lj = take_lj_term(parts.rule, case)?;
     let coulomb = take_coulomb_term(case)?;
     let bond = take_bond_term(case)?;

@@ -1,77 +1,43 @@
 // The calls of `strike`, 6a and 6b.
 use neighbor::State;
 use replay_lists::{answers, records};
-use replay_words::{Answer, Case, Store};
+use replay_words::{Answer, Case, Tables};
 use strike::{Entered, Left, NewAtom, Struck};
 
 // The atoms' stores, which both calls have.
-#[derive(Drop)]
-struct Atoms {
-    positions: Store<f64>,
-    velocities: Store<f64>,
-    masses: Store<f64>,
-    charges: Store<f64>,
-    species: Store<u32>,
+fn take_atoms(case: &mut Case, tables: &mut Tables) -> Option<()> {
+    case.take_floats(&mut tables.positions)?;
+    case.take_floats(&mut tables.velocities)?;
+    case.take_floats(&mut tables.masses)?;
+    case.take_floats(&mut tables.charges)?;
+    case.take_u32s(&mut tables.species)
 }
 
-fn take_atoms(case: &mut Case) -> Option<Atoms> {
-    let positions = case.take_floats()?;
-    let velocities = case.take_floats()?;
-    let masses = case.take_floats()?;
-    let charges = case.take_floats()?;
-    let species = case.take_u32s()?;
-    Some(Atoms {
-        positions,
-        velocities,
-        masses,
-        charges,
-        species,
-    })
-}
-
-fn put_atoms(out: &mut Answer, atoms: &Atoms) {
-    out.put_table(atoms.positions.items());
-    out.put_table(atoms.velocities.items());
-    out.put_table(atoms.masses.items());
-    out.put_table(atoms.charges.items());
-    out.put_table(atoms.species.items());
+fn put_atoms(out: &mut Answer, tables: &Tables) {
+    out.put_table(tables.positions.items());
+    out.put_table(tables.velocities.items());
+    out.put_table(tables.masses.items());
+    out.put_table(tables.charges.items());
+    out.put_table(tables.species.items());
 }
 
 // What names them.
-#[derive(Drop)]
-struct Links {
-    bonds: Store<u32>,
-    lengths: Store<f64>,
-    ks: Store<f64>,
-    angles: Store<u32>,
-    per_angle: Store<f64>,
-    exclusions: Store<u32>,
+fn take_links(case: &mut Case, tables: &mut Tables) -> Option<()> {
+    case.take_u32s(&mut tables.bonds)?;
+    case.take_floats(&mut tables.lengths)?;
+    case.take_floats(&mut tables.ks)?;
+    case.take_u32s(&mut tables.angles)?;
+    case.take_floats(&mut tables.per_angle)?;
+    case.take_u32s(&mut tables.exclusions)
 }
 
-fn take_links(case: &mut Case) -> Option<Links> {
-    let bonds = case.take_u32s()?;
-    let lengths = case.take_floats()?;
-    let ks = case.take_floats()?;
-    let angles = case.take_u32s()?;
-    let per_angle = case.take_floats()?;
-    let exclusions = case.take_u32s()?;
-    Some(Links {
-        bonds,
-        lengths,
-        ks,
-        angles,
-        per_angle,
-        exclusions,
-    })
-}
-
-fn put_links(out: &mut Answer, links: &Links) {
-    out.put_table(links.bonds.items());
-    out.put_table(links.lengths.items());
-    out.put_table(links.ks.items());
-    out.put_table(links.angles.items());
-    out.put_table(links.per_angle.items());
-    out.put_table(links.exclusions.items());
+fn put_links(out: &mut Answer, tables: &Tables) {
+    out.put_table(tables.bonds.items());
+    out.put_table(tables.lengths.items());
+    out.put_table(tables.ks.items());
+    out.put_table(tables.angles.items());
+    out.put_table(tables.per_angle.items());
+    out.put_table(tables.exclusions.items());
 }
 
 fn put_left(out: &mut Answer, l: Left) {
@@ -102,33 +68,30 @@ fn put_entered(out: &mut Answer, r: Entered) {
     }
 }
 
-fn strike_all(marks: &[u32], s: State, atoms: &mut Atoms, links: &mut Links) -> Struck {
-    strike::strike(
-        marks,
-        s,
-        atoms.positions.room(),
-        atoms.velocities.room(),
-        atoms.masses.room(),
-        atoms.charges.room(),
-        atoms.species.room(),
-        links.bonds.room(),
-        links.lengths.room(),
-        links.ks.room(),
-        links.angles.room(),
-        links.per_angle.room(),
-        links.exclusions.room(),
-    )
-}
-
-pub(crate) fn strike_case(mut case: Case, out: &mut Answer) -> Option<()> {
-    let marks = case.take_u32s()?;
+pub(crate) fn strike_case(mut case: Case, tables: &mut Tables, out: &mut Answer) -> Option<()> {
+    case.take_u32s(&mut tables.marks)?;
     let s = records::take_state(&mut case)?;
-    let mut atoms = take_atoms(&mut case)?;
-    let mut links = take_links(&mut case)?;
+    take_atoms(&mut case, tables)?;
+    take_links(&mut case, tables)?;
     case.end()?;
-    put_struck(out, strike_all(marks.items(), s, &mut atoms, &mut links));
-    put_atoms(out, &atoms);
-    put_links(out, &links);
+    let r = strike::strike(
+        tables.marks.items(),
+        s,
+        tables.positions.room(),
+        tables.velocities.room(),
+        tables.masses.room(),
+        tables.charges.room(),
+        tables.species.room(),
+        tables.bonds.room(),
+        tables.lengths.room(),
+        tables.ks.room(),
+        tables.angles.room(),
+        tables.per_angle.room(),
+        tables.exclusions.room(),
+    );
+    put_struck(out, r);
+    put_atoms(out, tables);
+    put_links(out, tables);
     Some(())
 }
 
@@ -147,23 +110,23 @@ fn take_new_atom(case: &mut Case) -> Option<NewAtom> {
     })
 }
 
-pub(crate) fn put_case(mut case: Case, out: &mut Answer) -> Option<()> {
+pub(crate) fn put_case(mut case: Case, tables: &mut Tables, out: &mut Answer) -> Option<()> {
     let count = case.take_u32()?;
     let new = take_new_atom(&mut case)?;
     let s = records::take_state(&mut case)?;
-    let mut atoms = take_atoms(&mut case)?;
+    take_atoms(&mut case, tables)?;
     case.end()?;
     let r = strike::put(
         count,
         new,
         s,
-        atoms.positions.room(),
-        atoms.velocities.room(),
-        atoms.masses.room(),
-        atoms.charges.room(),
-        atoms.species.room(),
+        tables.positions.room(),
+        tables.velocities.room(),
+        tables.masses.room(),
+        tables.charges.room(),
+        tables.species.room(),
     );
     put_entered(out, r);
-    put_atoms(out, &atoms);
+    put_atoms(out, tables);
     Some(())
 }

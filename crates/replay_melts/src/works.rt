@@ -11,7 +11,7 @@ use potentials::BondRows;
 use potentials_angle::AngleRows;
 use potentials_pair::SpeciesTables;
 use replay_lists::answers;
-use replay_words::{Answer, Case, Store};
+use replay_words::{Answer, Case, Tables};
 use verlet::Thermostat;
 use verlet_step::{Pace, Stepped};
 
@@ -72,46 +72,18 @@ fn take_work(kind: Kind, case: &mut Case) -> Option<Work> {
 }
 
 // The tables of the terms.
-#[derive(Drop)]
-struct Terms {
-    own_ids: Store<u32>,
-    own_params: Store<f64>,
-    ids: Store<u32>,
-    params: Store<f64>,
-    species: Store<u32>,
-    charges: Store<f64>,
-    bonds: Store<u32>,
-    lengths: Store<f64>,
-    ks: Store<f64>,
-    angles: Store<u32>,
-    per_angle: Store<f64>,
-}
-
-fn take_terms(parts: Parts, case: &mut Case) -> Option<Terms> {
-    let own_ids = masks::take_u32s_if(parts.own, case)?;
-    let own_params = masks::take_floats_if(parts.own, case)?;
-    let ids = case.take_u32s()?;
-    let params = case.take_floats()?;
-    let species = case.take_u32s()?;
-    let charges = case.take_floats()?;
-    let bonds = case.take_u32s()?;
-    let lengths = case.take_floats()?;
-    let ks = case.take_floats()?;
-    let angles = masks::take_u32s_if(parts.angles, case)?;
-    let per_angle = masks::take_floats_if(parts.angles, case)?;
-    Some(Terms {
-        own_ids,
-        own_params,
-        ids,
-        params,
-        species,
-        charges,
-        bonds,
-        lengths,
-        ks,
-        angles,
-        per_angle,
-    })
+fn take_terms(parts: Parts, case: &mut Case, tables: &mut Tables) -> Option<()> {
+    masks::take_u32s_if(parts.own, case, &mut tables.own_ids)?;
+    masks::take_floats_if(parts.own, case, &mut tables.own_params)?;
+    case.take_u32s(&mut tables.ids)?;
+    case.take_floats(&mut tables.params)?;
+    case.take_u32s(&mut tables.species)?;
+    case.take_floats(&mut tables.charges)?;
+    case.take_u32s(&mut tables.bonds)?;
+    case.take_floats(&mut tables.lengths)?;
+    case.take_floats(&mut tables.ks)?;
+    masks::take_u32s_if(parts.angles, case, &mut tables.angles)?;
+    masks::take_floats_if(parts.angles, case, &mut tables.per_angle)
 }
 
 // All that is only read. An evaluation reads neither the potential nor masses.
@@ -243,29 +215,50 @@ fn put_came(out: &mut Answer, cell: bool, came: Came) {
     }
 }
 
+// The masses, the exclusions, the potential, the positions and the velocities. An evaluation has its positions where the others have their masses, and of the
+// rest the exclusions alone; the potential is a step's.
+fn take_atoms(kind: Kind, case: &mut Case, tables: &mut Tables) -> Option<f64> {
+    match kind {
+        Kind::Evaluate => {
+            case.take_floats(&mut tables.positions)?;
+            case.take_u32s(&mut tables.exclusions)?;
+            Some(0.0)
+        }
+        Kind::Step | Kind::Finish => {
+            case.take_floats(&mut tables.masses)?;
+            case.take_u32s(&mut tables.exclusions)?;
+            let potential = case.take_float()?;
+            case.take_floats(&mut tables.positions)?;
+            case.take_floats(&mut tables.velocities)?;
+            Some(potential)
+        }
+        Kind::Settle => {
+            case.take_floats(&mut tables.masses)?;
+            case.take_u32s(&mut tables.exclusions)?;
+            case.take_floats(&mut tables.positions)?;
+            case.take_floats(&mut tables.velocities)?;
+            Some(0.0)
+        }
+    }
+}
+
 // The words after a mask, or of a command without one.
-fn told(kind: Kind, parts: Parts, mut case: Case, out: &mut Answer) -> Option<()> {
-    let moves = !matches!(kind, Kind::Evaluate);
+fn told(
+    kind: Kind,
+    parts: Parts,
+    mut case: Case,
+    tables: &mut Tables,
+    out: &mut Answer,
+) -> Option<()> {
     let work = take_work(kind, &mut case)?;
     let (setting, state) = records::take_settings(parts, &mut case)?;
-    let terms = take_terms(parts, &mut case)?;
-    let mut masses = case.take_floats()?;
-    let exclusions = case.take_u32s()?;
-    let potential = match kind {
-        Kind::Step | Kind::Finish => case.take_float()?,
-        Kind::Evaluate | Kind::Settle => 0.0,
-    };
-    let mut positions = masks::take_floats_if(moves, &mut case)?;
-    let mut velocities = masks::take_floats_if(moves, &mut case)?;
-    if !moves {
-        // where a step has its masses an evaluation has the positions
-        std::mem::swap(&mut positions, &mut masses);
-    }
-    let mut pairs = case.take_u32s()?;
-    let mut references = case.take_floats()?;
-    let mut starts = case.take_u32s()?;
-    let mut items = case.take_u32s()?;
-    let mut forces = case.take_floats()?;
+    take_terms(parts, &mut case, tables)?;
+    let potential = take_atoms(kind, &mut case, tables)?;
+    case.take_u32s(&mut tables.pairs)?;
+    case.take_floats(&mut tables.references)?;
+    case.take_u32s(&mut tables.starts)?;
+    case.take_u32s(&mut tables.items)?;
+    case.take_floats(&mut tables.forces)?;
     case.end()?;
     let given = Given {
         work,
@@ -274,54 +267,64 @@ fn told(kind: Kind, parts: Parts, mut case: Case, out: &mut Answer) -> Option<()
         potential,
         molecule: Molecule {
             tables: SpeciesTables {
-                own_ids: terms.own_ids.items(),
-                own_params: terms.own_params.items(),
-                ids: terms.ids.items(),
-                params: terms.params.items(),
+                own_ids: tables.own_ids.items(),
+                own_params: tables.own_params.items(),
+                ids: tables.ids.items(),
+                params: tables.params.items(),
             },
-            species: terms.species.items(),
-            charges: terms.charges.items(),
+            species: tables.species.items(),
+            charges: tables.charges.items(),
             bonds: BondRows {
-                ends: terms.bonds.items(),
-                lengths: terms.lengths.items(),
-                ks: terms.ks.items(),
+                ends: tables.bonds.items(),
+                lengths: tables.lengths.items(),
+                ks: tables.ks.items(),
             },
             angles: AngleRows {
-                corners: terms.angles.items(),
-                per_angle: terms.per_angle.items(),
+                corners: tables.angles.items(),
+                per_angle: tables.per_angle.items(),
             },
         },
-        masses: masses.items(),
-        exclusions: exclusions.items(),
+        masses: tables.masses.items(),
+        exclusions: tables.exclusions.items(),
     };
     let came = worked(
         given,
-        positions.room(),
-        velocities.room(),
-        pairs.room(),
-        references.room(),
-        starts.room(),
-        items.room(),
-        forces.room(),
+        tables.positions.room(),
+        tables.velocities.room(),
+        tables.pairs.room(),
+        tables.references.room(),
+        tables.starts.room(),
+        tables.items.room(),
+        tables.forces.room(),
     );
     put_came(out, parts.cell, came);
-    if moves {
-        out.put_table(positions.items());
-        out.put_table(velocities.items());
+    if !matches!(kind, Kind::Evaluate) {
+        out.put_table(tables.positions.items());
+        out.put_table(tables.velocities.items());
     }
-    out.put_table(pairs.items());
-    out.put_table(references.items());
-    out.put_table(starts.items());
-    out.put_table(items.items());
-    out.put_table(forces.items());
+    out.put_table(tables.pairs.items());
+    out.put_table(tables.references.items());
+    out.put_table(tables.starts.items());
+    out.put_table(tables.items.items());
+    out.put_table(tables.forces.items());
     Some(())
 }
 
-pub(crate) fn plain_case(kind: Kind, case: Case, out: &mut Answer) -> Option<()> {
-    told(kind, Parts::default(), case, out)
+pub(crate) fn plain_case(
+    kind: Kind,
+    case: Case,
+    tables: &mut Tables,
+    out: &mut Answer,
+) -> Option<()> {
+    told(kind, Parts::default(), case, tables, out)
 }
 
-pub(crate) fn masked_case(kind: Kind, mut case: Case, out: &mut Answer) -> Option<()> {
+pub(crate) fn masked_case(
+    kind: Kind,
+    mut case: Case,
+    tables: &mut Tables,
+    out: &mut Answer,
+) -> Option<()> {
     let parts = masks::take_mask(&mut case)?;
-    told(kind, parts, case, out)
+    told(kind, parts, case, tables, out)
 }

@@ -5,6 +5,7 @@
 mod put;
 mod read;
 mod store;
+mod tables;
 mod take;
 mod word;
 mod write;
@@ -12,6 +13,7 @@ mod write;
 pub use put::Answer;
 pub use read::{Line, parse};
 pub use store::{Store, filled};
+pub use tables::Tables;
 pub use take::Case;
 pub use word::Word;
 pub use write::{print, print_no_case};

@@ -28,8 +28,16 @@ impl<T: Word> Store<T> {
             items: [T::default(); 8192],
             count: 0,
         };
-        store.keep_all(words);
+        store.fill(words);
         store
+    }
+
+    // The same in place of what it had, which costs as much as there are words.
+    pub fn fill(&mut self, words: &[u64])
+        ensures { self.new ≡ stored T.value_of words.now }
+    {
+        self.count = 0;
+        self.keep_all(words);
     }
 
     fn keep_all(&mut self, words: &[u64])

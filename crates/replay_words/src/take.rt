@@ -1,4 +1,4 @@
-// A case's arguments taken out of its words, one after the other.
+// A case's arguments taken out of its words, one after the other; a table into a store that is lent for it.
 ghost use Rattle.std.specs.Prelude.{ℕ, ◌≡◌, ◌<◌, ◌%◌, List, [], ◌∷◌, ◌++◌, IfSome, IfNone, IsSome, ◌↔◌, length, from_bits, if◌then◌else◌};
 ghost use Rattle.std.specs.Float.Ieee.{binary64};
 ghost use Rattle.std.specs.List.{All};
@@ -82,29 +82,37 @@ impl<'a> Case<'a> {
         }
     }
 
-    pub fn take_floats(&mut self) -> Option<Store<f64>>
-        ensures { IfSome result (λ s. (t : List ℕ) × (self.old ≡ length t ∷ (t ++ self.new)) × (s ≡ stored (λ w. from_bits binary64 w) t)) }
+    pub fn take_floats(&mut self, into: &mut Store<f64>) -> Option<()>
+        ensures taken { IfSome result (λ _. (t : List ℕ) × (self.old ≡ length t ∷ (t ++ self.new)) × (into.new ≡ stored (λ w. from_bits binary64 w) t)) }
+        ensures missing { IfNone result (into.new ≡ into.old) }
     {
-        Some(Store::new(self.take_table()?))
+        into.fill(self.take_table()?);
+        Some(())
     }
 
-    pub fn take_words(&mut self) -> Option<Store<u64>>
-        ensures { IfSome result (λ s. (t : List ℕ) × (self.old ≡ length t ∷ (t ++ self.new)) × (s ≡ stored (λ w. w) t)) }
+    pub fn take_words(&mut self, into: &mut Store<u64>) -> Option<()>
+        ensures taken { IfSome result (λ _. (t : List ℕ) × (self.old ≡ length t ∷ (t ++ self.new)) × (into.new ≡ stored (λ w. w) t)) }
+        ensures missing { IfNone result (into.new ≡ into.old) }
     {
-        Some(Store::new(self.take_table()?))
+        into.fill(self.take_table()?);
+        Some(())
     }
 
-    pub fn take_u32s(&mut self) -> Option<Store<u32>>
-        ensures { IfSome result (λ s. (t : List ℕ) × (self.old ≡ length t ∷ (t ++ self.new)) × All (λ w. w < 4294967296) t × (s ≡ stored (λ w. w % 4294967296) t)) }
+    pub fn take_u32s(&mut self, into: &mut Store<u32>) -> Option<()>
+        ensures taken { IfSome result (λ _. (t : List ℕ) × (self.old ≡ length t ∷ (t ++ self.new)) × All (λ w. w < 4294967296) t × (into.new ≡ stored (λ w. w % 4294967296) t)) }
+        ensures missing { IfNone result (into.new ≡ into.old) }
     {
-        Some(Store::new(self.take_below(4294967296)?))
+        into.fill(self.take_below(4294967296)?);
+        Some(())
     }
 
     // A byte a word.
-    pub fn take_bytes(&mut self) -> Option<Store<u8>>
-        ensures { IfSome result (λ s. (t : List ℕ) × (self.old ≡ length t ∷ (t ++ self.new)) × All (λ w. w < 256) t × (s ≡ stored (λ w. w % 256) t)) }
+    pub fn take_bytes(&mut self, into: &mut Store<u8>) -> Option<()>
+        ensures taken { IfSome result (λ _. (t : List ℕ) × (self.old ≡ length t ∷ (t ++ self.new)) × All (λ w. w < 256) t × (into.new ≡ stored (λ w. w % 256) t)) }
+        ensures missing { IfNone result (into.new ≡ into.old) }
     {
-        Some(Store::new(self.take_below(256)?))
+        into.fill(self.take_below(256)?);
+        Some(())
     }
 
     // A case has no word over.
