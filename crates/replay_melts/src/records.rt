@@ -1,5 +1,6 @@
 // The records of terms and evaluations taken out of a case's words.
-ghost use Rattle.std.specs.Prelude.{◌≡◌, ◌+◌, ◌≤◌, IfSome, length};
+ghost use Rattle.std.specs.Prelude.{◌≡◌, ◌+◌, ◌≤◌, IfSome, cond, length};
+ghost use Rattle.cell.specs.Ranged.{cell_in_range};
 ghost use Rattle.replay_words.specs.Told.{bit};
 
 use crate::masks::Parts;
@@ -90,7 +91,9 @@ fn take_angle_term(there: bool, case: &mut Case) -> Option<Option<Angle>>
 }
 
 // What a State without its cell stands for: built in the case's own cell, where that is in range.
-fn in_own(s: State, cell: Option<Lattice>) -> State {
+fn in_own(s: State, cell: Option<Lattice>) -> State
+    ensures { result ≡ cond (cell_in_range cell) (record { cutoff = s.cutoff; skin = s.skin; pairs = s.pairs; references = s.references; checks = s.checks; fallback = s.fallback; builds = s.builds; built_in = cell }) s }
+{
     if cell::ranged::cell_in_range(cell) {
         remembering(s, cell)
     } else {
